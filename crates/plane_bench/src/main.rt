@@ -1,9 +1,9 @@
-//! Times a run over all columns, and a search for a blank pixel in a full plane, on both kinds of planes.
+//! Times a run over all columns, and a search for a blank pixel in a full plane, on each kind of plane.
 #![tactic(auto)]
 
 ghost use Rattle.std.specs.Prelude.{◌<◌};
 
-use sixel_plane::{BandPlane, BytePlane, Plane};
+use sixel_plane::{BandPlane, BytePlane, Cover, CoverPlane};
 use std::time::CpuClock;
 
 /// The width and the height of the planes, in pixels.
@@ -16,7 +16,7 @@ const WHOLE_BANDS: u32 = 341;
 const ROUNDS: u32 = 100;
 
 /// Paints a whole band, if the plane has it.
-fn paint_band<P: Plane>(plane: &mut P, band: u32, register: u8)
+fn paint_band<P: Cover>(plane: &mut P, band: u32, register: u8)
     requires band { band < WHOLE_BANDS }
     requires register { register < 16 }
 {
@@ -26,13 +26,13 @@ fn paint_band<P: Plane>(plane: &mut P, band: u32, register: u8)
 }
 
 /// Paints the two rows of the last band, if the plane has them.
-fn paint_last_band<P: Plane>(plane: &mut P) {
+fn paint_last_band<P: Cover>(plane: &mut P) {
     if plane.width() >= SIDE && plane.height() >= SIDE {
         plane.paint_run(0, WHOLE_BANDS, SIDE, 3, 5);
     }
 }
 
-fn paint_bands<P: Plane>(plane: &mut P, register: u8)
+fn paint_bands<P: Cover>(plane: &mut P, register: u8)
     requires { register < 16 }
 {
     for band in 0..WHOLE_BANDS {
@@ -41,7 +41,7 @@ fn paint_bands<P: Plane>(plane: &mut P, register: u8)
 }
 
 /// The time of one run over a whole band, in nanoseconds. Each round has another register, so no round can be skipped.
-fn time_runs<P: Plane, R: CpuClock>(rt: &R, plane: &mut P) -> Result<u128, anyhow::Error> {
+fn time_runs<P: Cover, R: CpuClock>(rt: &R, plane: &mut P) -> Result<u128, anyhow::Error> {
     paint_bands(plane, 0);
     let start = rt.thread_cpu_time()?;
     for round in 0..ROUNDS {
@@ -53,7 +53,7 @@ fn time_runs<P: Plane, R: CpuClock>(rt: &R, plane: &mut P) -> Result<u128, anyho
 
 /// The time of one search in a full plane, in nanoseconds, and how many searches found nothing. Painting between two
 /// searches keeps the compiler from merging them.
-fn time_searches<P: Plane, R: CpuClock>(
+fn time_searches<P: Cover, R: CpuClock>(
     rt: &R,
     plane: &mut P,
 ) -> Result<(u128, u32), anyhow::Error> {
@@ -70,7 +70,7 @@ fn time_searches<P: Plane, R: CpuClock>(
 }
 
 /// Prints how many searches found nothing, and on standard error the times.
-fn measure<P: Plane>(rt: &HostRuntime, name: &str) -> Result<(), anyhow::Error> {
+fn measure<P: Cover>(rt: &HostRuntime, name: &str) -> Result<(), anyhow::Error> {
     let mut plane = P::blank(rt.alloc(), SIDE, SIDE)?;
     let run = time_runs(rt, &mut plane)?;
     let (search, full) = time_searches(rt, &mut plane)?;
@@ -81,5 +81,6 @@ fn measure<P: Plane>(rt: &HostRuntime, name: &str) -> Result<(), anyhow::Error> 
 
 fn main(rt: HostRuntime) -> Result<(), anyhow::Error> {
     measure::<BytePlane>(&rt, "byte plane")?;
-    measure::<BandPlane>(&rt, "band plane")
+    measure::<BandPlane>(&rt, "band plane")?;
+    measure::<CoverPlane>(&rt, "cover plane")
 }

@@ -15,7 +15,6 @@ use Rattle.sixel_grammar.specs.declared.fault.InputFault.{InputFault}
 use Rattle.sixel_grammar.specs.declared.fault.InputFault.TheVariants.{Grammar, OutOfMemory, Read}
 use Rattle.sixel_grammar.specs.declared.reader.Reader.{Reader}
 use Rattle.sixel_grammar.proofs.StandLemmas.{read_complete}
-use Rattle.sixel_judge.specs.declared.verdict.Verdict.{Verdict}
 use Rattle.sixel_judge.specs.Growth.{GrowsFor, MayGrowAmong, MayGrowIn}
 use Rattle.sixel_check.specs.Checking.{AreAfter}
 use Rattle.sixel_judge.specs.Standing.{CheckerValue, StandsAfter}
@@ -87,7 +86,7 @@ grows_run old new checker run prefix piece takes g a =
 
 -- ---- answers
 
-pub grows_if : {registers : ℕ} (r : Result Verdict InputFault) (bytes : List ℕ)
+pub grows_if : {registers : ℕ} {A : Type 0} (r : Result A InputFault) (bytes : List ℕ)
     → IfErr r (λ fault. GrowsFor registers fault bytes) → r ≡ Err OutOfMemory → MayGrowIn registers bytes
 grows_if (Ok v) bytes g e = cc
 grows_if (Err (Grammar f)) bytes g e = cc
@@ -97,7 +96,7 @@ grows_if (Err Read) bytes g e = cc
 -- the same for the bytes of a source
 pub grows_told : (registers : ℕ) (a b : Option (List ℕ)) (fault : InputFault) (xs : List ℕ) → Consumes a b xs
     → GrowsFor registers fault xs
-    → IfSome a (λ bytes. (let r : Result Verdict InputFault = Err fault in r) ≡ Err OutOfMemory
+    → IfSome a (λ bytes. (let r : Result CheckerValue InputFault = Err fault in r) ≡ Err OutOfMemory
     → MayGrowIn registers bytes)
 grows_told registers None b fault xs c g = tt
 grows_told registers (Some a) None fault xs c g = absurd c

@@ -1,7 +1,8 @@
 -- A reader and a checker over the same bytes. Of public contracts only that of `read_piece` cites these.
-use Rattle.std.specs.Prelude.{◌++◌, ◌≤◌, ℕ, List, Option, Some, IfSome, IsTrue}
+use Rattle.std.specs.Prelude.{◌++◌, ◌≤◌, ℕ, List, Option, Some, IfSome, IsTrue, Result, Ok, Err}
+use Rattle.sixel_grammar.specs.Document.{Document}
 use Rattle.std.specs.Option.{option_to_list}
-use Rattle.sixel_grammar.specs.Reading.{ExplainsAlways}
+use Rattle.sixel_grammar.specs.Reading.{Explains, ExplainsAlways}
 use Rattle.sixel_grammar.specs.Spelling.{IsSpellable}
 use Rattle.sixel_grammar.specs.Standing as grammar
 use Rattle.sixel_grammar.specs.declared.command.Columns.{Columns}
@@ -14,7 +15,7 @@ use Rattle.sixel_grammar.specs.declared.command.TwoCommands.{TwoCommands}
 use Rattle.sixel_grammar.specs.declared.fault.InputFault.{InputFault}
 use Rattle.sixel_grammar.specs.declared.reader.Reader.{Reader}
 use Rattle.sixel_judge.specs.Growth.{GrowsFor, MayGrowAmong}
-use Rattle.sixel_judge.specs.Standing.{CheckerValue, StandsAfter, expects}
+use Rattle.sixel_judge.specs.Standing.{CheckerValue, StandsAfter, expects, is_whole}
 
 -- the reader has read these bytes, and the checker has seen the events that are complete in them
 pub record AreAfter (registers : ℕ) (reader : Reader) (checker : CheckerValue) (bytes : List ℕ) : Type 0 where
@@ -72,3 +73,13 @@ abbrev pub GrowsForBytes : Reader → CheckerValue → List ℕ → InputFault �
 GrowsForBytes reader checker more fault =
     (registers : ℕ) (prefix : List ℕ) → AreAfter registers reader checker prefix
     → GrowsFor registers fault (prefix ++ more)
+
+-- Ok: the bytes are a document, and the checker has seen its events; Err: a grammar fault is the fault of these bytes
+abbrev pub HasSeen : ℕ → Result CheckerValue InputFault → List ℕ → Type 0
+HasSeen registers (Ok checker) bytes =
+    (events : List Placed) × Document events bytes × StandsAfter registers checker events
+HasSeen registers (Err fault) bytes = Explains fault bytes
+
+-- the checker has seen a whole list of events
+abbrev pub IsWhole : CheckerValue → Type 0
+IsWhole checker = (registers : ℕ) × (seen : List Placed) × StandsAfter registers checker seen × IsTrue (is_whole seen)

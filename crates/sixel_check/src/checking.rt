@@ -7,20 +7,20 @@ ghost use Rattle.sixel_grammar.specs.Reading.{NoFaultBefore, failures_after};
 ghost use Rattle.sixel_grammar.specs.declared.fault.InputFault.TheVariants.{Read as ReadFault};
 ghost use Rattle.sixel_model.specs.Profiles.{count_of};
 ghost use Rattle.sixel_judge.specs.Growth.{MayGrowIn};
-ghost use Rattle.sixel_check.specs.Answers.{Answers};
-ghost use Rattle.sixel_check.specs.Checking.{AreAfter, GrowsForBytes, RefusesBytes, TakesBytes};
+ghost use Rattle.sixel_check.specs.Answers.{Answers, AnswersOutcome};
+ghost use Rattle.sixel_check.specs.Checking.{AreAfter, GrowsForBytes, HasSeen, IsWhole, RefusesBytes, TakesBytes};
 
 use crate::pushing::{keep, keep_command, keep_run, keep_two, push_rarely};
 use sixel_grammar::{InputFault, Plain, Reader};
 use sixel_io::{PIECE, Source};
-use sixel_judge::{Checker, Verdict};
+use sixel_judge::{Checker, Outcome, Verdict};
 use sixel_model::Profile;
-use sixel_plane::{BandPlane, Plane};
+use sixel_plane::{BandPlane, Cover, CoverPlane, Plane};
 use std::alloc::Global;
 
 /// Reads one byte, and pushes the events that it completes. It is for bytes below `?`.
 #[inline(always)]
-fn read_sign<P: Plane>(
+fn read_sign<P: Cover>(
     reader: &mut Reader,
     checker: &mut Checker<P>,
     byte: u8,
@@ -39,7 +39,7 @@ fn read_sign<P: Plane>(
 
 /// Reads one byte, and pushes the events that it completes. It is for data bytes that begin no run.
 #[inline(always)]
-fn read_data<P: Plane>(
+fn read_data<P: Cover>(
     reader: &mut Reader,
     checker: &mut Checker<P>,
     byte: u8,
@@ -58,7 +58,7 @@ fn read_data<P: Plane>(
 
 /// Reads one byte of any kind, and pushes the events that it completes.
 #[inline(never)]
-fn feed_and_keep<P: Plane>(
+fn feed_and_keep<P: Cover>(
     reader: &mut Reader,
     checker: &mut Checker<P>,
     byte: u8,
@@ -74,7 +74,7 @@ fn feed_and_keep<P: Plane>(
 
 /// As `feed_and_keep`. A byte that completes two commands has no whole events here.
 #[inline(never)]
-fn read_rarely<P: Plane>(
+fn read_rarely<P: Cover>(
     reader: &mut Reader,
     checker: &mut Checker<P>,
     byte: u8,
@@ -92,7 +92,7 @@ fn read_rarely<P: Plane>(
 
 /// As `read_rarely`. The result has a local of its own here, so that the fast paths write no memory for it.
 #[inline(always)]
-fn read_otherwise<P: Plane>(
+fn read_otherwise<P: Cover>(
     reader: &mut Reader,
     checker: &mut Checker<P>,
     byte: u8,
@@ -107,7 +107,7 @@ fn read_otherwise<P: Plane>(
 
 /// Reads the run at the beginning of `bytes`, if there is one, and pushes its events. Returns how many bytes it has.
 #[inline(always)]
-fn try_read_run<P: Plane>(
+fn try_read_run<P: Cover>(
     reader: &mut Reader,
     checker: &mut Checker<P>,
     bytes: &[u8],
@@ -133,7 +133,7 @@ fn try_read_run<P: Plane>(
 /// As `try_read_run`. Each arm has its own copy of it, in which the compiler knows what the first byte begins: with one
 /// copy for all, a check of a photo in 256 colours takes a quarter more instructions.
 #[inline(always)]
-fn read_run<P: Plane>(
+fn read_run<P: Cover>(
     reader: &mut Reader,
     checker: &mut Checker<P>,
     bytes: &[u8],
@@ -158,7 +158,7 @@ fn read_run<P: Plane>(
 
 /// Reads the first byte of `bytes`, one that begins no run, and pushes the events that it completes. Returns 1.
 #[inline(always)]
-fn read_first<P: Plane>(
+fn read_first<P: Cover>(
     reader: &mut Reader,
     checker: &mut Checker<P>,
     bytes: &[u8],
@@ -183,7 +183,7 @@ fn read_first<P: Plane>(
 
 /// Reads at least one byte at the beginning of `bytes`, and pushes the events that these complete. Returns how many.
 #[inline(always)]
-fn read_some<P: Plane>(
+fn read_some<P: Cover>(
     reader: &mut Reader,
     checker: &mut Checker<P>,
     bytes: &[u8],
@@ -206,7 +206,7 @@ fn read_some<P: Plane>(
 /// Reads the bytes of a piece, and pushes the events that they complete. `Grammar`: the fault of the bytes read so far,
 /// whatever follows; the reader and the checker are of no use then. `OutOfMemory`: an allocation for the pixels failed.
 /// Never `Read`.
-pub fn read_piece<P: Plane>(
+pub fn read_piece<P: Cover>(
     reader: &mut Reader,
     checker: &mut Checker<P>,
     piece: &[u8],
@@ -224,10 +224,23 @@ pub fn read_piece<P: Plane>(
 }
 
 /// A reader and a checker before any byte.
-fn nothing_read(alloc: Global, profile: Profile) -> (Reader, Checker<BandPlane>)
+fn nothing_read<P: Cover>(alloc: Global, profile: Profile) -> (Reader, Checker<P>)
     ensures { AreAfter (count_of profile) result.0 result.1 [] }
 {
     (Reader::new(), Checker::new(alloc, profile))
+}
+
+/// The checker at the end of the bytes, if they are a document.
+fn end_of<P: Cover>(reader: &Reader, checker: Checker<P>) -> Result<Checker<P>, InputFault>
+    requires { (registers : ℕ) × (prefix : List ℕ) × AreAfter registers reader.now checker prefix }
+    ensures seen { (registers : ℕ) (prefix : List ℕ) → AreAfter registers reader.now checker prefix
+        → HasSeen registers result prefix }
+    ensures whole { IfOk result IsWhole }
+    ensures never_read { result ≢ Err InputFault.Read }
+    ensures memory { result ≢ Err InputFault.OutOfMemory }
+{
+    reader.finish()?;
+    Ok(checker)
 }
 
 /// The answer at the end of the bytes.
@@ -238,8 +251,35 @@ fn conclude<P: Plane>(reader: &Reader, checker: Checker<P>) -> Result<Verdict, I
     ensures never_read { result ≢ Err InputFault.Read }
     ensures memory { result ≢ Err InputFault.OutOfMemory }
 {
-    reader.finish()?;
+    let checker = end_of(reader, checker)?;
     Ok(checker.finish()?)
+}
+
+/// Reads a source to its end. Returns a checker that has seen the events of the document.
+#[inline(always)]
+fn read_document<S: Source, P: Cover>(
+    alloc: Global,
+    profile: Profile,
+    input: &mut S,
+    piece: &mut [u8; PIECE],
+) -> Result<Checker<P>, InputFault>
+    ensures seen { IfSome (S.state input.old).remaining (HasSeen (count_of profile) result) }
+    ensures whole { IfOk result IsWhole }
+    ensures failures { (S.state input.new).failures ≡ failures_after result (S.state input.old).failures }
+    ensures unread { result ≡ Err ReadFault →
+        IfSome (S.state input.old).remaining (NoFaultBefore (S.state input.new).remaining) }
+    ensures left { ReadsToEnd result (S.state input.old).remaining (S.state input.new).remaining }
+    ensures memory { IfSome (S.state input.old).remaining (λ bytes. result ≡ Err InputFault.OutOfMemory
+        → MayGrowIn (count_of profile) bytes) }
+{
+    let (mut reader, mut checker) = nothing_read(alloc, profile);
+    loop {
+        let count = input.fill(piece)?;
+        if count == 0 {
+            return end_of(&reader, checker);
+        }
+        read_piece(&mut reader, &mut checker, &piece[..count])?;
+    }
 }
 
 /// Checks the document that the source gives, with the registers of the profile. A picture of the verdict is of that
@@ -285,14 +325,48 @@ pub fn check_with<S: Source>(
     ensures memory { IfSome (S.state input.old).remaining (λ bytes. result ≡ Err InputFault.OutOfMemory
         → MayGrowIn (count_of profile) bytes) }
 {
-    let (mut reader, mut checker) = nothing_read(alloc, profile);
-    loop {
-        let count = input.fill(piece)?;
-        if count == 0 {
-            return conclude(&reader, checker);
-        }
-        read_piece(&mut reader, &mut checker, &piece[..count])?;
-    }
+    let checker: Checker<BandPlane> = read_document(alloc, profile, input, piece)?;
+    Ok(checker.finish()?)
+}
+
+/// As `check`, without the picture: its size, or the first broken rule. What is painted of the box takes a seventh of
+/// the memory.
+///
+/// It isn't inlined, or its room would be on the stack of every task.
+#[inline(never)]
+pub fn outcome<S: Source>(
+    alloc: Global,
+    profile: Profile,
+    input: &mut S,
+) -> Result<Outcome, InputFault>
+    ensures answer { IfSome (S.state input.old).remaining (AnswersOutcome (count_of profile) result) }
+    ensures failures { (S.state input.new).failures ≡ failures_after result (S.state input.old).failures }
+    ensures unread { result ≡ Err ReadFault →
+        IfSome (S.state input.old).remaining (NoFaultBefore (S.state input.new).remaining) }
+    ensures left { ReadsToEnd result (S.state input.old).remaining (S.state input.new).remaining }
+    ensures memory { IfSome (S.state input.old).remaining (λ bytes. result ≡ Err InputFault.OutOfMemory
+        → MayGrowIn (count_of profile) bytes) }
+{
+    outcome_with(alloc, profile, input, &mut [0u8; PIECE])
+}
+
+/// As `outcome`, with the caller's room for the bytes that are read at once.
+pub fn outcome_with<S: Source>(
+    alloc: Global,
+    profile: Profile,
+    input: &mut S,
+    piece: &mut [u8; PIECE],
+) -> Result<Outcome, InputFault>
+    ensures answer { IfSome (S.state input.old).remaining (AnswersOutcome (count_of profile) result) }
+    ensures failures { (S.state input.new).failures ≡ failures_after result (S.state input.old).failures }
+    ensures unread { result ≡ Err ReadFault →
+        IfSome (S.state input.old).remaining (NoFaultBefore (S.state input.new).remaining) }
+    ensures left { ReadsToEnd result (S.state input.old).remaining (S.state input.new).remaining }
+    ensures memory { IfSome (S.state input.old).remaining (λ bytes. result ≡ Err InputFault.OutOfMemory
+        → MayGrowIn (count_of profile) bytes) }
+{
+    let checker: Checker<CoverPlane> = read_document(alloc, profile, input, piece)?;
+    Ok(checker.outcome())
 }
 
 /// Checks the bytes of a document, as `check` does. `Grammar`: the bytes are no document. `OutOfMemory`: an allocation
@@ -302,7 +376,7 @@ pub fn check_bytes(alloc: Global, profile: Profile, bytes: &[u8]) -> Result<Verd
     ensures never_read { IfErr result (λ fault. fault ≡ InputFault.Read → ⊥) }
     ensures memory { result ≡ Err InputFault.OutOfMemory → MayGrowIn (count_of profile) bytes.now }
 {
-    let (mut reader, mut checker) = nothing_read(alloc, profile);
+    let (mut reader, mut checker): (Reader, Checker<BandPlane>) = nothing_read(alloc, profile);
     read_piece(&mut reader, &mut checker, bytes)?;
     conclude(&reader, checker)
 }

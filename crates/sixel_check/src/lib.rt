@@ -6,6 +6,6 @@ mod checking;
 pub mod laws;
 mod pushing;
 
-pub use checking::{check, check_bytes, check_with, read_piece};
-pub use sixel_judge::{Checker, Finding, Rule, Verdict};
+pub use checking::{check, check_bytes, check_with, outcome, outcome_with, read_piece};
+pub use sixel_judge::{Checker, Finding, Outcome, Rule, Verdict};
 pub use sixel_survey::{Entry, RULE_COUNT, Survey, survey};

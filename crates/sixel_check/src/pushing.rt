@@ -18,11 +18,11 @@ ghost use Rattle.sixel_judge.specs.Standing.{StandsAfter};
 
 use sixel_grammar::{Columns, Command, Completed, Event, Placed, Run, TwoCommands};
 use sixel_judge::Checker;
-use sixel_plane::{LANES, Plane};
+use sixel_plane::{Cover, LANES};
 use std::alloc::AllocError;
 
 /// Pushes an event, if there is one.
-fn keep_one<P: Plane>(checker: &mut Checker<P>, placed: Option<Placed>) -> Result<(), AllocError>
+fn keep_one<P: Cover>(checker: &mut Checker<P>, placed: Option<Placed>) -> Result<(), AllocError>
     requires { (registers : ℕ) × (seen : List PlacedValue) × StandsAfter registers checker.old seen
         × MayCome seen placed }
     ensures kept { OnOk result (TakesEvents checker.old checker.new (option_to_list placed)) }
@@ -38,7 +38,7 @@ fn keep_one<P: Plane>(checker: &mut Checker<P>, placed: Option<Placed>) -> Resul
 }
 
 /// Pushes the events that a byte completed.
-pub(crate) fn keep<P: Plane>(
+pub(crate) fn keep<P: Cover>(
     checker: &mut Checker<P>,
     completed: Completed,
 ) -> Result<(), AllocError>
@@ -54,7 +54,7 @@ pub(crate) fn keep<P: Plane>(
 
 /// Pushes a command. It is inlined, so that a caller that knows the kind keeps only the code for that kind.
 #[inline(always)]
-fn push_command<P: Plane>(
+fn push_command<P: Cover>(
     checker: &mut Checker<P>,
     place: u64,
     command: Command,
@@ -73,7 +73,7 @@ fn push_command<P: Plane>(
 /// Each arm keeps only the code for its kinds of command. Where the call isn't inlined, it gets a copy, so that the
 /// command itself stays in registers.
 #[inline(always)]
-pub(crate) fn keep_command<P: Plane>(
+pub(crate) fn keep_command<P: Cover>(
     checker: &mut Checker<P>,
     place: u64,
     command: Command,
@@ -93,7 +93,7 @@ pub(crate) fn keep_command<P: Plane>(
 
 /// Pushes a command of any kind.
 #[inline(never)]
-pub(crate) fn push_rarely<P: Plane>(
+pub(crate) fn push_rarely<P: Cover>(
     checker: &mut Checker<P>,
     place: u64,
     command: Command,
@@ -107,7 +107,7 @@ pub(crate) fn push_rarely<P: Plane>(
 }
 
 /// Pushes two commands that a byte completed.
-pub(crate) fn keep_two<P: Plane>(
+pub(crate) fn keep_two<P: Cover>(
     checker: &mut Checker<P>,
     two: TwoCommands,
 ) -> Result<(), AllocError>
@@ -123,7 +123,7 @@ pub(crate) fn keep_two<P: Plane>(
 /// Pushes the first `count` bytes of `bytes`, all of them data, as sixels; the first has the offset `place`. It
 /// allocates nothing, and is always `Ok`.
 #[inline(always)]
-fn push_stretch<P: Plane>(
+fn push_stretch<P: Cover>(
     checker: &mut Checker<P>,
     place: u64,
     bytes: &[u8],
@@ -147,7 +147,7 @@ fn push_stretch<P: Plane>(
 /// As `push_stretch`, with the first sixel by itself: the others can be taken in one step only after a command painted
 /// in their register.
 #[inline(never)]
-fn push_after_first<P: Plane>(
+fn push_after_first<P: Cover>(
     checker: &mut Checker<P>,
     place: u64,
     bytes: &[u8],
@@ -173,7 +173,7 @@ fn push_after_first<P: Plane>(
 /// As `push_stretch`. Where too few bytes follow for a plane, as at the end of a piece, all but its last `LANES`
 /// sixels may be taken in one step, with these behind them.
 #[inline(never)]
-fn push_at_end<P: Plane>(
+fn push_at_end<P: Cover>(
     checker: &mut Checker<P>,
     place: u64,
     stretch: &[u8],
@@ -198,7 +198,7 @@ fn push_at_end<P: Plane>(
 
 /// As `push_stretch`, sixel by sixel.
 #[inline(never)]
-fn push_each<P: Plane>(
+fn push_each<P: Cover>(
     checker: &mut Checker<P>,
     place: u64,
     stretch: &[u8],
@@ -222,7 +222,7 @@ fn push_each<P: Plane>(
 /// Pushes columns whose first byte has the offset `place`: the first `count` of the bytes. `keep_run` hands on only
 /// runs with columns.
 #[inline(always)]
-fn keep_columns<P: Plane>(
+fn keep_columns<P: Cover>(
     checker: &mut Checker<P>,
     place: u64,
     columns: Columns,
@@ -251,7 +251,7 @@ fn keep_columns<P: Plane>(
 
 /// Pushes a select, if there is one.
 #[inline(always)]
-fn keep_select<P: Plane>(
+fn keep_select<P: Cover>(
     checker: &mut Checker<P>,
     place: u64,
     select: Option<u16>,
@@ -269,7 +269,7 @@ fn keep_select<P: Plane>(
 
 /// Pushes the select and the columns at the beginning of the bytes.
 #[inline(always)]
-fn push_run<P: Plane>(checker: &mut Checker<P>, run: Run, bytes: &[u8]) -> Result<(), AllocError>
+fn push_run<P: Cover>(checker: &mut Checker<P>, run: Run, bytes: &[u8]) -> Result<(), AllocError>
     requires stands { (registers : ℕ) × (seen : List PlacedValue) × StandsAfter registers checker.old seen
         × MayStep seen }
     requires sixels { run.columns ≡ single_sixels → (k : ℕ) → run.start ≤ k → k < run.length
@@ -294,7 +294,7 @@ fn push_run<P: Plane>(checker: &mut Checker<P>, run: Run, bytes: &[u8]) -> Resul
 
 /// Pushes the run at the beginning of the bytes, if it has columns.
 #[inline(always)]
-pub(crate) fn keep_run<P: Plane>(
+pub(crate) fn keep_run<P: Cover>(
     checker: &mut Checker<P>,
     run: Run,
     bytes: &[u8],

@@ -1,6 +1,6 @@
 //! What the tests share: documents with `E` for ESC, answers as text, and the pictures of documents.
 
-use sixel_check::{Finding, Verdict, check, check_bytes};
+use sixel_check::{Finding, Outcome, Verdict, check, check_bytes, outcome};
 use sixel_grammar::{Fault, InputFault, Placed, read_all};
 use sixel_io::SliceSource;
 use sixel_model::{Parts, Picture, Profile};
@@ -40,8 +40,7 @@ pub(crate) fn events_of(alloc: Global, bytes: &[u8]) -> Result<Vec<Placed>, Inpu
     read_all(alloc, &mut SliceSource::new(bytes, 64, None))
 }
 
-fn picture_in_words(rt: &impl AllocGlobal, picture: &Picture) -> Result<String, AllocError> {
-    let (width, height) = (picture.width(), picture.height());
+fn size_in_words(rt: &impl AllocGlobal, width: u32, height: u32) -> Result<String, AllocError> {
     format!(in rt.alloc(); "portable {width} {height}")
 }
 
@@ -69,8 +68,20 @@ pub(crate) fn in_words(
     answer: &Result<Verdict, InputFault>,
 ) -> Result<String, Fail> {
     Ok(match answer {
-        Ok(Verdict::Portable(picture)) => picture_in_words(rt, picture)?,
+        Ok(Verdict::Portable(picture)) => size_in_words(rt, picture.width(), picture.height())?,
         Ok(Verdict::Broken(finding)) => finding_in_words(rt, finding)?,
+        Err(fault) => fault_in_words(rt, fault)?,
+    })
+}
+
+/// An answer without the picture, as text.
+fn outcome_in_words(
+    rt: &impl AllocGlobal,
+    answer: &Result<Outcome, InputFault>,
+) -> Result<String, Fail> {
+    Ok(match answer {
+        Ok(Outcome::Portable { width, height }) => size_in_words(rt, *width, *height)?,
+        Ok(Outcome::Broken(finding)) => finding_in_words(rt, finding)?,
         Err(fault) => fault_in_words(rt, fault)?,
     })
 }
@@ -99,7 +110,7 @@ pub(crate) fn agree(rt: &(impl AllocGlobal + Abort), rows: &[(&str, &str)]) -> R
     Ok(())
 }
 
-/// Whether the answer by the profile on the bytes in pieces of a size is so.
+/// Whether the answer by the profile on the bytes in pieces of a size is so, and that without the picture too.
 pub(crate) fn agrees_in(
     rt: &impl AllocGlobal,
     profile: Profile,
@@ -108,7 +119,10 @@ pub(crate) fn agrees_in(
     expected: &str,
 ) -> Result<bool, Fail> {
     let mut source = SliceSource::new(bytes, piece.max(1), None);
-    is_said(rt, &check(rt.alloc(), profile, &mut source), expected)
+    let answer = check(rt.alloc(), profile, &mut source);
+    let mut again = SliceSource::new(bytes, piece.max(1), None);
+    let brief = outcome(rt.alloc(), profile, &mut again);
+    Ok(is_said(rt, &answer, expected)? && outcome_in_words(rt, &brief)?.as_str() == expected)
 }
 
 /// The picture of a document that is portable for the profile.

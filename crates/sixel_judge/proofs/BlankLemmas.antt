@@ -164,7 +164,7 @@ first_blank_covered s before d = of_place (position_from is_none 0 s.cells) refl
         (i % s.width, i / s.width, found.2, ap₂ (λ (x y : ℕ). Some (x, y)) x_is y_is)
 
 -- the same for a grid that is drawn
-pub first_blank_drawn : (s : Grid) (before : List Event) → IsDrawn s before
+pub first_blank_drawn : {kept : ℕ → ℕ} (s : Grid) (before : List Event) → IsDrawn kept s before
     → IsFirstIfAny (StaysBlank before (box_of s)) (first_blank s)
 first_blank_drawn s before d =
     first_blank_covered s before
@@ -172,34 +172,41 @@ first_blank_drawn s before d =
 
 -- ---- the registers of a grid without a blank pixel
 
-pub length_drawn : (s : Grid) (before : List Event) (xs : List ℕ) → IsDrawn s before → map (λ r. Some r) xs ≡ s.cells
-    → length xs ≡ s.width * s.height
+pub length_drawn : {kept : ℕ → ℕ} (s : Grid) (before : List Event) (xs : List ℕ) → IsDrawn kept s before
+    → map (λ r. Some r) xs ≡ s.cells → length xs ≡ s.width * s.height
 length_drawn s before xs d e = sym (length-map xs (λ r. Some r)) ∙ ap length e ∙ d.pixels
 
--- each of these is the register that painted its pixel last
-pub register_there : (s : Grid) (before : List Event) (xs : List ℕ) (i : ℕ) → IsDrawn s before
-    → map (λ r. Some r) xs ≡ s.cells → i < length xs
+all_kept : (kept : ℕ → ℕ) → ((r : ℕ) → kept r ≡ r) → (o : Option ℕ) → option_map kept o ≡ o
+all_kept kept keeps None = refl
+all_kept kept keeps (Some r) = ap (λ n. Some n) (keeps r)
+
+-- if all registers are kept, each of these is the register that painted its pixel last
+pub register_there : {kept : ℕ → ℕ} (s : Grid) (before : List Event) (xs : List ℕ) (i : ℕ)
+    → ((r : ℕ) → kept r ≡ r) → IsDrawn kept s before → map (λ r. Some r) xs ≡ s.cells → i < length xs
     → register_at before (i % s.width) (i / s.width) ≡ Some (get_or xs i 0)
-register_there s before xs i d e lt =
+register_there {kept} s before xs i keeps d e lt =
     let within : i < s.width * s.height = omega (arith, length_drawn s before xs d e) in
     let at = placed s.width s.height i within in
-    sym (d.registers (i % s.width) (i / s.width) at.0 at.1)
+    sym (all_kept kept keeps (register_at before (i % s.width) (i / s.width)))
+    ∙ sym (d.registers (i % s.width) (i / s.width) at.0 at.1)
     ∙ cell_at s (i % s.width) (i / s.width) (omega (arith, at.2, d.pixels))
     ∙ ap (λ (n : ℕ). get_or s.cells n None) at.2
     ∙ ap (λ (l : List (Option ℕ)). get_or l i None) (sym e)
     ∙ get_or-map (λ r. Some r) xs i 0 None lt
 
-registers_drawn : (s : Grid) (before : List Event) (xs : List ℕ) → IsDrawn s before → map (λ r. Some r) xs ≡ s.cells
+registers_drawn : {kept : ℕ → ℕ} (s : Grid) (before : List Event) (xs : List ℕ) → ((r : ℕ) → kept r ≡ r)
+    → IsDrawn kept s before → map (λ r. Some r) xs ≡ s.cells
     → xs ≡ row_by_row s.width s.height (λ x y. unwrap_or (register_at before x y) 0)
-registers_drawn s before xs d e =
+registers_drawn s before xs keeps d e =
     rows_from_index s.width s.height (λ x y. unwrap_or (register_at before x y) 0) xs 0 (length_drawn s before xs d e)
     (λ i lt.
     ap (λ (o : Option ℕ). unwrap_or o 0)
-    (sym (register_there s before xs i d e (omega (arith, length_drawn s before xs d e)))))
+    (sym (register_there s before xs i keeps d e (omega (arith, length_drawn s before xs d e)))))
 
 -- the picture that the events leave has the size of the grid and these registers
-pub picture_drawn : (registers : ℕ) (s : Grid) (before : List Event) (xs : List ℕ) → IsDrawn s before
+pub picture_drawn : {kept : ℕ → ℕ} (registers : ℕ) (s : Grid) (before : List Event) (xs : List ℕ)
+    → ((r : ℕ) → kept r ≡ r) → IsDrawn kept s before
     → map Some xs ≡ s.cells
     → picture_left registers before ≡ picture_of_parts s.width s.height (palette_left registers before) xs
 unfolding picture_left
-picture_drawn registers s before xs d e = rw (d.box, registers_drawn s before xs d e) refl
+picture_drawn registers s before xs keeps d e = rw (d.box, registers_drawn s before xs keeps d e) refl

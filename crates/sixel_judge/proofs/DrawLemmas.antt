@@ -45,15 +45,15 @@ few_bits (Step (Repeat count bits)) h = h
 few_bits _ h = omega arith
 
 -- no point of the event's run lies outside the box of the grid
-inside_alone : (s : Grid) (before : List Event) (e : Event) → IsDrawn s before → ¬ BreaksOutside before e
+inside_alone : {kept : ℕ → ℕ} (s : Grid) (before : List Event) (e : Event) → IsDrawn kept s before → ¬ BreaksOutside before e
     → (x y : ℕ) → PaintsOutside (column 0 before) (columns_of 0 e) (band before) (bits_of e) s.width s.height x y → ⊥
 unfolding BreaksOutside falls touches
 inside_alone s before e d none x y p =
     none (rw d.box (x, y, record { painted = p.painted; outside = p.outside }))
 
 -- the plane can paint the run
-pub run_fits_in : {registers : ℕ} (n : DrawingState) (s : Grid) (before : List Event) (e : Event)
-    → IsStateAfter registers n before → IsDrawn s before → BreaksNoRule registers before e → IsSpellable e
+pub run_fits_in : {registers : ℕ} {kept : ℕ → ℕ} (n : DrawingState) (s : Grid) (before : List Event) (e : Event)
+    → IsStateAfter registers n before → IsDrawn kept s before → BreaksNoRule registers before e → IsSpellable e
     → is_painting e ≡ true → RunFits n.column n.band (columns_of 0 e) (bits_of e) s.width s.height
 run_fits_in n s before e a d none spellable paints =
     let k = keeps before e none in
@@ -69,17 +69,17 @@ run_fits_in n s before e a d none spellable paints =
     rw (column_same, band_same) real
 
 -- the grid after a painting command
-pub drawn_paint : {registers : ℕ} (n : DrawingState) (s : Grid) (before : List Event) (e : Event) (r : ℕ)
-    → IsStateAfter registers n before → IsDrawn s before → BreaksNoRule registers before e → IsSpellable e
+pub drawn_paint : {registers : ℕ} {kept : ℕ → ℕ} (n : DrawingState) (s : Grid) (before : List Event) (e : Event) (r : ℕ)
+    → IsStateAfter registers n before → IsDrawn kept s before → BreaksNoRule registers before e → IsSpellable e
     → is_painting e ≡ true → known_in n ≡ Some r
-    → IsDrawn (painted_grid s n.column n.band (columns_of 0 e) (bits_of e) r) (before ++ e ∷ [])
+    → IsDrawn kept (painted_grid s n.column n.band (columns_of 0 e) (bits_of e) (kept r)) (before ++ e ∷ [])
 drawn_paint n s before e r a d none spellable paints is =
     drawn_capped s before e r n.column n.band (sym (known_is n before a) ∙ is) a.column_is a.band_is
     (run_fits_in n s before e a d none spellable paints) d
 
 -- the grid after an event that doesn't paint
-pub drawn_still : (s : Grid) (before : List Event) (e : Event) → is_painting e ≡ false → IsDrawn s before
-    → IsDrawn s (before ++ e ∷ [])
+pub drawn_still : {kept : ℕ → ℕ} (s : Grid) (before : List Event) (e : Event) → is_painting e ≡ false → IsDrawn kept s before
+    → IsDrawn kept s (before ++ e ∷ [])
 drawn_still s before e still d = drawn_idle s before e (eqb-true _ _ (not-false _ still)) d
 
 -- at a painting command a register is known
@@ -139,8 +139,8 @@ pub sides_good : (registers : ℕ) (before : List Event) (e : Event) (w h : ℕ)
 sides_good registers before e w h none is = let good = good_raster _ before e w h none is in (good.1, good.2)
 
 -- the first box
-pub drawn_box : (registers : ℕ) (before : List Event) (e : Event) (w h : ℕ) → BreaksNoRule registers before e
-    → sides (raster_of e) ≡ Some (w, h) → IsUndrawn before → IsDrawn (blank_grid w h) (before ++ e ∷ [])
+pub drawn_box : {kept : ℕ → ℕ} (registers : ℕ) (before : List Event) (e : Event) (w h : ℕ) → BreaksNoRule registers before e
+    → sides (raster_of e) ≡ Some (w, h) → IsUndrawn before → IsDrawn kept (blank_grid w h) (before ++ e ∷ [])
 drawn_box registers before e w h none is u =
     let good = good_raster _ before e w h none is in drawn_first before e w h good.0 good.1 good.2 u
 

@@ -2,7 +2,7 @@
 use Rattle.std.proofs.Common.{◌≡◌, ℕ, ◌%◌, ◌<◌, Bool, true, false, ◌||◌, Option, Some, None, List, [], ◌∷◌, ◌++◌, refl}
 use Rattle.std.proofs.Common.{sym, ap, ap₂, ◌∙◌}
 use Rattle.std.specs.Prelude.{IsTrue, is_some, if◌then◌else◌}
-use Rattle.std.specs.Option.{option_or}
+use Rattle.std.specs.Option.{option_map, option_or}
 use Rattle.sixel_grammar.specs.declared.command.Event.{Event}
 use Rattle.sixel_grammar.specs.declared.command.Event.TheVariants.{Step}
 use Rattle.sixel_grammar.specs.declared.command.Command.TheVariants.{Sixel, Repeat}
@@ -51,11 +51,11 @@ undrawn_push before e none no_data u =
 -- ---- from the box on
 
 -- after the first raster attributes
-pub drawn_first : (before : List Event) (e : Event) (w h : ℕ)
+pub drawn_first : {kept : ℕ → ℕ} (before : List Event) (e : Event) (w h : ℕ)
     → raster_of e ≡ Some (record { pan = 1; pad = 1; width = w; height = h }) → IsTrue (is_side w) → IsTrue (is_side h)
-    → IsUndrawn before → IsDrawn (blank_grid w h) (before ++ e ∷ [])
+    → IsUndrawn before → IsDrawn kept (blank_grid w h) (before ++ e ∷ [])
 unfolding blank_grid
-drawn_first before e w h is width height u =
+drawn_first {kept} before e w h is width height u =
     let idle : bits_of e % 64 ≡ 0 = ap (λ (n : ℕ). n % 64) (raster_bits e _ is) in
     let bare : (x y : ℕ) → x < w → y < h → cell (blank_grid w h) x y ≡ None = cell-blank_grid w h in
     record {
@@ -63,7 +63,8 @@ drawn_first before e w h is width height u =
       width = width;
       height = height;
       pixels = length_rows w h _;
-      registers = λ x y p q. bare x y p q ∙ sym (idle_register before e x y idle ∙ u.no_register x y);
+      registers = λ x y p q.
+          bare x y p q ∙ sym (ap (option_map kept) (idle_register before e x y idle ∙ u.no_register x y));
       covered = λ x y p q. ap is_some (bare x y p q) ∙ sym (idle_covered before e x y idle ∙ u.uncovered x y);
     }
 
@@ -73,53 +74,67 @@ box_stays : (before : List Event) (e : Event) (a : Attributes) → raster_before
 box_stays before e a is = raster_push before e ∙ ap (λ (o : Option Attributes). option_or o (raster_of e)) is
 
 -- an event without a set bit of the six leaves the grid unchanged
-pub drawn_idle : (s : Grid) (before : List Event) (e : Event) → bits_of e % 64 ≡ 0 → IsDrawn s before
-    → IsDrawn s (before ++ e ∷ [])
-drawn_idle s before e idle d = record {
+pub drawn_idle : {kept : ℕ → ℕ} (s : Grid) (before : List Event) (e : Event) → bits_of e % 64 ≡ 0 → IsDrawn kept s before
+    → IsDrawn kept s (before ++ e ∷ [])
+drawn_idle {kept} s before e idle d = record {
   box = box_stays before e _ d.box;
   width = d.width;
   height = d.height;
   pixels = d.pixels;
-  registers = λ x y p q. d.registers x y p q ∙ sym (idle_register before e x y idle);
+  registers = λ x y p q. d.registers x y p q ∙ sym (ap (option_map kept) (idle_register before e x y idle));
   covered = λ x y p q. d.covered x y p q ∙ sym (idle_covered before e x y idle);
 }
 
--- the pixel after a command that paints in register r
-painted_register : (s : Grid) (before : List Event) (e : Event) (r x y : ℕ) → known before ≡ Some r → IsDrawn s before
+kept_either : (kept : ℕ → ℕ) (b : Bool) (o m : Option ℕ)
+    → (if b then option_map kept o else option_map kept m) ≡ option_map kept (if b then o else m)
+kept_either kept true o m = refl
+kept_either kept false o m = refl
+
+some_kept : (kept : ℕ → ℕ) (o : Option ℕ) → is_some (option_map kept o) ≡ is_some o
+some_kept kept None = refl
+some_kept kept (Some r) = refl
+
+-- what is kept of the pixel's register after a command that paints in register r
+painted_register : {kept : ℕ → ℕ} (s : Grid) (before : List Event) (e : Event) (r x y : ℕ) → known before ≡ Some r → IsDrawn kept s before
     → x < s.width → y < s.height
-    → cell (painted_grid s (column 0 before) (band before) (columns_of 0 e) (bits_of e) r) x y
-    ≡ register_at (before ++ e ∷ []) x y
+    → cell (painted_grid s (column 0 before) (band before) (columns_of 0 e) (bits_of e) (kept r)) x y
+    ≡ option_map kept (register_at (before ++ e ∷ []) x y)
 unfolding falls touches
-painted_register s before e r x y is d p q =
-    cell-painted_grid s (column 0 before) (band before) (columns_of 0 e) (bits_of e) r x y p q
+painted_register {kept} s before e r x y is d p q =
+    cell-painted_grid s (column 0 before) (band before) (columns_of 0 e) (bits_of e) (kept r) x y p q
     ∙ ap₂ (λ (o m : Option ℕ).
     if covers (column 0 before) (columns_of 0 e) (band before) 1 (bits_of e) x y then o else m)
-    (sym is) (d.registers x y p q)
-    ∙ sym (register_push before e x y)
+    (ap (option_map kept) (sym is)) (d.registers x y p q)
+    ∙ kept_either kept (covers (column 0 before) (columns_of 0 e) (band before) 1 (bits_of e) x y) (known before)
+    (register_at before x y)
+    ∙ ap (option_map kept) (sym (register_push before e x y))
 
 known_or : (b covered : Bool) (o q : Option ℕ) (r : ℕ) → q ≡ Some r → is_some o ≡ covered
     → is_some (if b then q else o) ≡ (b || covered)
 known_or true covered o q r is has = rw is refl
 known_or false covered o q r is has = has
 
-register_covered : (s : Grid) (before : List Event) (e : Event) (r x y : ℕ) → known before ≡ Some r → IsDrawn s before
+register_covered : {kept : ℕ → ℕ} (s : Grid) (before : List Event) (e : Event) (r x y : ℕ) → known before ≡ Some r → IsDrawn kept s before
     → x < s.width → y < s.height → is_some (register_at (before ++ e ∷ []) x y) ≡ is_covered (before ++ e ∷ []) x y
-register_covered s before e r x y is d p q =
+register_covered {kept} s before e r x y is d p q =
     let had : is_some (register_at before x y) ≡ is_covered before x y =
-    ap is_some (sym (d.registers x y p q)) ∙ d.covered x y p q in
+    sym (some_kept kept (register_at before x y)) ∙ ap is_some (sym (d.registers x y p q)) ∙ d.covered x y p q in
     rw (register_push before e x y, covered_push before e x y)
     (known_or (falls before e x y) (is_covered before x y) (register_at before x y) (known before) r is had)
 
 -- the grid after a command that paints in the known register
-pub drawn_run : (s : Grid) (before : List Event) (e : Event) (r : ℕ) → known before ≡ Some r → IsDrawn s before
-    → IsDrawn (painted_grid s (column 0 before) (band before) (columns_of 0 e) (bits_of e) r) (before ++ e ∷ [])
+pub drawn_run : {kept : ℕ → ℕ} (s : Grid) (before : List Event) (e : Event) (r : ℕ) → known before ≡ Some r → IsDrawn kept s before
+    → IsDrawn kept (painted_grid s (column 0 before) (band before) (columns_of 0 e) (bits_of e) (kept r))
+    (before ++ e ∷ [])
 unfolding painted_grid
-drawn_run s before e r is d = record {
+drawn_run {kept} s before e r is d = record {
   box = box_stays before e _ d.box;
   width = d.width;
   height = d.height;
   pixels = length_rows s.width s.height _;
   registers = λ x y p q. painted_register s before e r x y is d p q;
   covered = λ x y p q.
-      ap is_some (painted_register s before e r x y is d p q) ∙ register_covered s before e r x y is d p q;
+      ap is_some (painted_register s before e r x y is d p q)
+      ∙ some_kept kept (register_at (before ++ e ∷ []) x y)
+      ∙ register_covered s before e r x y is d p q;
 }

@@ -28,17 +28,17 @@ err_says P (Err e) h = h
 
 -- ---- events
 
-no_box : (o : Option Grid) (before : List Event) → o ≡ None → IsGridAfter o before → IsUndrawn before
-no_box None before e h = h
-no_box (Some s) before e h = cc
+no_box : (kept : ℕ → ℕ) (o : Option Grid) (before : List Event) → o ≡ None → IsGridAfter kept o before → IsUndrawn before
+no_box kept None before e h = h
+no_box kept (Some s) before e h = cc
 
 -- the judge may allocate at raster attributes that break no rule, if there is no grid yet
-pub judge_grows : {registers : ℕ} (state : DrawingState) (grid : Option Grid) (before : List Event) (e : Event)
-    → grid ≡ None → IsSome (raster_of e) → StandsUnbroken registers state grid before
+pub judge_grows : {registers : ℕ} {kept : ℕ → ℕ} (state : DrawingState) (grid : Option Grid) (before : List Event) (e : Event)
+    → grid ≡ None → IsSome (raster_of e) → StandsUnbroken registers kept state grid before
     → BreaksNoRule registers before e → MayGrow registers before e
-judge_grows {registers} state grid before e is declares s none = record {
+judge_grows {registers} {kept} state grid before e is declares s none = record {
   declares = declares;
-  first = (no_box grid before is s.grid_is).no_box;
+  first = (no_box kept grid before is s.grid_is).no_box;
   unbroken = none_push registers last_rule before e s.unbroken (keeps before e none) (seven_bits _ before e none);
 }
 

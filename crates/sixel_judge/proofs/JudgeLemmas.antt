@@ -28,8 +28,8 @@ events_push seen p = map-append (λ (q : Placed). q.event) seen (p ∷ [])
 length_events : (seen : List Placed) → length (events_of seen) ≡ length seen
 length_events seen = length-map seen (λ (q : Placed). q.event)
 
-pub judge_start : {registers : ℕ} (state : DrawingState) → IsStateAfter registers state []
-    → StandsUnbroken registers state None []
+pub judge_start : {registers : ℕ} {kept : ℕ → ℕ} (state : DrawingState) → IsStateAfter registers state []
+    → StandsUnbroken registers kept state None []
 unfolding register_at last_at last_below
 judge_start {registers} state a = record {
   unbroken = none_of_none registers last_rule;
@@ -57,9 +57,9 @@ judge_broken {registers} seen p f found =
     )
 
 -- an event breaks the first rule
-pub judge_finds : {registers : ℕ} (state : DrawingState) (grid : Option Grid) (seen : List Placed) (p : Placed)
+pub judge_finds : {registers : ℕ} {kept : ℕ → ℕ} (state : DrawingState) (grid : Option Grid) (seen : List Placed) (p : Placed)
     (b : Violation)
-    → StandsUnbroken registers state grid (events_of seen) → IsViolation registers (events_of seen) p.event b
+    → StandsUnbroken registers kept state grid (events_of seen) → IsViolation registers (events_of seen) p.event b
     → (i : ℕ) × IsFinding registers (seen ++ p ∷ []) (record { rule = b.rule; place = p.place; pixel = b.pixel }) i
 judge_finds {registers} state grid seen p b s violation = (
   length (events_of seen),
@@ -75,14 +75,14 @@ judge_finds {registers} state grid seen p b s violation = (
 )
 
 -- an event breaks no rule, and there was no finding
-pub judge_goes_on : {registers : ℕ} (state next : DrawingState) (grid drawn : Option Grid) (seen : List Placed)
+pub judge_goes_on : {registers : ℕ} {kept : ℕ → ℕ} (state next : DrawingState) (grid drawn : Option Grid) (seen : List Placed)
     (p : Placed)
-    → StandsUnbroken registers state grid (events_of seen) → BreaksNoRule registers (events_of seen) p.event
+    → StandsUnbroken registers kept state grid (events_of seen) → BreaksNoRule registers (events_of seen) p.event
     → IsStateAfter registers next (events_of seen ++ p.event ∷ [])
-    → IsGridAfter drawn (events_of seen ++ p.event ∷ [])
-    → StandsUnbroken registers next drawn (events_of (seen ++ p ∷ []))
-judge_goes_on {registers} state next grid drawn seen p s none a d =
-    subst (StandsUnbroken registers next drawn) (sym (events_push seen p))
+    → IsGridAfter kept drawn (events_of seen ++ p.event ∷ [])
+    → StandsUnbroken registers kept next drawn (events_of (seen ++ p ∷ []))
+judge_goes_on {registers} {kept} state next grid drawn seen p s none a d =
+    subst (StandsUnbroken registers kept next drawn) (sym (events_push seen p))
     (record {
       unbroken =
           none_push registers last_rule (events_of seen) p.event s.unbroken (keeps (events_of seen) p.event none)
@@ -93,22 +93,22 @@ judge_goes_on {registers} state next grid drawn seen p s none a d =
     })
 
 -- if there is a finding
-pub finding_stays : (registers : ℕ) (o : Option Finding) (state : DrawingState) (grid : Option Grid)
+pub finding_stays : (registers : ℕ) (kept : ℕ → ℕ) (o : Option Finding) (state : DrawingState) (grid : Option Grid)
     (seen : List Placed)
-    (p : Placed) → is_some o ≡ true → JudgesAfter registers o state grid seen
-    → JudgesAfter registers o state grid (seen ++ p ∷ [])
-finding_stays registers (Some f) state grid seen p e j = judge_broken seen p f j
-finding_stays registers None state grid seen p e j = cc
+    (p : Placed) → is_some o ≡ true → JudgesAfter registers kept o state grid seen
+    → JudgesAfter registers kept o state grid (seen ++ p ∷ [])
+finding_stays registers kept (Some f) state grid seen p e j = judge_broken seen p f j
+finding_stays registers kept None state grid seen p e j = cc
 
 -- if there is none
-pub unbroken_of : {registers : ℕ} (o : Option Finding) (state : DrawingState) (grid : Option Grid) (seen : List Placed)
-    → is_some o ≡ false → JudgesAfter registers o state grid seen
-    → StandsUnbroken registers state grid (events_of seen)
-unbroken_of (Some f) state grid seen e j = cc
-unbroken_of None state grid seen e j = j
+pub unbroken_of : {registers : ℕ} (kept : ℕ → ℕ) (o : Option Finding) (state : DrawingState) (grid : Option Grid) (seen : List Placed)
+    → is_some o ≡ false → JudgesAfter registers kept o state grid seen
+    → StandsUnbroken registers kept state grid (events_of seen)
+unbroken_of kept (Some f) state grid seen e j = cc
+unbroken_of kept None state grid seen e j = j
 
-pub judges_of : {registers : ℕ} (o : Option Finding) (state : DrawingState) (grid : Option Grid) (seen : List Placed)
-    → is_some o ≡ false → StandsUnbroken registers state grid (events_of seen)
-    → JudgesAfter registers o state grid seen
-judges_of (Some f) state grid seen e s = cc
-judges_of None state grid seen e s = s
+pub judges_of : {registers : ℕ} (kept : ℕ → ℕ) (o : Option Finding) (state : DrawingState) (grid : Option Grid) (seen : List Placed)
+    → is_some o ≡ false → StandsUnbroken registers kept state grid (events_of seen)
+    → JudgesAfter registers kept o state grid seen
+judges_of kept (Some f) state grid seen e s = cc
+judges_of kept None state grid seen e s = s

@@ -24,7 +24,7 @@ pub violation_without_pixel : {registers : ℕ} (before : List Event) (e : Event
 violation_without_pixel before e rule l = record
     { broken = l.broken; none_smaller = l.none_smaller; pixel = l.no_pixel }
 
-pub violation_outside : {registers : ℕ} (before : List Event) (e : Event) (s : Grid) (pixel : ℕ × ℕ) → IsDrawn s before
+pub violation_outside : {registers : ℕ} {kept : ℕ → ℕ} (before : List Event) (e : Event) (s : Grid) (pixel : ℕ × ℕ) → IsDrawn kept s before
     → NoneBelow registers outside_rule before e → IsFirstIfAny (FallsOutside before e (box_of s)) (Some pixel)
     → IsViolation registers before e (record { rule = Outside; pixel = Some pixel })
 unfolding Breaks BreaksOutside
@@ -34,15 +34,15 @@ violation_outside before e s pixel d none first = record {
   pixel = rw d.box first;
 }
 
-pub none_outside : (registers : ℕ) (before : List Event) (e : Event) (s : Grid) → IsDrawn s before
+pub none_outside : {kept : ℕ → ℕ} (registers : ℕ) (before : List Event) (e : Event) (s : Grid) → IsDrawn kept s before
     → NoneBelow registers outside_rule before e → IsFirstIfAny (FallsOutside before e (box_of s)) None
     → NoneBelow registers uncovered_rule before e
 unfolding Breaks BreaksOutside
 none_outside registers before e s d none first = none_more _ before e outside_rule none
     (λ broken. let point = rw d.box at broken in first point.0 point.1 point.2)
 
-pub violation_uncovered : {registers : ℕ} (before : List Event) (e : Event) (s : Grid) (pixel : ℕ × ℕ)
-    → is_finish e ≡ true → IsDrawn s before → NoneBelow registers uncovered_rule before e
+pub violation_uncovered : {registers : ℕ} {kept : ℕ → ℕ} (before : List Event) (e : Event) (s : Grid) (pixel : ℕ × ℕ)
+    → is_finish e ≡ true → IsDrawn kept s before → NoneBelow registers uncovered_rule before e
     → IsFirstIfAny (StaysBlank before (box_of s)) (Some pixel)
     → IsViolation registers before e (record { rule = Uncovered; pixel = Some pixel })
 unfolding Breaks BreaksUncovered
@@ -52,7 +52,7 @@ violation_uncovered before e s pixel end d none first = record {
   pixel = rw d.box first;
 }
 
-pub none_uncovered : (registers : ℕ) (before : List Event) (e : Event) (s : Grid) → IsDrawn s before
+pub none_uncovered : {kept : ℕ → ℕ} (registers : ℕ) (before : List Event) (e : Event) (s : Grid) → IsDrawn kept s before
     → NoneBelow registers uncovered_rule before e
     → IsFirstIfAny (StaysBlank before (box_of s)) None → NoneBelow registers eight_bit_rule before e
 unfolding Breaks BreaksUncovered
@@ -87,20 +87,20 @@ none_eight_bit registers before e seven none = none_more _ before e eight_bit_ru
     (λ broken. both_ways (is_eight_bit e) seven broken)
 
 -- there is a grid exactly if there is a box
-pub box_there : (grid : Option Grid) (before : List Event) → IsGridAfter grid before
+pub box_there : (kept : ℕ → ℕ) (grid : Option Grid) (before : List Event) → IsGridAfter kept grid before
     → is_some grid ≡ is_some (raster_before before)
-box_there None before u = ap is_some (sym u.no_box)
-box_there (Some s) before d = ap is_some (sym d.box)
+box_there kept None before u = ap is_some (sym u.no_box)
+box_there kept (Some s) before d = ap is_some (sym d.box)
 
 pub has_grid : {P : Type 0} (f : P → Grid) (o : Option P) → is_some o ≡ is_some (option_map f o)
 has_grid f None = refl
 has_grid f (Some p) = refl
 
 -- the rule that was found is the lowest-numbered broken one of those that don't look at pixels
-pub least_by_state : {registers : ℕ} (n : DrawingState) (grid : Option Grid) (before : List Event) (e : Event)
+pub least_by_state : {registers : ℕ} (kept : ℕ → ℕ) (n : DrawingState) (grid : Option Grid) (before : List Event) (e : Event)
     (has_box : Bool)
     (o : Option Rule)
-    → has_box ≡ is_some grid → o ≡ rule_in n has_box e → IsStateAfter registers n before → IsGridAfter grid before
+    → has_box ≡ is_some grid → o ≡ rule_in n has_box e → IsStateAfter registers n before → IsGridAfter kept grid before
     → IsLeastOf registers before e o
-least_by_state {registers} n grid before e has_box o box is s d =
-    subst (IsLeastOf registers before e) (sym is) (least_rule n before e has_box (box ∙ box_there grid before d) s)
+least_by_state {registers} kept n grid before e has_box o box is s d =
+    subst (IsLeastOf registers before e) (sym is) (least_rule n before e has_box (box ∙ box_there kept grid before d) s)

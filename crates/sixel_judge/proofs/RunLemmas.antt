@@ -93,10 +93,10 @@ uncapped n m is lt =
     omega arith
 
 -- the grid after a command whose run is painted from a capped column on, in a capped band
-pub drawn_capped : (s : Grid) (before : List Event) (e : Event) (r left line : ℕ) → known before ≡ Some r
+pub drawn_capped : {kept : ℕ → ℕ} (s : Grid) (before : List Event) (e : Event) (r left line : ℕ) → known before ≡ Some r
     → left ≡ capped (column 0 before) → line ≡ capped (band before)
-    → RunFits left line (columns_of 0 e) (bits_of e) s.width s.height → IsDrawn s before
-    → IsDrawn (painted_grid s left line (columns_of 0 e) (bits_of e) r) (before ++ e ∷ [])
+    → RunFits left line (columns_of 0 e) (bits_of e) s.width s.height → IsDrawn kept s before
+    → IsDrawn kept (painted_grid s left line (columns_of 0 e) (bits_of e) (kept r)) (before ++ e ∷ [])
 drawn_capped s before e r left line is column_is band_is fits d =
     let columns : left + columns_of 0 e ≤ s.width = fits.columns in
     let rows : line < s.height = fits.low in

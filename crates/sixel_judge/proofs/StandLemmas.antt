@@ -14,6 +14,7 @@ use Rattle.sixel_grammar.specs.declared.command.Event.{Event}
 use Rattle.sixel_grammar.specs.declared.command.Event.TheVariants.{Start, Step, Finish}
 use Rattle.sixel_grammar.specs.declared.command.Placed.{Placed}
 use Rattle.sixel_model.specs.Events.{is_finish}
+use Rattle.sixel_plane.specs.Covers.{kept_by}
 use Rattle.sixel_judge.specs.declared.progress.Progress.{Progress}
 use Rattle.sixel_judge.specs.declared.progress.Progress.TheVariants.{Fresh, Begun, Whole}
 use Rattle.sixel_judge.specs.Judging.{JudgesAfter}
@@ -129,17 +130,17 @@ progress_push (q ∷ qs) p h =
 -- ---- what a checker has seen
 
 pub stands_none : (registers : ℕ) (checker : CheckerValue)
-    → JudgesAfter registers checker.finding checker.state checker.grid [] → checker.progress ≡ Fresh
+    → JudgesAfter registers (kept_by checker.keeps) checker.finding checker.state checker.grid [] → checker.progress ≡ Fresh
     → StandsAfter registers checker []
 unfolding StandsAfter
 stands_none registers checker judges fresh = (judges, fresh, inl refl, tt)
 
 -- its parts are those of a judge
 pub judges_inside : (registers : ℕ) (inside checker : CheckerValue) (seen : List Placed) → inside ≡ checker
-    → StandsAfter registers checker seen → JudgesAfter registers inside.finding inside.state inside.grid seen
+    → StandsAfter registers checker seen → JudgesAfter registers (kept_by inside.keeps) inside.finding inside.state inside.grid seen
 unfolding StandsAfter
 judges_inside registers inside checker seen is s =
-    subst (λ (v : CheckerValue). JudgesAfter registers v.finding v.state v.grid seen) (sym is) s.0
+    subst (λ (v : CheckerValue). JudgesAfter registers (kept_by v.keeps) v.finding v.state v.grid seen) (sym is) s.0
 
 pub stands_expects : (registers : ℕ) (checker : CheckerValue) (seen : List Placed) (e : Event)
     → StandsAfter registers checker seen → expects_from checker.progress e ≡ expects seen e
@@ -154,7 +155,7 @@ stands_whole_at registers checker seen s = ap is_whole_at s.1 ∙ whole_of seen
 -- after one more expected event
 pub stands_push : (others registers : ℕ) (old new : CheckerValue) (first seen : List Placed) (p : Placed)
     → StandsAfter others old first → IsTrue (expects first p.event) → IsSpellable p.event
-    → StandsAfter registers old seen → JudgesAfter registers new.finding new.state new.grid (seen ++ p ∷ [])
+    → StandsAfter registers old seen → JudgesAfter registers (kept_by new.keeps) new.finding new.state new.grid (seen ++ p ∷ [])
     → new.progress ≡ progress_with p.event → StandsAfter registers new (seen ++ p ∷ [])
 unfolding StandsAfter
 stands_push others registers old new first seen p f expected spellable s judges far =

@@ -26,6 +26,7 @@ use Rattle.sixel_model.specs.Pictures.{is_side, most_side}
 use Rattle.sixel_model.specs.Rules.{breaks_box_size, breaks_colour_value, breaks_ratio, breaks_register}
 use Rattle.sixel_model.specs.Rules.{breaks_repeat_zero}
 use Rattle.sixel_model.specs.Grids.{Grid, cell}
+use Rattle.sixel_plane.specs.Covers.{kept_by}
 use Rattle.sixel_plane.specs.Stretches.{sixel_of, stretched_grid}
 use Rattle.sixel_plane.proofs.PlaneStretchLemmas.{stretched_blank, stretched_height, stretched_length, stretched_more}
 use Rattle.sixel_plane.proofs.PlaneStretchLemmas.{stretched_none, stretched_width}
@@ -74,16 +75,16 @@ side : (n : ℕ) → IsTrue (is_side n) → n ≤ most_side
 side n h = leb-true n most_side (and_parts (nat_le 1 n) (nat_le n most_side) h).1
 
 -- it breaks no rule
-sixel_breaks_none : {registers : ℕ} (n : DrawingState) (s : Grid) (before : List Event) (bits r : ℕ) → IsPaintedIn n r
-    → Fits n 1 s → IsStateAfter registers n before → IsDrawn s before → BreaksNoRule registers before (sixel bits)
-sixel_breaks_none {registers} n s before bits r known fits a d =
+sixel_breaks_none : {registers : ℕ} {kept : ℕ → ℕ} (n : DrawingState) (s : Grid) (before : List Event) (bits r : ℕ) → IsPaintedIn n r
+    → Fits n 1 s → IsStateAfter registers n before → IsDrawn kept s before → BreaksNoRule registers before (sixel bits)
+sixel_breaks_none {registers} {kept} n s before bits r known fits a d =
     let e : Event = sixel bits in
     let selected : unselected_in n e ≡ false =
     ap (λ (o : Option ℕ). is_painting e && is_none o) known.known ∙ and_no (is_painting e) in
     let defined : undefined_in n e ≡ false =
     ap (λ (o : Option ℕ). is_painting e && option_map_or (λ q. is_none (palette_at n.palette q)) o false) known.known
     ∙ ap (λ (b : Bool). is_painting e && b) (has (palette_at n.palette r) known.coloured) ∙ and_no (is_painting e) in
-    let least = pixels.least_by_state n (Some s) before e true None refl (sym (sixel_rule n bits selected defined)) a d
+    let least = pixels.least_by_state kept n (Some s) before e true None refl (sym (sixel_rule n bits selected defined)) a d
     in
     let w : IsCapped n.column n.band (column 0 before) (band before) s.width s.height = record {
       column_is = a.column_is;
@@ -111,9 +112,9 @@ marks_stay n r true known =
     ∙ set_there n.painted r known.painted
 
 -- the drawing state moves by one column
-sixel_by_state : {registers : ℕ} (n : DrawingState) (s : Grid) (before : List Event) (bits r : ℕ) → IsPaintedIn n r
+sixel_by_state : {registers : ℕ} {kept : ℕ → ℕ} (n : DrawingState) (s : Grid) (before : List Event) (bits r : ℕ) → IsPaintedIn n r
     → Fits n 1 s
-    → IsStateAfter registers n before → IsDrawn s before
+    → IsStateAfter registers n before → IsDrawn kept s before
     → IsStateAfter registers (moved_by 1 n) (before ++ sixel bits ∷ [])
 sixel_by_state {registers} n s before bits r known fits a d =
     let e : Event = sixel bits in
@@ -127,9 +128,9 @@ sixel_by_state {registers} n s before bits r known fits a d =
     (state_push n before e a (sixel_breaks_none n s before bits r known fits a d)))
 
 -- grids with the same pixels are drawn by the same events
-drawn_same : (s t : Grid) (before : List Event) → t.width ≡ s.width → t.height ≡ s.height
+drawn_same : {kept : ℕ → ℕ} (s t : Grid) (before : List Event) → t.width ≡ s.width → t.height ≡ s.height
     → length t.cells ≡ t.width * t.height
-    → ((x y : ℕ) → x < s.width → y < s.height → cell t x y ≡ cell s x y) → IsDrawn s before → IsDrawn t before
+    → ((x y : ℕ) → x < s.width → y < s.height → cell t x y ≡ cell s x y) → IsDrawn kept s before → IsDrawn kept t before
 drawn_same s t before wide high long same d = record {
   box = d.box ∙ ap₂ (λ (w h : ℕ). Some (record { pan = 1; pad = 1; width = w; height = h })) (sym wide) (sym high);
   width = rw wide d.width;
@@ -144,33 +145,33 @@ drawn_same s t before wide high long same d = record {
 }
 
 -- the grid after one more column of a stretch
-sixel_drawn : {registers : ℕ} (n : DrawingState) (s : Grid) (before : List Event) (f : ℕ → ℕ) (left line k r : ℕ)
+sixel_drawn : {registers : ℕ} {kept : ℕ → ℕ} (n : DrawingState) (s : Grid) (before : List Event) (f : ℕ → ℕ) (left line k r : ℕ)
     → f k ≤ 63 → 0 < s.width → n.column ≡ left + k → n.band ≡ line → IsPaintedIn n r
-    → Fits n 1 (stretched_grid s left line k f r)
-    → IsStateAfter registers n before → IsDrawn (stretched_grid s left line k f r) before → (b : Bool)
+    → Fits n 1 (stretched_grid s left line k f (kept r))
+    → IsStateAfter registers n before → IsDrawn kept (stretched_grid s left line k f (kept r)) before → (b : Bool)
     → is_painting (sixel (f k)) ≡ b
-    → IsDrawn (stretched_grid s left line (k + 1) f r) (before ++ sixel (f k) ∷ [])
-sixel_drawn n s before f left line k r few some at_column at_band known fits a d true paints =
-    let t : Grid = stretched_grid s left line k f r in
+    → IsDrawn kept (stretched_grid s left line (k + 1) f (kept r)) (before ++ sixel (f k) ∷ [])
+sixel_drawn {registers} {kept} n s before f left line k r few some at_column at_band known fits a d true paints =
+    let t : Grid = stretched_grid s left line k f (kept r) in
     let e : Event = sixel (f k) in
     let drawn = drawn_paint n t before e r a d (sixel_breaks_none n t before (f k) r known fits a d) few paints
     known.known in
-    subst (λ (q : Grid). IsDrawn q (before ++ e ∷ [])) (stretched_more s left line k f r some)
+    subst (λ (q : Grid). IsDrawn kept q (before ++ e ∷ [])) (stretched_more s left line k f (kept r) some)
     (rw (at_column, at_band) at drawn)
-sixel_drawn n s before f left line k r few some at_column at_band known fits a d false idle =
-    let t : Grid = stretched_grid s left line k f r in
+sixel_drawn {registers} {kept} n s before f left line k r few some at_column at_band known fits a d false idle =
+    let t : Grid = stretched_grid s left line k f (kept r) in
     let e : Event = sixel (f k) in
     let blank : f k % 64 ≡ 0 = eqb-true _ _ (not-false _ idle) in
     let none : f k ≡ 0 = omega arith in
-    let wide = stretched_width s left line k f r in
-    let high = stretched_height s left line k f r in
-    drawn_same t (stretched_grid s left line (k + 1) f r) (before ++ e ∷ [])
-    (stretched_width s left line (k + 1) f r ∙ sym wide) (stretched_height s left line (k + 1) f r ∙ sym high)
-    (stretched_length s left line (k + 1) f r
-    ∙ ap₂ (λ (w h : ℕ). w * h) (sym (stretched_width s left line (k + 1) f r))
-    (sym (stretched_height s left line (k + 1) f r)))
+    let wide = stretched_width s left line k f (kept r) in
+    let high = stretched_height s left line k f (kept r) in
+    drawn_same t (stretched_grid s left line (k + 1) f (kept r)) (before ++ e ∷ [])
+    (stretched_width s left line (k + 1) f (kept r) ∙ sym wide) (stretched_height s left line (k + 1) f (kept r) ∙ sym high)
+    (stretched_length s left line (k + 1) f (kept r)
+    ∙ ap₂ (λ (w h : ℕ). w * h) (sym (stretched_width s left line (k + 1) f (kept r)))
+    (sym (stretched_height s left line (k + 1) f (kept r))))
     (λ x y inside_x inside_y.
-    stretched_blank s left line k f r x y none (rw wide at inside_x) (rw high at inside_y))
+    stretched_blank s left line k f (kept r) x y none (rw wide at inside_x) (rw high at inside_y))
     (drawn_still t before e idle d)
 
 -- ---- k of them
@@ -185,8 +186,8 @@ sixels_more place at (suc k) (b ∷ bytes) here lt =
     ap (λ (l : List Placed). record { place = place; event = Step (Sixel (b - 63)) } ∷ l)
     (sixels_more (place + 1) at k bytes (omega arith) (omega arith))
 
-none_drawn : (n : DrawingState) (s : Grid) (before : List Event) (f : ℕ → ℕ) (r : ℕ) → IsDrawn s before
-    → IsDrawn (stretched_grid s n.column n.band 0 f r) before
+none_drawn : {kept : ℕ → ℕ} (n : DrawingState) (s : Grid) (before : List Event) (f : ℕ → ℕ) (r : ℕ) → IsDrawn kept s before
+    → IsDrawn kept (stretched_grid s n.column n.band 0 f r) before
 none_drawn n s before f r d =
     let wide = stretched_width s n.column n.band 0 f r in
     let high = stretched_height s n.column n.band 0 f r in
@@ -200,33 +201,33 @@ few_bits b is =
     omega (arith, leb-true b 126 parts.1)
 
 -- the state after k sixels of a stretch
-pub stretch_stands : {registers : ℕ} (n : DrawingState) (s : Grid) (seen : List Placed) (place count r : ℕ)
+pub stretch_stands : {registers : ℕ} {kept : ℕ → ℕ} (n : DrawingState) (s : Grid) (seen : List Placed) (place count r : ℕ)
     (bytes : List ℕ)
     → count ≤ length bytes → ((k : ℕ) → k < count → is_data (get_or bytes k 0) ≡ true) → IsPaintedIn n r
-    → Fits n count s → StandsUnbroken registers n (Some s) (events_of seen) → (k : ℕ) → k ≤ count
-    → StandsUnbroken registers (moved_by k n) (Some (stretched_grid s n.column n.band k (sixel_of bytes count) r))
+    → Fits n count s → StandsUnbroken registers kept n (Some s) (events_of seen) → (k : ℕ) → k ≤ count
+    → StandsUnbroken registers kept (moved_by k n) (Some (stretched_grid s n.column n.band k (sixel_of bytes count) (kept r)))
     (events_of (seen ++ sixels_from place (take k bytes)))
-stretch_stands {registers} n s seen place count r bytes long each known fits u zero le =
+stretch_stands {registers} {kept} n s seen place count r bytes long each known fits u zero le =
     let f : ℕ → ℕ = sixel_of bytes count in
     let still : n.column ≡ n.column + 0 = omega arith in
-    subst (λ (l : List Placed). StandsUnbroken registers (moved_by 0 n) (Some (stretched_grid s n.column n.band 0 f r))
+    subst (λ (l : List Placed). StandsUnbroken registers kept (moved_by 0 n) (Some (stretched_grid s n.column n.band 0 f (kept r)))
     (events_of l)) (sym (append-nil seen))
     (record {
       unbroken = u.unbroken;
       state_is = subst (λ (c : ℕ). IsStateAfter registers (record n { column = c }) (events_of seen)) still u.state_is;
-      grid_is = none_drawn n s (events_of seen) f r u.grid_is;
+      grid_is = none_drawn n s (events_of seen) f (kept r) u.grid_is;
       coloured = u.coloured;
     })
-stretch_stands {registers} n s seen place count r bytes long each known fits u (suc k) le =
+stretch_stands {registers} {kept} n s seen place count r bytes long each known fits u (suc k) le =
     let f : ℕ → ℕ = sixel_of bytes count in
     let before = seen ++ sixels_from place (take k bytes) in
-    let t : Grid = stretched_grid s n.column n.band k f r in
+    let t : Grid = stretched_grid s n.column n.band k f (kept r) in
     let m : DrawingState = moved_by k n in
     let v = stretch_stands n s seen place count r bytes long each known fits u k (omega arith) in
     let bits : f k ≡ get_or bytes k 0 - 63 = cond-true _ _ _ (lt-ltb k count (omega arith)) in
     let p : Placed = record { place = place + k; event = Step (Sixel (f k)) } in
-    let wide = stretched_width s n.column n.band k f r in
-    let high = stretched_height s n.column n.band k f r in
+    let wide = stretched_width s n.column n.band k f (kept r) in
+    let high = stretched_height s n.column n.band k f (kept r) in
     let painted : IsPaintedIn m r =
     record { known = known.known; coloured = known.coloured; painted = known.painted } in
     let columns = fits.columns in
@@ -235,7 +236,7 @@ stretch_stands {registers} n s seen place count r bytes long each known fits u (
     let some : 0 < s.width = omega (arith, columns) in
     let few : f k ≤ 63 = omega (arith, bits, few_bits (get_or bytes k 0) (each k (omega arith))) in
     let after = judge_goes_on m (moved_by 1 m) (Some t)
-    (Some (stretched_grid s n.column n.band (k + 1) f r)) before p v
+    (Some (stretched_grid s n.column n.band (k + 1) f (kept r))) before p v
     (sixel_breaks_none m t (events_of before) (f k) r painted one v.state_is v.grid_is)
     (sixel_by_state m t (events_of before) (f k) r painted one v.state_is v.grid_is)
     (sixel_drawn m s
@@ -247,22 +248,22 @@ stretch_stands {registers} n s seen place count r bytes long each known fits u (
     ∙ sixels_more place (place + k) k bytes refl (omega arith)) in
     let column : n.column + k + 1 ≡ n.column + suc k = omega arith in
     let next : k + 1 ≡ suc k = omega arith in
-    subst (λ (l : List Placed). StandsUnbroken registers (moved_by (suc k) n)
-    (Some (stretched_grid s n.column n.band (suc k) f r)) (events_of l)) events
-    (subst (λ (c : ℕ). StandsUnbroken registers (record n { column = c })
-    (Some (stretched_grid s n.column n.band (suc k) f r)) (events_of (before ++ p ∷ []))) column
-    (subst (λ (j : ℕ). StandsUnbroken registers (moved_by 1 m) (Some (stretched_grid s n.column n.band j f r))
+    subst (λ (l : List Placed). StandsUnbroken registers kept (moved_by (suc k) n)
+    (Some (stretched_grid s n.column n.band (suc k) f (kept r))) (events_of l)) events
+    (subst (λ (c : ℕ). StandsUnbroken registers kept (record n { column = c })
+    (Some (stretched_grid s n.column n.band (suc k) f (kept r))) (events_of (before ++ p ∷ []))) column
+    (subst (λ (j : ℕ). StandsUnbroken registers kept (moved_by 1 m) (Some (stretched_grid s n.column n.band j f (kept r)))
     (events_of (before ++ p ∷ []))) next after))
 
 -- ---- sixels without a set bit, wherever they lie
 
 -- one breaks no rule
-blank_breaks_none : {registers : ℕ} (n : DrawingState) (s : Grid) (before : List Event)
+blank_breaks_none : {registers : ℕ} {kept : ℕ → ℕ} (n : DrawingState) (s : Grid) (before : List Event)
     → IsStateAfter registers n before
-    → IsDrawn s before → BreaksNoRule registers before (sixel 0)
-blank_breaks_none {registers} n s before a d =
+    → IsDrawn kept s before → BreaksNoRule registers before (sixel 0)
+blank_breaks_none {registers} {kept} n s before a d =
     let e : Event = sixel 0 in
-    let least = pixels.least_by_state n (Some s) before e true None refl (sym (sixel_rule n 0 refl refl)) a d in
+    let least = pixels.least_by_state kept n (Some s) before e true None refl (sym (sixel_rule n 0 refl refl)) a d in
     let first = falls_first before e (box_of s) None
     (none_outside (column 0 before) 1 (band before) 0 s.width s.height
     (no_bits_fit (column 0 before) 1 (band before) 0 s.width s.height refl)) in
@@ -274,17 +275,17 @@ blank_bits : (b : ℕ) → b ≡ blank_byte → b - 63 ≡ 0
 blank_bits b is = omega arith
 
 -- the state after k sixels of a stretch of them
-pub passed_stands : {registers : ℕ} (n : DrawingState) (s : Grid) (seen : List Placed) (place count : ℕ)
+pub passed_stands : {registers : ℕ} {kept : ℕ → ℕ} (n : DrawingState) (s : Grid) (seen : List Placed) (place count : ℕ)
     (bytes : List ℕ)
-    → count ≤ length bytes → AreBlank bytes count → StandsUnbroken registers n (Some s) (events_of seen)
+    → count ≤ length bytes → AreBlank bytes count → StandsUnbroken registers kept n (Some s) (events_of seen)
     → (k : ℕ) → k ≤ count
-    → StandsUnbroken registers (passed_by k n) (Some s) (events_of (seen ++ sixels_from place (take k bytes)))
-passed_stands {registers} n s seen place count bytes long blank u zero le =
+    → StandsUnbroken registers kept (passed_by k n) (Some s) (events_of (seen ++ sixels_from place (take k bytes)))
+passed_stands {registers} {kept} n s seen place count bytes long blank u zero le =
     let at = u.state_is.column_is in
     let still : n.column ≡ capped (n.column + 0) = omega (arith, at) in
-    subst (λ (l : List Placed). StandsUnbroken registers (passed_by 0 n) (Some s) (events_of l)) (sym (append-nil seen))
-    (subst (λ (c : ℕ). StandsUnbroken registers (record n { column = c }) (Some s) (events_of seen)) still u)
-passed_stands {registers} n s seen place count bytes long blank u (suc k) le =
+    subst (λ (l : List Placed). StandsUnbroken registers kept (passed_by 0 n) (Some s) (events_of l)) (sym (append-nil seen))
+    (subst (λ (c : ℕ). StandsUnbroken registers kept (record n { column = c }) (Some s) (events_of seen)) still u)
+passed_stands {registers} {kept} n s seen place count bytes long blank u (suc k) le =
     let before = seen ++ sixels_from place (take k bytes) in
     let m : DrawingState = passed_by k n in
     let v = passed_stands n s seen place count bytes long blank u k (omega arith) in
@@ -300,8 +301,8 @@ passed_stands {registers} n s seen place count bytes long blank u (suc k) le =
     (ap (λ (b : ℕ). sixels_from place (take k bytes) ++ record { place = place + k; event = Step (Sixel b) } ∷ []) bits
     ∙ sixels_more place (place + k) k bytes refl (omega arith)) in
     let column : capped (capped (n.column + k) + 1) ≡ capped (n.column + suc k) = omega arith in
-    subst (λ (l : List Placed). StandsUnbroken registers (passed_by (suc k) n) (Some s) (events_of l)) events
-    (subst (λ (c : ℕ). StandsUnbroken registers (record n { column = c }) (Some s) (events_of (before ++ p ∷ [])))
+    subst (λ (l : List Placed). StandsUnbroken registers kept (passed_by (suc k) n) (Some s) (events_of l)) events
+    (subst (λ (c : ℕ). StandsUnbroken registers kept (record n { column = c }) (Some s) (events_of (before ++ p ∷ [])))
     column
     after)
 
@@ -376,22 +377,22 @@ begun_of registers checker seen may s = record {
 }
 
 stands_begun : (registers : ℕ) (checker : CheckerValue) (seen : List Placed)
-    → JudgesAfter registers checker.finding checker.state checker.grid seen → IsBegun checker.progress seen
+    → JudgesAfter registers (kept_by checker.keeps) checker.finding checker.state checker.grid seen → IsBegun checker.progress seen
     → StandsAfter registers checker seen
 unfolding StandsAfter
 stands_begun registers checker seen judges b = (judges, b.progress_is, b.prefix, b.spellable)
 
-judges_then : (registers : ℕ) (place count : ℕ) (bytes : List ℕ) (o : Option Finding) (n next : DrawingState)
+judges_then : (kept : ℕ → ℕ) (registers : ℕ) (place count : ℕ) (bytes : List ℕ) (o : Option Finding) (n next : DrawingState)
     (grid drawn : Option Grid) (seen : List Placed) → count ≤ length bytes
     → ((k : ℕ) → k < count → is_data (get_or bytes k 0) ≡ true)
-    → (IsSome o → (next ≡ n) × (drawn ≡ grid)) → (o ≡ None → IsStretchedIn bytes count n grid next drawn)
-    → JudgesAfter registers o n grid seen
-    → JudgesAfter registers o next drawn (seen ++ sixels_from place (take count bytes))
-judges_then registers place count bytes (Some f) n next grid drawn seen long each broken taken j =
+    → (IsSome o → (next ≡ n) × (drawn ≡ grid)) → (o ≡ None → IsStretchedIn kept bytes count n grid next drawn)
+    → JudgesAfter registers kept o n grid seen
+    → JudgesAfter registers kept o next drawn (seen ++ sixels_from place (take count bytes))
+judges_then kept registers place count bytes (Some f) n next grid drawn seen long each broken taken j =
     broken_stays seen (sixels_from place (take count bytes)) f j
-judges_then registers place count bytes None n next None drawn seen long each broken taken j = absurd (taken refl)
-judges_then registers place count bytes None n next (Some s) None seen long each broken taken j = absurd (taken refl)
-judges_then registers place count bytes None n next (Some s) (Some drawn) seen long each broken taken j =
+judges_then kept registers place count bytes None n next None drawn seen long each broken taken j = absurd (taken refl)
+judges_then kept registers place count bytes None n next (Some s) None seen long each broken taken j = absurd (taken refl)
+judges_then kept registers place count bytes None n next (Some s) (Some drawn) seen long each broken taken j =
     elim (taken refl) [
       | inl is ↦
           rw (is.next_is, is.drawn_is)
@@ -403,22 +404,24 @@ judges_then registers place count bytes None n next (Some s) (Some drawn) seen l
 -- after a stretch of sixels
 pub stretch_taken : (registers place count : ℕ) (bytes : List ℕ) (old new : CheckerValue) (seen : List Placed)
     → count ≤ length bytes → ((k : ℕ) → k < count → is_data (get_or bytes k 0) ≡ true) → MayStep seen
-    → new.finding ≡ old.finding → new.progress ≡ old.progress
+    → new.keeps ≡ old.keeps → new.finding ≡ old.finding → new.progress ≡ old.progress
     → (IsSome old.finding → (new.state ≡ old.state) × (new.grid ≡ old.grid))
-    → (old.finding ≡ None → IsStretchedIn bytes count old.state old.grid new.state new.grid)
+    → (old.finding ≡ None → IsStretchedIn (kept_by old.keeps) bytes count old.state old.grid new.state new.grid)
     → StandsAfter registers old seen → StandsAfter registers new (seen ++ sixels_from place (take count bytes))
 unfolding StandsAfter
-stretch_taken registers place count bytes old new seen long each may finding progress broken taken s =
-    let judges = judges_then registers place count bytes old.finding old.state new.state old.grid new.grid seen long
+stretch_taken registers place count bytes old new seen long each may kept finding progress broken taken s =
+    let judges = judges_then (kept_by old.keeps) registers place count bytes old.finding old.state new.state old.grid new.grid seen long
     each broken taken s.0 in
     let short = length-take-le count bytes long in
     let begun = begun_stretch old.progress seen place (take count bytes)
     (λ k lt. ap is_data (get_or-take count bytes k 0 (omega (arith, short))) ∙ each k (omega (arith, short)))
     (begun_of registers old seen may s) in
     stands_begun registers new (seen ++ sixels_from place (take count bytes))
-    (subst (λ (o : Option Finding). JudgesAfter registers o new.state new.grid
+    (subst (λ (b : Bool). JudgesAfter registers (kept_by b) new.finding new.state new.grid
+    (seen ++ sixels_from place (take count bytes))) (sym kept)
+    (subst (λ (o : Option Finding). JudgesAfter registers (kept_by old.keeps) o new.state new.grid
     (seen ++ sixels_from place (take count bytes)))
-    (sym finding) judges)
+    (sym finding) judges))
     (subst (λ (g : Progress). IsBegun g (seen ++ sixels_from place (take count bytes))) (sym progress) begun)
 
 -- a prefix of a stretch, and the sixel after it

@@ -14,7 +14,7 @@ use Rattle.sixel_model.specs.Colours.{palette_at}
 use Rattle.sixel_model.specs.Events.{Definition}
 use Rattle.sixel_model.specs.Pictures.{is_side, picture_fault}
 use Rattle.sixel_model.specs.Rules.{BreaksNone, StaysBlank, colour_by, colour_of, definition_of, is_covered}
-use Rattle.sixel_model.specs.Rules.{palette_left}
+use Rattle.sixel_model.specs.Rules.{palette_left, picture_left}
 use Rattle.sixel_model.specs.Grids.{IsFull, Grid, first_blank}
 use Rattle.sixel_model.proofs.LeftLemmas.{left_at}
 use Rattle.sixel_model.specs.RuleNumbers.{last_rule}
@@ -28,8 +28,8 @@ use Rattle.sixel_judge.proofs.DrawingStateLemmas.{given}
 
 -- ---- no pixel is blank
 
-pub full_grid : (registers : ℕ) (s : Grid) (events : List Event) → AreWhole events
-    → BreaksNone registers last_rule events → IsDrawn s events → IsFull s
+pub full_grid : {kept : ℕ → ℕ} (registers : ℕ) (s : Grid) (events : List Event) → AreWhole events
+    → BreaksNone registers last_rule events → IsDrawn kept s events → IsFull s
 full_grid registers s events whole none d = split (first_blank s) (first_blank_drawn s events d)
   where
     split : (o : Option (ℕ × ℕ)) → IsFirstIfAny (StaysBlank events (box_of s)) o → o ≡ None
@@ -46,11 +46,11 @@ each_passes : (p : ℕ → Bool) (xs : List ℕ) → ((i : ℕ) → i < length x
 each_passes p xs h = list_all-from_AllPass p xs (All-from_get_or (λ x. p x ≡ true) xs 0 h)
 
 -- the register of each pixel is one of the palette's, and has a colour
-register_good : {registers : ℕ} (s : Grid) (events : List Event) (xs : List ℕ) (i : ℕ) → IsDrawn s events
-    → AreColoured registers events → map (λ r. Some r) xs ≡ s.cells → i < length xs
+register_good : {registers : ℕ} {kept : ℕ → ℕ} (s : Grid) (events : List Event) (xs : List ℕ) (i : ℕ)
+    → ((r : ℕ) → kept r ≡ r) → IsDrawn kept s events → AreColoured registers events → map (λ r. Some r) xs ≡ s.cells → i < length xs
     → (get_or xs i 0 < registers) × IsSome (definition_of events (get_or xs i 0))
-register_good s events xs i d c e lt =
-    c (i % s.width) (i / s.width) (get_or xs i 0) (register_there s events xs i d e lt)
+register_good s events xs i keeps d c e lt =
+    c (i % s.width) (i / s.width) (get_or xs i 0) (register_there s events xs i keeps d e lt)
 
 coloured : (registers r : ℕ) (o : Option Definition) → IfSome o (IsGood registers r) → IsSome o
     → is_some (option_and_then colour_by o) ≡ true
@@ -69,14 +69,20 @@ no_fault : (registers : ℕ) (w h : ℕ) (palette : List (Option Parts)) (xs : L
 no_fault registers w h palette xs sides long low coloured = rw (sides, long, low, coloured) refl
 
 -- the parts of the picture that the events leave make a picture
-pub picture_fits : {registers : ℕ} (n : DrawingState) (s : Grid) (events : List Event) (xs : List ℕ)
-    → IsStateAfter registers n events → IsDrawn s events → AreColoured registers events
+pub picture_fits : {registers : ℕ} {kept : ℕ → ℕ} (n : DrawingState) (s : Grid) (events : List Event) (xs : List ℕ)
+    → ((r : ℕ) → kept r ≡ r) → IsStateAfter registers n events → IsDrawn kept s events → AreColoured registers events
     → map (λ r. Some r) xs ≡ s.cells
     → picture_fault registers s.width s.height (palette_left registers events) xs ≡ None
-picture_fits {registers} n s events xs a d c e =
+picture_fits {registers} n s events xs keeps a d c e =
     no_fault _ s.width s.height (palette_left registers events) xs (and_from _ _ d.width d.height)
     (eq-eqb _ _ (length_drawn s events xs d e))
-    (each_passes (λ r. nat_lt r registers) xs (λ i lt. lt-ltb _ _ (register_good s events xs i d c e lt).0))
+    (each_passes (λ r. nat_lt r registers) xs (λ i lt. lt-ltb _ _ (register_good s events xs i keeps d c e lt).0))
     (each_passes (λ r. is_some (palette_at (palette_left registers events) r)) xs (λ i lt.
-    let good = register_good s events xs i d c e lt in
+    let good = register_good s events xs i keeps d c e lt in
     register_coloured n events (get_or xs i 0) a good.0 good.1))
+
+-- the picture that the events leave has the size of the grid
+pub left_size : {kept : ℕ → ℕ} (registers : ℕ) (s : Grid) (events : List Event) → IsDrawn kept s events
+    → ((picture_left registers events).width ≡ s.width) × ((picture_left registers events).height ≡ s.height)
+unfolding picture_left
+left_size registers s events d = rw d.box (refl, refl)

@@ -1,6 +1,7 @@
 -- What a judge knows of the events that it has seen, while no rule is broken.
 use Rattle.std.specs.Prelude.{◌≡◌, ◌<◌, ◌≤◌, ◌*◌, ℕ, false, Option, Some, None, IsTrue, IfSome, IsSome, List, length}
 use Rattle.std.specs.Prelude.{is_some, slice_index_or}
+use Rattle.std.specs.Option.{option_map}
 use Rattle.sixel_grammar.specs.declared.command.Event.{Event}
 use Rattle.sixel_grammar.specs.declared.command.Placed.{Placed}
 use Rattle.sixel_grammar.specs.Document.{events_of}
@@ -26,19 +27,19 @@ pub record IsUndrawn (events : List Event) : Type 0 where
   pub uncovered : (x y : ℕ) → is_covered events x y ≡ false
   pub no_register : (x y : ℕ) → register_at events x y ≡ None
 
--- the grid has the size of the box, and each pixel has the register that painted it last, if any
-pub record IsDrawn (s : Grid) (events : List Event) : Type 0 where
+-- the grid has the size of the box, and each pixel has what is kept of the register that painted it last, if any
+pub record IsDrawn (kept : ℕ → ℕ) (s : Grid) (events : List Event) : Type 0 where
   pub box : raster_before events ≡ Some (box_of s)
   pub width : IsTrue (is_side s.width)
   pub height : IsTrue (is_side s.height)
   pub pixels : length s.cells ≡ s.width * s.height
-  pub registers : (x y : ℕ) → x < s.width → y < s.height → cell s x y ≡ register_at events x y
+  pub registers : (x y : ℕ) → x < s.width → y < s.height → cell s x y ≡ option_map kept (register_at events x y)
   pub covered : (x y : ℕ) → x < s.width → y < s.height → is_some (cell s x y) ≡ is_covered events x y
 
--- the grid that the events leave: none before the first raster attributes
-abbrev pub IsGridAfter : Option Grid → List Event → Type 0
-IsGridAfter None events = IsUndrawn events
-IsGridAfter (Some s) events = IsDrawn s events
+-- the grid that the events leave, with what is kept of the registers: none before the first raster attributes
+abbrev pub IsGridAfter : (ℕ → ℕ) → Option Grid → List Event → Type 0
+IsGridAfter kept None events = IsUndrawn events
+IsGridAfter kept (Some s) events = IsDrawn kept s events
 
 -- the definition gives a colour in range, to one of this many registers
 abbrev pub IsGood : ℕ → ℕ → Definition → Type 0
@@ -65,14 +66,14 @@ AreColoured registers events = (x y r : ℕ) → register_at events x y ≡ Some
     → (r < registers) × IsSome (definition_of events r)
 
 -- no rule is broken, and the drawing state and the grid are those after the events
-pub record StandsUnbroken (registers : ℕ) (state : DrawingState) (grid : Option Grid) (events : List Event) : Type
-    0 where
+pub record StandsUnbroken (registers : ℕ) (kept : ℕ → ℕ) (state : DrawingState) (grid : Option Grid)
+    (events : List Event) : Type 0 where
   pub unbroken : BreaksNone registers last_rule events
   pub state_is : IsStateAfter registers state events
-  pub grid_is : IsGridAfter grid events
+  pub grid_is : IsGridAfter kept grid events
   pub coloured : AreColoured registers events
 
 -- the finding is the first broken rule; or there is none, and no rule is broken
-abbrev pub JudgesAfter : ℕ → Option Finding → DrawingState → Option Grid → List Placed → Type 0
-JudgesAfter registers None state grid placed = StandsUnbroken registers state grid (events_of placed)
-JudgesAfter registers (Some finding) state grid placed = (i : ℕ) × IsFinding registers placed finding i
+abbrev pub JudgesAfter : ℕ → (ℕ → ℕ) → Option Finding → DrawingState → Option Grid → List Placed → Type 0
+JudgesAfter registers kept None state grid placed = StandsUnbroken registers kept state grid (events_of placed)
+JudgesAfter registers kept (Some finding) state grid placed = (i : ℕ) × IsFinding registers placed finding i

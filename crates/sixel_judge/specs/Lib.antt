@@ -9,3 +9,4 @@ pub mod Stretches
 pub mod Portable
 pub mod Alarms
 pub mod Laws
+pub mod Outcomes

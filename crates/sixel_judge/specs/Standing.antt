@@ -9,6 +9,7 @@ use Rattle.sixel_grammar.specs.Faults.{ArePrefix}
 use Rattle.sixel_grammar.specs.Spelling.{IsSpellable}
 use Rattle.sixel_model.specs.Events.{is_finish}
 use Rattle.sixel_model.specs.Grids.{Grid}
+use Rattle.sixel_plane.specs.Covers.{kept_by}
 use Rattle.sixel_judge.specs.declared.drawing_state.DrawingState.{DrawingState}
 use Rattle.sixel_judge.specs.declared.progress.Progress.{Progress}
 use Rattle.sixel_judge.specs.declared.progress.Progress.TheVariants.{Fresh, Begun, Whole}
@@ -48,8 +49,10 @@ is_whole_at Whole = true
 abbrev pub progress_with : Event → Progress
 progress_with e = if is_finish e then Whole else Begun
 
--- what a checker keeps: the first broken rule, or else what the rules need to know of the events; and the progress
+-- what a checker keeps: the first broken rule, or else what the rules need to know of the events; and the progress.
+-- `keeps` says whether its grid has the registers that paint
 pub record CheckerValue : Type 0 where
+  pub keeps : Bool
   pub finding : Option Finding
   pub state : DrawingState
   pub grid : Option Grid
@@ -59,5 +62,6 @@ pub record CheckerValue : Type 0 where
 -- commands and a finish
 unfoldable pub StandsAfter : ℕ → CheckerValue → List Placed → Type 0
 StandsAfter registers checker seen =
-    JudgesAfter registers checker.finding checker.state checker.grid seen × (checker.progress ≡ progress_of seen)
+    JudgesAfter registers (kept_by checker.keeps) checker.finding checker.state checker.grid seen
+    × (checker.progress ≡ progress_of seen)
     × ArePrefix (events_of seen) × AllByRecursion IsSpellable (events_of seen)

@@ -33,14 +33,13 @@ abbrev pub moved_by : ℕ → DrawingState → DrawingState
 moved_by count state = record state { column = state.column + count }
 
 -- the drawing state and the grid after a painted stretch, which breaks no rule
-pub record IsStretched (bytes : List ℕ) (count : ℕ) (state : DrawingState) (s : Grid) (next : DrawingState)
-    (drawn : Grid) :
-    Type 0 where
+pub record IsStretched (kept : ℕ → ℕ) (bytes : List ℕ) (count : ℕ) (state : DrawingState) (s : Grid)
+    (next : DrawingState) (drawn : Grid) : Type 0 where
   pub register : ℕ
   pub painted_in : IsPaintedIn state register
   pub fits : Fits state count s
   pub next_is : next ≡ moved_by count state
-  pub drawn_is : drawn ≡ stretched_grid s state.column state.band count (sixel_of bytes count) register
+  pub drawn_is : drawn ≡ stretched_grid s state.column state.band count (sixel_of bytes count) (kept register)
 
 -- the byte of the sixel without a set bit: `?`
 abbrev pub blank_byte : ℕ
@@ -63,7 +62,7 @@ pub record IsPassed (bytes : List ℕ) (count : ℕ) (state : DrawingState) (s :
   pub drawn_is : drawn ≡ s
 
 -- one of these two; there is a grid
-abbrev pub IsStretchedIn : List ℕ → ℕ → DrawingState → Option Grid → DrawingState → Option Grid → Type 0
-IsStretchedIn bytes count state (Some s) next (Some drawn) =
-    IsStretched bytes count state s next drawn ⊎ IsPassed bytes count state s next drawn
-IsStretchedIn bytes count state _ next _ = ⊥
+abbrev pub IsStretchedIn : (ℕ → ℕ) → List ℕ → ℕ → DrawingState → Option Grid → DrawingState → Option Grid → Type 0
+IsStretchedIn kept bytes count state (Some s) next (Some drawn) =
+    IsStretched kept bytes count state s next drawn ⊎ IsPassed bytes count state s next drawn
+IsStretchedIn kept bytes count state _ next _ = ⊥

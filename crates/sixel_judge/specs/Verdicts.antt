@@ -18,6 +18,8 @@ use Rattle.sixel_judge.specs.declared.rule.Rule.TheVariants.{Outside, Uncovered,
 use Rattle.sixel_judge.specs.declared.verdict.Finding.{Finding}
 use Rattle.sixel_judge.specs.declared.verdict.Verdict.{Verdict}
 use Rattle.sixel_judge.specs.declared.verdict.Verdict.TheVariants.{Portable, Broken}
+use Rattle.sixel_judge.specs.declared.verdict.Outcome.{Outcome}
+use Rattle.sixel_judge.specs.declared.verdict.Outcome.TheVariants.{Portable as PortableSize, Broken as BrokenRule}
 
 -- the number of each rule
 abbrev pub number_of : Rule → ℕ
@@ -67,3 +69,8 @@ abbrev pub IsVerdict : ℕ → List Placed → Verdict → Type 0
 IsVerdict registers placed (Portable picture) =
     BreaksNone registers last_rule (events_of placed) × (picture ≡ picture_left registers (events_of placed))
 IsVerdict registers placed (Broken finding) = (i : ℕ) × IsFinding registers placed finding i
+
+-- what is left of a verdict without the picture: its size, or the finding
+abbrev pub outcome_of : Verdict → Outcome
+outcome_of (Portable picture) = PortableSize picture.width picture.height
+outcome_of (Broken finding) = BrokenRule finding

@@ -13,34 +13,36 @@ ghost use Rattle.sixel_judge.specs.Alarms.{MattersUnlessConservative};
 ghost use Rattle.sixel_judge.specs.Growth.{MayGrow};
 ghost use Rattle.sixel_judge.specs.Portable.{IsShownEverywhere};
 ghost use Rattle.sixel_judge.specs.Standing.{StandsAfter, expects, is_whole};
+ghost use Rattle.sixel_judge.specs.Outcomes.{IsOutcome};
 ghost use Rattle.sixel_judge.specs.Verdicts.{IsVerdict};
 
 use crate::judge::Judge;
 use crate::progress::Progress;
-use crate::verdict::Verdict;
+use crate::verdict::{Outcome, Verdict};
 use sixel_grammar::{Event, Placed};
 use sixel_model::Profile;
-use sixel_plane::Plane;
+use sixel_plane::{Cover, Plane};
 use std::alloc::{AllocError, Global};
 use std::marker::Model;
 
-/// Checks events as they come: a start, commands, a finish. `P` is the kind of plane that holds the pixels.
+/// Checks events as they come: a start, commands, a finish. `P` holds what is painted of the box.
 ///
 /// It keeps none of the events. In contracts, `StandsAfter` says which events it has seen.
 #[derive(Drop)]
-pub struct Checker<P: Plane> {
+pub struct Checker<P: Cover> {
     alloc: Global,
     judge: Judge<P>,
     progress: Progress,
 }
 
-impl<P: Plane> Model for Checker<P> {
+impl<P: Cover> Model for Checker<P> {
     ghost use Rattle.std.specs.Option.{option_map};
     ghost use Rattle.sixel_judge.specs.Standing.{CheckerValue};
 
     ghost Value = { CheckerValue };
 
     ghost view = { λ c. record {
+      keeps = P.keeps;
       finding = c.judge.finding;
       state = c.judge.state;
       grid = option_map P.grid c.judge.plane;
@@ -48,7 +50,7 @@ impl<P: Plane> Model for Checker<P> {
     } };
 }
 
-impl<P: Plane> Checker<P> {
+impl<P: Cover> Checker<P> {
     /// A checker that has seen no event, for pictures with the registers of `profile`. This allocates nothing; `push`
     /// allocates the pixels of the box from `alloc`.
     pub fn new(alloc: Global, profile: Profile) -> Checker<P>
@@ -113,6 +115,18 @@ impl<P: Plane> Checker<P> {
         self.judge.try_take_stretch(bytes, count)
     }
 
+    /// The verdict on the whole list, without the picture.
+    pub fn outcome(self) -> Outcome
+        requires whole { (registers : ℕ) × (seen : List PlacedValue) × StandsAfter registers self seen
+            × IsTrue (is_whole seen) }
+        ensures { (registers : ℕ) (seen : List PlacedValue) → StandsAfter registers self seen
+            → IsOutcome registers seen result }
+    {
+        self.judge.outcome()
+    }
+}
+
+impl<P: Plane> Checker<P> {
     /// The verdict on the whole list. It allocates nothing, and is always `Ok`.
     pub fn finish(self) -> Result<Verdict, AllocError>
         requires whole { (registers : ℕ) × (seen : List PlacedValue) × StandsAfter registers self seen

@@ -3,6 +3,7 @@
 ghost use Rattle.std.specs.Prelude.{◌≡◌, ◌<◌, ◌≤◌, ◌++◌, ◌∷◌, [], ℕ, IsSome, IsTrue, List, None, OnOk, OnErr, false};
 ghost use Rattle.std.specs.Prelude.{length, slice_index, true};
 ghost use Rattle.sixel_grammar.specs.Bytes.{is_data};
+ghost use Rattle.sixel_plane.specs.Covers.{kept_by};
 ghost use Rattle.sixel_judge.specs.Stretches.{IsStretchedIn};
 ghost use Rattle.std.specs.Option.{option_map};
 ghost use Rattle.sixel_grammar.specs.declared.command.Placed.{Placed as PlacedValue};
@@ -11,30 +12,31 @@ ghost use Rattle.sixel_grammar.specs.Spelling.{IsSpellable};
 ghost use Rattle.sixel_model.specs.Profiles.{count_of};
 ghost use Rattle.sixel_judge.specs.Growth.{MayGrow};
 ghost use Rattle.sixel_judge.specs.Judging.{JudgesAfter};
-ghost use Rattle.sixel_judge.specs.Verdicts.{IsVerdict};
+ghost use Rattle.sixel_judge.specs.Verdicts.{IsVerdict, outcome_of};
+ghost use Rattle.sixel_judge.specs.declared.verdict.Verdict.{Verdict as VerdictValue};
 
 use crate::drawing_state::DrawingState;
 use crate::pixels::{draw, picture_of, violation_of};
 use crate::stretch::try_take_stretch;
-use crate::verdict::{Finding, Verdict};
+use crate::verdict::{Finding, Outcome, Verdict};
 use sixel_grammar::Placed;
 use sixel_model::Profile;
-use sixel_plane::Plane;
+use sixel_plane::{Cover, Plane};
 use std::alloc::{AllocError, Global};
 
 /// The state after some events: the first broken rule, or, while none is broken, what the rules need to know of them.
 #[derive(Drop)]
-pub(crate) struct Judge<P: Plane> {
+pub(crate) struct Judge<P: Cover> {
     pub finding: Option<Finding>,
     pub state: DrawingState,
     /// The pixels of the box, from the first raster attributes on.
     pub plane: Option<P>,
 }
 
-impl<P: Plane> Judge<P> {
+impl<P: Cover> Judge<P> {
     /// The state before any event.
     pub(crate) fn new(profile: Profile) -> Judge<P>
-        ensures { JudgesAfter (count_of profile) result.finding result.state (option_map P.grid result.plane) [] }
+        ensures { JudgesAfter (count_of profile) (kept_by P.keeps) result.finding result.state (option_map P.grid result.plane) [] }
     {
         Judge {
             finding: None,
@@ -49,15 +51,15 @@ impl<P: Plane> Judge<P> {
     #[inline(always)]
     pub(crate) fn step(&mut self, alloc: Global, placed: &Placed) -> Result<(), AllocError>
         requires stands { (registers : ℕ) × (seen : List PlacedValue)
-            × JudgesAfter registers self.old.finding self.old.state (option_map P.grid self.old.plane) seen }
+            × JudgesAfter registers (kept_by P.keeps) self.old.finding self.old.state (option_map P.grid self.old.plane) seen }
         requires spellable { IsSpellable placed.now.event }
         ensures ok { OnOk result ((registers : ℕ) (seen : List PlacedValue)
-            → JudgesAfter registers self.old.finding self.old.state (option_map P.grid self.old.plane) seen
-            → JudgesAfter registers self.new.finding self.new.state (option_map P.grid self.new.plane)
+            → JudgesAfter registers (kept_by P.keeps) self.old.finding self.old.state (option_map P.grid self.old.plane) seen
+            → JudgesAfter registers (kept_by P.keeps) self.new.finding self.new.state (option_map P.grid self.new.plane)
             (seen ++ placed.now ∷ [])) }
         ensures err { OnErr result (self.new ≡ self.old) }
         ensures grows { OnErr result ((registers : ℕ) (seen : List PlacedValue)
-            → JudgesAfter registers self.old.finding self.old.state (option_map P.grid self.old.plane) seen
+            → JudgesAfter registers (kept_by P.keeps) self.old.finding self.old.state (option_map P.grid self.old.plane) seen
             → MayGrow registers (events_of seen) placed.now.event) }
     {
         if self.finding.is_some() {
@@ -85,12 +87,12 @@ impl<P: Plane> Judge<P> {
     #[inline(always)]
     pub(crate) fn try_take_stretch(&mut self, bytes: &[u8], count: usize) -> bool
         requires stands { (registers : ℕ) × (seen : List PlacedValue)
-            × JudgesAfter registers self.old.finding self.old.state (option_map P.grid self.old.plane) seen }
+            × JudgesAfter registers (kept_by P.keeps) self.old.finding self.old.state (option_map P.grid self.old.plane) seen }
         requires sixels { (k : ℕ) → k < count → IsTrue (is_data (slice_index bytes.now k)) }
         requires bytes { count ≤ length bytes.now }
         ensures finding { self.new.finding ≡ self.old.finding }
         ensures broken { IsSome self.old.finding → self.new ≡ self.old }
-        ensures taken { result ≡ true → self.old.finding ≡ None → IsStretchedIn bytes.now count
+        ensures taken { result ≡ true → self.old.finding ≡ None → IsStretchedIn (kept_by P.keeps) bytes.now count
             self.old.state (option_map P.grid self.old.plane) self.new.state (option_map P.grid self.new.plane) }
         ensures kept { result ≡ false → self.new ≡ self.old }
     {
@@ -103,13 +105,39 @@ impl<P: Plane> Judge<P> {
         }
     }
 
+    /// The verdict on a whole list, without the picture.
+    pub(crate) fn outcome(self) -> Outcome
+        requires { (registers : ℕ) × (seen : List PlacedValue)
+            × JudgesAfter registers (kept_by P.keeps) self.finding self.state (option_map P.grid self.plane) seen
+            × AreWhole (events_of seen) }
+        ensures { (registers : ℕ) (seen : List PlacedValue)
+            → JudgesAfter registers (kept_by P.keeps) self.finding self.state (option_map P.grid self.plane) seen
+            → (verdict : VerdictValue) × IsVerdict registers seen verdict × (result ≡ outcome_of verdict) }
+    {
+        let Judge {
+            finding,
+            state: _,
+            plane,
+        } = self;
+        match (finding, plane) {
+            (Some(finding), _) => Outcome::Broken(finding),
+            (None, Some(plane)) => Outcome::Portable {
+                width: plane.width(),
+                height: plane.height(),
+            },
+            (None, None) => unreachable!(),
+        }
+    }
+}
+
+impl<P: Plane> Judge<P> {
     /// The verdict on a whole list.
     pub(crate) fn verdict(self) -> Verdict
         requires { (registers : ℕ) × (seen : List PlacedValue)
-            × JudgesAfter registers self.finding self.state (option_map P.grid self.plane) seen
+            × JudgesAfter registers (kept_by P.keeps) self.finding self.state (option_map P.grid self.plane) seen
             × AreWhole (events_of seen) }
         ensures { (registers : ℕ) (seen : List PlacedValue)
-            → JudgesAfter registers self.finding self.state (option_map P.grid self.plane) seen
+            → JudgesAfter registers (kept_by P.keeps) self.finding self.state (option_map P.grid self.plane) seen
             → IsVerdict registers seen result }
     {
         let Judge {

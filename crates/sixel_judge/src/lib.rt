@@ -20,4 +20,4 @@ mod violation;
 
 pub use checker::Checker;
 pub use rule::Rule;
-pub use verdict::{Finding, Verdict};
+pub use verdict::{Finding, Outcome, Verdict};

@@ -9,6 +9,7 @@ ghost use Rattle.sixel_model.specs.Events.{raster_of};
 ghost use Rattle.sixel_model.specs.RuleNumbers.{eight_bit_rule, outside_rule, uncovered_rule};
 ghost use Rattle.sixel_model.specs.Rules.{FallsOutside, StaysBlank, palette_left, picture_left};
 ghost use Rattle.sixel_model.specs.Grids.{IsFull};
+ghost use Rattle.sixel_plane.specs.Covers.{kept_by};
 ghost use Rattle.sixel_judge.specs.Violations.{BreaksNoRule, IsViolationOf, NoneBelow};
 ghost use Rattle.sixel_judge.specs.Judging.{IsStateAfter, IsDrawn, IsGridAfter, IsUndrawn, StandsUnbroken, box_of};
 ghost use Rattle.sixel_judge.specs.Outside.{IsFirstIfAny};
@@ -22,12 +23,12 @@ use crate::rules::broken_rule;
 use crate::violation::Violation;
 use sixel_grammar::Event;
 use sixel_model::{Palette, Picture};
-use sixel_plane::Plane;
+use sixel_plane::{Cover, Plane};
 use std::alloc::{AllocError, Global};
 
 /// The first pixel outside the box, in row order, that the event paints.
 #[inline(always)]
-fn pixel_outside<P: Plane>(state: &DrawingState, plane: &P, event: &Event) -> Option<(u64, u64)>
+fn pixel_outside<P: Cover>(state: &DrawingState, plane: &P, event: &Event) -> Option<(u64, u64)>
     ensures { (registers : ℕ) (before : List EventValue) → IsStateAfter registers state.now before
         → IsFirstIfAny (FallsOutside before event.now (box_of (P.grid plane.now))) result }
 {
@@ -42,8 +43,8 @@ fn pixel_outside<P: Plane>(state: &DrawingState, plane: &P, event: &Event) -> Op
 }
 
 /// The first pixel of the box that is blank.
-fn pixel_blank<P: Plane>(plane: &P) -> Option<(u64, u64)>
-    ensures { (before : List EventValue) → IsDrawn (P.grid plane.now) before
+fn pixel_blank<P: Cover>(plane: &P) -> Option<(u64, u64)>
+    ensures { (before : List EventValue) → IsDrawn (kept_by P.keeps) (P.grid plane.now) before
         → IsFirstIfAny (StaysBlank before (box_of (P.grid plane.now))) result }
 {
     match plane.first_blank() {
@@ -70,8 +71,8 @@ fn violation_of_eight_bit(event: &Event) -> Option<Violation>
 
 /// A violation of `Uncovered` or of `EightBit`, tested in this order.
 #[inline]
-fn violation_of_end<P: Plane>(plane: &P, event: &Event) -> Option<Violation>
-    ensures { (registers : ℕ) (before : List EventValue) → IsDrawn (P.grid plane.now) before
+fn violation_of_end<P: Cover>(plane: &P, event: &Event) -> Option<Violation>
+    ensures { (registers : ℕ) (before : List EventValue) → IsDrawn (kept_by P.keeps) (P.grid plane.now) before
         → NoneBelow registers uncovered_rule before event.now → IsViolationOf registers before event.now result }
 {
     if !is_finish(event) {
@@ -88,13 +89,13 @@ fn violation_of_end<P: Plane>(plane: &P, event: &Event) -> Option<Violation>
 
 /// A violation of `Outside`, `Uncovered` or `EightBit`, tested in this order.
 #[inline(always)]
-fn violation_of_pixels<P: Plane>(
+fn violation_of_pixels<P: Cover>(
     state: &DrawingState,
     plane: &P,
     event: &Event,
 ) -> Option<Violation>
     ensures { (registers : ℕ) (before : List EventValue) → IsStateAfter registers state.now before
-        → IsDrawn (P.grid plane.now) before → NoneBelow registers outside_rule before event.now
+        → IsDrawn (kept_by P.keeps) (P.grid plane.now) before → NoneBelow registers outside_rule before event.now
         → IsViolationOf registers before event.now result }
 {
     match pixel_outside(state, plane, event) {
@@ -108,14 +109,14 @@ fn violation_of_pixels<P: Plane>(
 
 /// The violation of the lowest-numbered rule that the event breaks.
 #[inline(always)]
-pub(crate) fn violation_of<P: Plane>(
+pub(crate) fn violation_of<P: Cover>(
     state: &DrawingState,
     plane: &Option<P>,
     event: &Event,
 ) -> Option<Violation>
     requires { IsBelow state.now }
     ensures { (registers : ℕ) (before : List EventValue) → IsStateAfter registers state.now before
-        → IsGridAfter (option_map P.grid plane.now) before → IsViolationOf registers before event.now result }
+        → IsGridAfter (kept_by P.keeps) (option_map P.grid plane.now) before → IsViolationOf registers before event.now result }
 {
     match (broken_rule(state, plane.is_some(), event), plane) {
         (Some(rule), _) => Some(Violation { rule, pixel: None }),
@@ -126,12 +127,12 @@ pub(crate) fn violation_of<P: Plane>(
 
 /// Paints the pixels of a data command.
 #[inline(always)]
-fn paint<P: Plane>(state: &DrawingState, plane: &mut P, event: &Event)
+fn paint<P: Cover>(state: &DrawingState, plane: &mut P, event: &Event)
     requires { (registers : ℕ) × (before : List EventValue) × IsStateAfter registers state.now before
-        × IsDrawn (P.grid plane.old) before × BreaksNoRule registers before event.now × IsSpellable event.now }
+        × IsDrawn (kept_by P.keeps) (P.grid plane.old) before × BreaksNoRule registers before event.now × IsSpellable event.now }
     ensures { (registers : ℕ) (before : List EventValue) → IsStateAfter registers state.now before
-        → IsDrawn (P.grid plane.old) before → BreaksNoRule registers before event.now
-        → IsDrawn (P.grid plane.new) (before ++ event.now ∷ []) }
+        → IsDrawn (kept_by P.keeps) (P.grid plane.old) before → BreaksNoRule registers before event.now
+        → IsDrawn (kept_by P.keeps) (P.grid plane.new) (before ++ event.now ∷ []) }
 {
     if !is_painting(event) {
         return;
@@ -149,11 +150,11 @@ fn paint<P: Plane>(state: &DrawingState, plane: &mut P, event: &Event)
 }
 
 /// A blank plane of the declared size for raster attributes; `None` for any other event.
-fn first_plane<P: Plane>(alloc: Global, event: &Event) -> Result<Option<P>, AllocError>
+fn first_plane<P: Cover>(alloc: Global, event: &Event) -> Result<Option<P>, AllocError>
     requires { (registers : ℕ) × (before : List EventValue) × BreaksNoRule registers before event.now }
     ensures ok { IfOk result (λ plane. (registers : ℕ) (before : List EventValue) → IsUndrawn before
         → BreaksNoRule registers before event.now
-        → IsGridAfter (option_map P.grid plane) (before ++ event.now ∷ [])) }
+        → IsGridAfter (kept_by P.keeps) (option_map P.grid plane) (before ++ event.now ∷ [])) }
     ensures declares { OnErr result (IsSome (raster_of event.now)) }
 {
     match sides_of(event) {
@@ -164,18 +165,18 @@ fn first_plane<P: Plane>(alloc: Global, event: &Event) -> Result<Option<P>, Allo
 
 /// Makes the plane at the first raster attributes, and paints on it after that.
 #[inline(always)]
-pub(crate) fn draw<P: Plane>(
+pub(crate) fn draw<P: Cover>(
     alloc: Global,
     state: &DrawingState,
     plane: &mut Option<P>,
     event: &Event,
 ) -> Result<(), AllocError>
     requires { (registers : ℕ) × (before : List EventValue) × IsStateAfter registers state.now before
-        × IsGridAfter (option_map P.grid plane.old) before × BreaksNoRule registers before event.now
+        × IsGridAfter (kept_by P.keeps) (option_map P.grid plane.old) before × BreaksNoRule registers before event.now
         × IsSpellable event.now }
     ensures ok { OnOk result ((registers : ℕ) (before : List EventValue) → IsStateAfter registers state.now before
-        → IsGridAfter (option_map P.grid plane.old) before → BreaksNoRule registers before event.now
-        → IsGridAfter (option_map P.grid plane.new) (before ++ event.now ∷ [])) }
+        → IsGridAfter (kept_by P.keeps) (option_map P.grid plane.old) before → BreaksNoRule registers before event.now
+        → IsGridAfter (kept_by P.keeps) (option_map P.grid plane.new) (before ++ event.now ∷ [])) }
     ensures err { OnErr result (plane.new ≡ plane.old) }
     ensures first { OnErr result (plane.old ≡ None) }
     ensures declares { OnErr result (IsSome (raster_of event.now)) }
@@ -204,8 +205,8 @@ fn left_palette(state: DrawingState) -> Palette
 pub(crate) fn picture_of<P: Plane>(state: DrawingState, plane: P) -> Picture
     requires full { IsFull (P.grid plane) }
     requires stands { (registers : ℕ) × (events : List EventValue)
-        × StandsUnbroken registers state (Some (P.grid plane)) events }
-    ensures { (registers : ℕ) (events : List EventValue) → StandsUnbroken registers state (Some (P.grid plane)) events
+        × StandsUnbroken registers (kept_by P.keeps) state (Some (P.grid plane)) events }
+    ensures { (registers : ℕ) (events : List EventValue) → StandsUnbroken registers (kept_by P.keeps) state (Some (P.grid plane)) events
         → result ≡ picture_left registers events }
 {
     let width = plane.width();

@@ -3,17 +3,18 @@
 ghost use Rattle.std.specs.Prelude.{◌≡◌, ◌<◌, ◌≤◌, ◌+◌, ◌⊎◌, ◌↔◌, ℕ, IsTrue, false, length, slice_index, true};
 ghost use Rattle.sixel_grammar.specs.Bytes.{is_data};
 ghost use Rattle.sixel_plane.specs.Stretches.{sixel_of, stretched_grid};
+ghost use Rattle.sixel_plane.specs.Covers.{kept_by};
 ghost use Rattle.sixel_judge.specs.DrawingState.{AreColouredIfPainted, IsBelow};
 ghost use Rattle.sixel_judge.specs.Stretches.{AreBlank, Fits, IsPaintedIn, IsPassed, IsStretched};
 
 use crate::drawing_state::DrawingState;
 use crate::outside::is_inside;
-use sixel_plane::Plane;
+use sixel_plane::Cover;
 
 /// Paints the first `count` bytes of `bytes`, all of them data, in one step. Returns whether it did: only if they lie
 /// in the box, a command painted in the known register before (so they break no rule), and the plane can paint them.
 #[inline(always)]
-fn try_paint_stretch<P: Plane>(
+fn try_paint_stretch<P: Cover>(
     state: &DrawingState,
     plane: &mut P,
     bytes: &[u8],
@@ -26,7 +27,7 @@ fn try_paint_stretch<P: Plane>(
     ensures painted { result ≡ true → (register : ℕ) × IsPaintedIn state.now register
         × Fits state.now count (P.grid plane.old)
         × (P.grid plane.new ≡ stretched_grid (P.grid plane.old) state.now.column state.now.band count
-        (sixel_of bytes.now count) register) }
+        (sixel_of bytes.now count) (kept_by P.keeps register)) }
     ensures columns { result ≡ true → state.now.column + count ≤ u32.MAX }
     ensures kept { result ≡ false → plane.new ≡ plane.old }
 {
@@ -63,7 +64,7 @@ fn is_blank(bytes: &[u8], count: usize) -> bool
 /// painted in one step, or if all are blank. Blank sixels break no rule and paint nothing, wherever they lie and
 /// whichever register is selected.
 #[inline(always)]
-pub(crate) fn try_take_stretch<P: Plane>(
+pub(crate) fn try_take_stretch<P: Cover>(
     state: &mut DrawingState,
     plane: &mut P,
     bytes: &[u8],
@@ -74,7 +75,7 @@ pub(crate) fn try_take_stretch<P: Plane>(
     requires sixels { (k : ℕ) → k < count → IsTrue (is_data (slice_index bytes.now k)) }
     requires bytes { count ≤ length bytes.now }
     ensures taken { result ≡ true
-        → IsStretched bytes.now count state.old (P.grid plane.old) state.new (P.grid plane.new)
+        → IsStretched (kept_by P.keeps) bytes.now count state.old (P.grid plane.old) state.new (P.grid plane.new)
         ⊎ IsPassed bytes.now count state.old (P.grid plane.old) state.new (P.grid plane.new) }
     ensures kept { result ≡ false → (state.new ≡ state.old) × (plane.new ≡ plane.old) }
 {

@@ -27,3 +27,12 @@ pub enum Verdict {
     /// everywhere.
     Broken(Finding),
 }
+
+/// The size of the picture that a document leaves, or the first rule that it breaks: a `Verdict` without the picture.
+#[derive(Clone, Copy, Debug, PartialEq, Eq, Drop)]
+pub enum Outcome {
+    /// No rule is broken, and the picture has this size in pixels.
+    Portable { width: u32, height: u32 },
+    /// A rule is broken.
+    Broken(Finding),
+}

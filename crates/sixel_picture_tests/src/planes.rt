@@ -1,11 +1,11 @@
-//! Both planes get the same runs, and have the same pixels.
+//! Planes of all kinds get the same runs, and have the same pixels.
 
 ghost use Rattle.std.specs.Prelude.{◌≡◌, ◌<◌, ◌≤◌, ◌+◌, ◌*◌, ℕ, IsTrue, length, slice_index};
 ghost use Rattle.sixel_grammar.specs.Bytes.{is_data};
 ghost use Rattle.std.specs.Int.{bit_at};
 
 use sixel_model::is_set;
-use sixel_plane::{BandPlane, BytePlane, Plane};
+use sixel_plane::{BandPlane, BytePlane, Cover, CoverPlane, Plane};
 use std::alloc::{AllocError, Global};
 use std::test::Fail;
 
@@ -33,7 +33,7 @@ fn rows_fit(bits: u8, band: u32, height: u32) -> bool
 }
 
 /// Paints a run, if it lies in the plane. Returns whether it does.
-fn paint<P: Plane>(plane: &mut P, run: Run) -> bool {
+fn paint<P: Cover>(plane: &mut P, run: Run) -> bool {
     let Run {
         column,
         band,
@@ -60,30 +60,73 @@ fn pixel<P: Plane>(plane: &P, x: u32, y: u32) -> Option<u8> {
     }
 }
 
+/// Whether a pixel lies in the plane and is blank.
+fn is_blank_at<P: Cover>(plane: &P, x: u32, y: u32) -> bool {
+    x < plane.width() && y < plane.height() && plane.is_blank(x, y)
+}
+
+/// A plane of each kind, which get the same runs.
+#[derive(Drop)]
+struct Planes {
+    bytes: BytePlane,
+    bands: BandPlane,
+    covers: CoverPlane,
+}
+
+/// Blank planes of this size.
+fn blank_planes(alloc: Global, width: u32, height: u32) -> Result<Planes, AllocError>
+    requires width { (1 ≤ width) × (width ≤ 2048) }
+    requires height { (1 ≤ height) × (height ≤ 2048) }
+{
+    Ok(Planes {
+        bytes: BytePlane::blank(alloc, width, height)?,
+        bands: BandPlane::blank(alloc, width, height)?,
+        covers: CoverPlane::blank(alloc, width, height)?,
+    })
+}
+
+/// Whether the planes have the same pixel here.
+fn is_same_pixel(planes: &Planes, column: u32, row: u32) -> bool {
+    let register = pixel(&planes.bytes, column, row);
+    let is_blank = register.is_none();
+    register == pixel(&planes.bands, column, row)
+        && is_blank == is_blank_at(&planes.bytes, column, row)
+        && is_blank == is_blank_at(&planes.bands, column, row)
+        && is_blank == is_blank_at(&planes.covers, column, row)
+}
+
 /// Whether the planes have the same pixels in this row.
-fn is_same_row(bytes: &BytePlane, bands: &BandPlane, row: u32) -> bool {
-    for column in 0..bytes.width() {
-        if pixel(bytes, column, row) != pixel(bands, column, row) {
+fn is_same_row(planes: &Planes, row: u32) -> bool {
+    for column in 0..planes.bytes.width() {
+        if !is_same_pixel(planes, column, row) {
             return false;
         }
     }
     true
 }
 
+/// The size of a plane, and its first blank pixel.
+fn seen_of<P: Cover>(plane: &P) -> (u32, u32, Option<(u32, u32)>) {
+    (plane.width(), plane.height(), plane.first_blank())
+}
+
 /// Whether the planes have the same pixels.
-fn is_same(bytes: &BytePlane, bands: &BandPlane) -> bool {
-    for row in 0..bytes.height() {
-        if !is_same_row(bytes, bands, row) {
+fn is_same(planes: &Planes) -> bool {
+    for row in 0..planes.bytes.height() {
+        if !is_same_row(planes, row) {
             return false;
         }
     }
-    (bytes.width(), bytes.height()) == (bands.width(), bands.height())
-        && bytes.first_blank() == bands.first_blank()
+    let seen = seen_of(&planes.bytes);
+    seen == seen_of(&planes.bands) && seen == seen_of(&planes.covers)
 }
 
-/// Paints a run in both planes. Returns whether both took it and have the same pixels.
-fn paint_both(bytes: &mut BytePlane, bands: &mut BandPlane, run: Run) -> bool {
-    paint(bytes, run) && paint(bands, run) && is_same(bytes, bands)
+/// Paints a run in all planes. Returns whether they took it and have the same pixels.
+fn paint_all(planes: &mut Planes, run: Run) -> bool {
+    paint(&mut planes.bytes, run)
+        && paint(&mut planes.bands, run)
+        && paint(&mut planes.covers, run)
+        && is_same(planes)
 }
 
 /// Nine runs that leave a plane of nine rows without a blank pixel. Some overlap; some have no bits or no columns.
@@ -112,20 +155,16 @@ fn run_at(width: u32, index: u32) -> Run
 }
 
 #[test]
-fn both_planes_show_the_same(rt: HostRuntime) -> Result<(), Fail> {
+fn all_planes_show_the_same(rt: HostRuntime) -> Result<(), Fail> {
     for width in [1, 31, 32, 33, 64, 2048] {
         assert!(rt; 0 < width && width <= 2048);
-        let mut bytes = BytePlane::blank(rt.alloc(), width, 9)?;
-        let mut bands = BandPlane::blank(rt.alloc(), width, 9)?;
-        assert!(rt; is_same(&bytes, &bands), "blank, {width} wide");
+        let mut planes = blank_planes(rt.alloc(), width, 9)?;
+        assert!(rt; is_same(&planes), "blank, {width} wide");
         for index in 0..9 {
             let run = run_at(width, index);
-            assert!(rt;
-                paint_both(&mut bytes, &mut bands, run),
-                "run {index}, {width} wide"
-            );
+            assert!(rt; paint_all(&mut planes, run), "run {index}, {width} wide");
         }
-        assert!(rt; bands.first_blank().is_none(), "{width} wide");
+        assert!(rt; planes.bands.first_blank().is_none(), "{width} wide");
     }
     Ok(())
 }
@@ -144,7 +183,7 @@ fn are_sixels(bytes: &[u8], count: usize) -> bool
 }
 
 /// Paints a stretch of `count` bytes in a register, in one step. Returns whether the plane could.
-fn stretch(plane: &mut BandPlane, column: u32, bytes: &[u8], count: u32, register: u8) -> bool {
+fn stretch<P: Cover>(plane: &mut P, column: u32, bytes: &[u8], count: u32, register: u8) -> bool {
     let width = plane.width();
     let is_inside = column <= width && count <= width - column && plane.height() >= 6;
     let count = count as usize;
@@ -175,27 +214,20 @@ fn columns(plane: &mut BytePlane, column: u32, bytes: &[u8], count: u32, registe
 const SIXELS: &[u8] =
     b"?~@}A|B{CzDyExFwGvHuItJsKrLqMpNoOnPmQlRkSjTiUhVgWfXeYdZc[b\\a]`^_~~~~~~~~~~~~~~~~";
 
-/// Whether a stretch of the bands paints the same as its columns of the bytes one by one.
-fn paint_alike(
-    bytes: &mut BytePlane,
-    bands: &mut BandPlane,
-    column: u32,
-    sixels: &[u8],
-    count: u32,
-    register: u8,
-) -> bool {
-    stretch(bands, column, sixels, count, register)
-        && columns(bytes, column, sixels, count, register)
-        && is_same(bytes, bands)
+/// Whether a stretch of the bands and of the covers paints the same as its columns of the bytes one by one.
+fn paint_alike(planes: &mut Planes, column: u32, sixels: &[u8], count: u32, register: u8) -> bool {
+    stretch(&mut planes.bands, column, sixels, count, register)
+        && stretch(&mut planes.covers, column, sixels, count, register)
+        && columns(&mut planes.bytes, column, sixels, count, register)
+        && is_same(planes)
 }
 
 /// Whether new planes are painted alike by this stretch in register 7, and then by one of 40 columns in register 255.
 fn are_painted_alike(alloc: Global, column: u32, count: u32) -> Result<bool, AllocError> {
-    let mut bytes = BytePlane::blank(alloc, 100, 12)?;
-    let mut bands = BandPlane::blank(alloc, 100, 12)?;
+    let mut planes = blank_planes(alloc, 100, 12)?;
     Ok(
-        paint_alike(&mut bytes, &mut bands, column, SIXELS, count, 7)
-            && paint_alike(&mut bytes, &mut bands, 0, &SIXELS[1..], 40, 255),
+        paint_alike(&mut planes, column, SIXELS, count, 7)
+            && paint_alike(&mut planes, 0, &SIXELS[1..], 40, 255),
     )
 }
 
@@ -221,13 +253,13 @@ fn stretches_are_their_columns(rt: HostRuntime) -> Result<(), Fail> {
 }
 
 /// Whether a stretch in a blank plane of 40 by 6 pixels isn't painted, and nothing changes.
-fn is_left_out(plane: &mut BandPlane, column: u32, bytes: &[u8], count: u32) -> bool {
+fn is_left_out<P: Cover>(plane: &mut P, column: u32, bytes: &[u8], count: u32) -> bool {
     !stretch(plane, column, bytes, count, 7) && is_blank(plane, 40, 6)
 }
 
 /// Whether a plane of 40 by 6 pixels leaves out stretches without room after them, and then paints one with room.
-fn wants_room_for_lanes(alloc: Global) -> Result<bool, AllocError> {
-    let mut plane = BandPlane::blank(alloc, 40, 6)?;
+fn wants_room_for_lanes<P: Cover>(alloc: Global) -> Result<bool, AllocError> {
+    let mut plane = P::blank(alloc, 40, 6)?;
     Ok(
         is_left_out(&mut plane, 0, &SIXELS[..20], 5)
             && is_left_out(&mut plane, 20, SIXELS, 20)
@@ -239,18 +271,19 @@ fn wants_room_for_lanes(alloc: Global) -> Result<bool, AllocError> {
 /// Unless 16 more bytes and 16 more columns of the plane follow it, a stretch isn't painted, and nothing changes.
 #[test]
 fn stretches_want_room_for_lanes(rt: HostRuntime) -> Result<(), Fail> {
-    assert!(rt; wants_room_for_lanes(rt.alloc())?);
+    assert!(rt; wants_room_for_lanes::<BandPlane>(rt.alloc())?, "bands");
+    assert!(rt; wants_room_for_lanes::<CoverPlane>(rt.alloc())?, "covers");
     Ok(())
 }
 
 /// Whether the plane takes the run, and then has this first blank pixel.
-fn paints<P: Plane>(plane: &mut P, run: Run, blank: Option<(u32, u32)>) -> bool {
+fn paints<P: Cover>(plane: &mut P, run: Run, blank: Option<(u32, u32)>) -> bool {
     paint(plane, run) && plane.first_blank() == blank
 }
 
 /// Whether the first blank pixel of a plane of 33 columns is the first one of the last column until that is painted.
-fn looks_at_the_last_column(alloc: Global) -> Result<bool, AllocError> {
-    let mut plane = BandPlane::blank(alloc, 33, 6)?;
+fn looks_at_the_last_column<P: Cover>(alloc: Global) -> Result<bool, AllocError> {
+    let mut plane = P::blank(alloc, 33, 6)?;
     for (column, count, bits, register, blank) in [
         (0, 32, 63, 1, Some((32, 0))),
         (32, 1, 62, 2, Some((32, 0))),
@@ -272,15 +305,19 @@ fn looks_at_the_last_column(alloc: Global) -> Result<bool, AllocError> {
 
 #[test]
 fn the_columns_after_whole_groups_are_looked_at(rt: HostRuntime) -> Result<(), Fail> {
-    assert!(rt; looks_at_the_last_column(rt.alloc())?);
+    assert!(rt; looks_at_the_last_column::<BandPlane>(rt.alloc())?, "bands");
+    assert!(rt;
+        looks_at_the_last_column::<CoverPlane>(rt.alloc())?,
+        "covers"
+    );
     Ok(())
 }
 
 /// Whether the plane has this size, and only blank pixels.
-fn is_blank<P: Plane>(plane: &P, width: u32, height: u32) -> bool {
+fn is_blank<P: Cover>(plane: &P, width: u32, height: u32) -> bool {
     for y in 0..height {
         for x in 0..width {
-            if pixel(plane, x, y).is_some() {
+            if !is_blank_at(plane, x, y) {
                 return false;
             }
         }
@@ -289,7 +326,7 @@ fn is_blank<P: Plane>(plane: &P, width: u32, height: u32) -> bool {
 }
 
 /// Whether a new plane is blank; `None` if an allocation failed.
-fn is_made_blank<P: Plane>(alloc: Global, width: u32, height: u32) -> Option<bool> {
+fn is_made_blank<P: Cover>(alloc: Global, width: u32, height: u32) -> Option<bool> {
     if width < 1 || width > 2048 || height < 1 || height > 2048 {
         return Some(false);
     }
@@ -297,10 +334,11 @@ fn is_made_blank<P: Plane>(alloc: Global, width: u32, height: u32) -> Option<boo
     Some(is_blank(&plane, width, height))
 }
 
-/// Whether new planes of both kinds are blank.
+/// Whether new planes of all kinds are blank.
 fn are_made_blank(alloc: Global, width: u32, height: u32) -> bool {
     is_made_blank::<BytePlane>(alloc, width, height) == Some(true)
         && is_made_blank::<BandPlane>(alloc, width, height) == Some(true)
+        && is_made_blank::<CoverPlane>(alloc, width, height) == Some(true)
 }
 
 #[test]
@@ -313,7 +351,7 @@ fn planes_of_any_size_are_made_blank(rt: HostRuntime) {
 }
 
 /// Whether at least one of two planes is made, and each that is made is blank.
-fn one_is_blank<P: Plane>(alloc: Global) -> bool {
+fn one_is_blank<P: Cover>(alloc: Global) -> bool {
     match (
         is_made_blank::<P>(alloc, 3, 7),
         is_made_blank::<P>(alloc, 3, 7),
@@ -334,6 +372,12 @@ fn a_refused_growth_is_answered(rt: HostRuntime) {
 #[test]
 fn a_refused_growth_of_bands_is_answered(rt: HostRuntime) {
     assert!(rt; one_is_blank::<BandPlane>(rt.alloc()));
+}
+
+/// `rt try --test --fail-alloc N` makes allocation N fail: 1 is that of the first plane.
+#[test]
+fn a_refused_growth_of_covers_is_answered(rt: HostRuntime) {
+    assert!(rt; one_is_blank::<CoverPlane>(rt.alloc()));
 }
 
 /// Whether runs paint a plane of 2 by 7 pixels as expected, until no pixel is blank.

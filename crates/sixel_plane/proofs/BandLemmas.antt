@@ -92,7 +92,7 @@ or_bit_of old bits k =
     ap (λ n. n == 1) (bit_at_or old bits k) ∙ greater (bit_at old k) (bit_at bits k) (bit_at-lt old k)
     (bit_at-lt bits k)
 
-same_either : (t : Bool) (x : ℕ) → cond t x x ≡ x
+pub same_either : (t : Bool) (x : ℕ) → cond t x x ≡ x
 same_either true x = refl
 same_either false x = refl
 
@@ -115,7 +115,7 @@ or_bit true old bits k = or_bit_of old bits k
 or_bit false old bits k = refl
 
 -- which pixels the coverage bytes mark after a run
-painted_bit : (w left count band bits : ℕ) (old new : List ℕ) (x y : ℕ) → x < w → left + count ≤ w
+pub painted_bit : (w left count band bits : ℕ) (old new : List ℕ) (x y : ℕ) → x < w → left + count ≤ w
     → y / 6 * w + x < length old
     → AreChanged (band * w + left) (band * w + left + count) (λ b. bit_or b bits) old new
     → has_coverage_bit w new x y ≡ (covers left count band 1 bits x y || has_coverage_bit w old x y)

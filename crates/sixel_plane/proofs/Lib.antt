@@ -4,3 +4,4 @@ pub mod ByteLemmas
 pub mod BandLemmas
 pub mod StretchLemmas
 pub mod PlaneStretchLemmas
+pub mod CoverLemmas

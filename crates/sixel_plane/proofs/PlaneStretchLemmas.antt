@@ -211,7 +211,7 @@ byte_after covered count n i old new f more none is = elim (cases_lt i (covered 
       grind (arith, nat_tests)
 ]
 
-covered_column : (w left band count n covered : ℕ) (f : ℕ → ℕ) (old new : List ℕ) (x y : ℕ) → x < w → left + count ≤ w
+pub covered_column : (w left band count n covered : ℕ) (f : ℕ → ℕ) (old new : List ℕ) (x y : ℕ) → x < w → left + count ≤ w
     → count ≤ n → ((j : ℕ) → count ≤ j → f j ≡ 0) → covered ≡ band * w + left → y / 6 * w + x < length old
     → AreMapped covered n (λ j b. bit_or b (f j)) old new
     → has_coverage_bit w new x y ≡ (in_stretch left band count f x y || has_coverage_bit w old x y)

@@ -401,7 +401,7 @@ group_alone w start covered register count few bytes lanes ro rn co cn room are 
 -- ---- a group of a run
 
 -- the columns of a run that are left are a run
-run_there : (bits count n few j : ℕ) → few ≤ count - n → (few < 16 → few ≡ count - n) → j < 16
+pub run_there : (bits count n few j : ℕ) → few ≤ count - n → (few < 16 → few ≡ count - n) → j < 16
     → run_sixel bits few j ≡ run_sixel bits count (n + j)
 run_there bits count n few j most all lt =
     ap (λ (t : Bool). cond t bits 0) (left_of count n few j most all lt)

@@ -2,7 +2,7 @@
 //! are painted.
 
 ghost use Rattle.std.specs.Prelude.{◌≡◌, ◌==◌, ◌<◌, ◌≤◌, ◌+◌, ◌*◌, ◌⊎◌, ℕ, EachIndex, bit_or, length, slice_index};
-ghost use Rattle.std.specs.Prelude.{false, true, if◌then◌else◌, ◌%◌, ◌/◌, ◌-◌, IsTrue};
+ghost use Rattle.std.specs.Prelude.{false, refl, true, if◌then◌else◌, ◌%◌, ◌/◌, ◌-◌, IsTrue};
 ghost use Rattle.sixel_grammar.specs.Bytes.{is_data};
 ghost use Rattle.sixel_plane.specs.Stretches.{sixel_of, stretched_grid};
 ghost use Rattle.std.specs.Int.{bit_at, div_ceil};
@@ -11,18 +11,14 @@ ghost use Rattle.sixel_model.specs.Geometry.{covers};
 ghost use Rattle.sixel_plane.specs.Lanes.{AreChanged};
 ghost use Rattle.sixel_model.specs.Grids.{FirstUnpainted, RowsArePainted, painted_grid};
 
-use crate::lanes::{common_bits, fill, first_without, or_into, zeros};
+use crate::cover::Cover;
+use crate::coverage::{MOST_SHORT, cover, first_unpainted, is_covered};
+use crate::lanes::{fill, zeros};
 use crate::plane::Plane;
 use crate::stretch::{LANES, paint_groups, paint_short_run};
 use sixel_model::{BAND_ROWS, is_set};
 use std::alloc::{AllocError, Global};
 use std::marker::Model;
-
-/// The longest run, in columns, that is painted by groups of lanes. A longer one is faster row by row.
-const MOST_SHORT: u32 = 64;
-
-/// The bits of all rows of a band.
-const ALL_ROWS: u8 = 63;
 
 /// A plane with one coverage byte for each column of each band: its bits say which of the six rows are painted.
 ///
@@ -48,8 +44,10 @@ impl Model for BandPlane {
     ghost invariant = { λ p. AreBands p.width p.height p.registers.items p.coverage.items };
 }
 
-impl Plane for BandPlane {
+impl Cover for BandPlane {
     ghost grid = { λ p. p };
+
+    ghost keeps = { true };
 
     fn blank(alloc: Global, width: u32, height: u32) -> Result<BandPlane, AllocError> {
         let registers = zeros(alloc, (width * height) as usize)?;
@@ -120,6 +118,16 @@ impl Plane for BandPlane {
         true
     }
 
+    fn is_blank(&self, x: u32, y: u32) -> bool {
+        !is_covered(&self.coverage, self.width, x, y)
+    }
+
+    fn first_blank(&self) -> Option<(u32, u32)> {
+        first_unpainted(&self.coverage, self.width, self.height)
+    }
+}
+
+impl Plane for BandPlane {
     fn register_at(&self, x: u32, y: u32) -> Option<u8> {
         let width = self.width as usize;
         let column = x as usize;
@@ -133,10 +141,6 @@ impl Plane for BandPlane {
         }
     }
 
-    fn first_blank(&self) -> Option<(u32, u32)> {
-        first_unpainted(&self.coverage, self.width, self.height)
-    }
-
     fn into_registers(self) -> Vec<u8> {
         let BandPlane {
             width: _,
@@ -146,6 +150,8 @@ impl Plane for BandPlane {
         } = self;
         registers
     }
+
+    ghost keeps_registers = { refl };
 }
 
 impl BandPlane {
@@ -163,7 +169,7 @@ impl BandPlane {
         ensures painted { result ≡ true → self.new ≡ painted_grid self.old column band count bits register }
         ensures kept { result ≡ false → self.new ≡ self.old }
     {
-        if count > MOST_SHORT || band >= self.height / BAND_ROWS {
+        if count as usize > MOST_SHORT || band >= self.height / BAND_ROWS {
             return false;
         }
         let width = self.width as usize;
@@ -186,21 +192,6 @@ impl BandPlane {
             register,
         );
         true
-    }
-}
-
-/// Marks the rows of the bits as painted, in `count` columns from `start` on.
-fn cover(coverage: &mut [u8], start: usize, count: usize, bits: u8)
-    requires { (bits ≡ 0) ⊎ (start + count ≤ length coverage.old) }
-    ensures { AreChanged start (start + count) (λ b. bit_or b bits) coverage.old coverage.new }
-{
-    if bits == 0 {
-        return;
-    }
-    if count == 1 {
-        coverage[start] |= bits;
-    } else {
-        or_into(coverage, start, start + count, bits);
     }
 }
 
@@ -279,33 +270,4 @@ fn put(registers: &mut [u8], index: usize, is_painted: bool, register: u8)
     if is_painted {
         registers[index] = register;
     }
-}
-
-/// How many rows from the top are known to be painted: those of the whole bands if all are, otherwise 0.
-fn painted_rows(coverage: &[u8], width: u32, height: u32) -> u32
-    requires { length coverage.now ≡ width * div_ceil height BAND_ROWS }
-    ensures within { result ≤ height }
-    ensures painted { RowsArePainted width (has_coverage_bit width coverage.now) result }
-{
-    let bands = height / BAND_ROWS;
-    if common_bits(&coverage[..bands as usize * width as usize]) == ALL_ROWS {
-        bands * BAND_ROWS
-    } else {
-        0
-    }
-}
-
-/// The column and the row of the first unpainted pixel in row order, if any.
-fn first_unpainted(coverage: &[u8], width: u32, height: u32) -> Option<(u32, u32)>
-    requires { length coverage.now ≡ width * div_ceil height BAND_ROWS }
-    ensures { FirstUnpainted width height (has_coverage_bit width coverage.now) result }
-{
-    let columns = width as usize;
-    for row in painted_rows(coverage, width, height)..height {
-        let start = (row / BAND_ROWS) as usize * columns;
-        if let Some(index) = first_without(coverage, start, start + columns, row % BAND_ROWS) {
-            return Some(((index - start) as u32, row));
-        }
-    }
-    None
 }

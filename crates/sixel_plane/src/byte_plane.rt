@@ -1,8 +1,9 @@
 //! A plane with a register and a mark for each pixel.
 
 ghost use Rattle.std.specs.Prelude.{◌≡◌, ◌<◌, ◌≤◌, ◌+◌, ◌&&◌, nat_le, nat_lt, not, EachIndex, IfSome, length, position};
-ghost use Rattle.std.specs.Prelude.{slice_index_or, if◌then◌else◌};
+ghost use Rattle.std.specs.Prelude.{refl, slice_index_or, true, if◌then◌else◌};
 
+use crate::cover::Cover;
 use crate::plane::Plane;
 use sixel_model::{BAND_ROWS, is_set};
 use std::alloc::{AllocError, Global};
@@ -31,8 +32,10 @@ impl Model for BytePlane {
     ghost invariant = { λ p. AreMarked p.width p.height p.registers.items p.marks.items };
 }
 
-impl Plane for BytePlane {
+impl Cover for BytePlane {
     ghost grid = { λ p. p };
+
+    ghost keeps = { true };
 
     fn blank(alloc: Global, width: u32, height: u32) -> Result<BytePlane, AllocError> {
         let pixels = (width * height) as usize;
@@ -65,15 +68,21 @@ impl Plane for BytePlane {
         }
     }
 
-    fn register_at(&self, x: u32, y: u32) -> Option<u8> {
-        let index = y as usize * self.width as usize + x as usize;
-        self.marks[index].then_some(self.registers[index])
+    fn is_blank(&self, x: u32, y: u32) -> bool {
+        !self.marks[y as usize * self.width as usize + x as usize]
     }
 
     fn first_blank(&self) -> Option<(u32, u32)> {
         let index = blank_index(&self.marks)?;
         let width = self.width as usize;
         Some(((index % width) as u32, (index / width) as u32))
+    }
+}
+
+impl Plane for BytePlane {
+    fn register_at(&self, x: u32, y: u32) -> Option<u8> {
+        let index = y as usize * self.width as usize + x as usize;
+        self.marks[index].then_some(self.registers[index])
     }
 
     fn into_registers(self) -> Vec<u8> {
@@ -85,6 +94,8 @@ impl Plane for BytePlane {
         } = self;
         registers
     }
+
+    ghost keeps_registers = { refl };
 }
 
 /// The index of the first pixel without a mark.

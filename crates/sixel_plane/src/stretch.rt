@@ -4,6 +4,7 @@ ghost use Rattle.std.specs.Prelude.{◌≡◌, ◌<◌, ◌≤◌, ◌+◌, ◌*
 ghost use Rattle.sixel_grammar.specs.Bytes.{is_data};
 ghost use Rattle.sixel_plane.specs.Stretches.{AreEqual, AreMapped, ArePainted, AreSixelLanes, register_by_sixel};
 ghost use Rattle.sixel_plane.specs.Stretches.{run_sixel, sixel_of};
+ghost use Rattle.sixel_plane.specs.Lanes.{AreChanged};
 
 use sixel_model::BAND_ROWS;
 use std::simd::prelude::*;
@@ -237,5 +238,66 @@ pub(crate) fn paint_short_run(
         paint_each_run_group(
             registers, coverage, width, start, covered, count, bits, register,
         );
+    }
+}
+
+/// Marks the columns of `count` data bytes of `bytes` as painted, from `covered` on, in the rows of their bits.
+#[inline(always)]
+fn cover_group(coverage: &mut [u8], covered: usize, bytes: &[u8], count: usize)
+    requires few { count ≤ LANES }
+    requires bytes { count + LANES ≤ length bytes.now }
+    requires sixels { (j : ℕ) → j < count → IsTrue (is_data (slice_index bytes.now j)) }
+    requires columns { covered + count + LANES ≤ length coverage.old }
+    ensures covered { (n : ℕ) × (count ≤ n)
+        × AreMapped covered n (λ j b. bit_or b (sixel_of bytes.now count j)) coverage.old coverage.new }
+{
+    let sixels = sixels_at(bytes, 0, count);
+    cover_columns(coverage, covered, sixels);
+}
+
+/// As `cover_group`, for any number of columns.
+#[inline(never)]
+fn cover_each_group(coverage: &mut [u8], covered: usize, bytes: &[u8], count: usize)
+    requires bytes { count + LANES ≤ length bytes.now }
+    requires sixels { (j : ℕ) → j < count → IsTrue (is_data (slice_index bytes.now j)) }
+    requires columns { covered + count + LANES ≤ length coverage.old }
+    ensures covered { (n : ℕ) × (count ≤ n)
+        × AreMapped covered n (λ j b. bit_or b (sixel_of bytes.now count j)) coverage.old coverage.new }
+{
+    for group in 0..count.div_ceil(LANES) {
+        let done = group * LANES;
+        let left = (count - done).min(LANES);
+        let sixels = sixels_at(bytes, done, left);
+        cover_columns(coverage, covered + done, sixels);
+    }
+}
+
+/// As `cover_each_group`. Most stretches are no longer than a group.
+#[inline(always)]
+pub(crate) fn cover_groups(coverage: &mut [u8], covered: usize, bytes: &[u8], count: usize)
+    requires bytes { count + LANES ≤ length bytes.now }
+    requires sixels { (j : ℕ) → j < count → IsTrue (is_data (slice_index bytes.now j)) }
+    requires columns { covered + count + LANES ≤ length coverage.old }
+    ensures covered { (n : ℕ) × (count ≤ n)
+        × AreMapped covered n (λ j b. bit_or b (sixel_of bytes.now count j)) coverage.old coverage.new }
+{
+    if count <= LANES {
+        cover_group(coverage, covered, bytes, count);
+    } else {
+        cover_each_group(coverage, covered, bytes, count);
+    }
+}
+
+/// Marks `count` columns from `covered` on as painted, in the rows of the bits.
+#[inline(always)]
+pub(crate) fn cover_short_run(coverage: &mut [u8], covered: usize, count: usize, bits: u8)
+    requires columns { covered + count + LANES ≤ length coverage.old }
+    ensures { AreChanged covered (covered + count) (λ b. bit_or b bits) coverage.old coverage.new }
+{
+    for group in 0..count.div_ceil(LANES) {
+        let done = group * LANES;
+        let left = LANES.min(count - done);
+        let sixels = sixels_of_run(bits, left);
+        cover_columns(coverage, covered + done, sixels);
     }
 }

@@ -1,5 +1,5 @@
 -- What is found in an input is lines, and how the reading ends.
-use Rattle.std.proofs.Common.{◌≡◌, ◌++◌, ◌∷◌, ◌≤◌, ℕ, true, false, Bool, List, [], Option, Some, None}
+use Rattle.std.proofs.Common.{◌≡◌, ◌++◌, ◌∷◌, ℕ, true, false, Bool, List, [], Option, Some, None}
 use Rattle.std.proofs.Common.{ap, append_assoc, arith, codes, map, ne_eqb, refl, sym, ◌∙◌}
 use Rattle.std.specs.Prelude.{◌&&◌, ◌≢◌, IfSome, OnOk, Result, Ok, Err, decimal, nat_eq, not}
 use Rattle.std.specs.Io.KnownBytes.{IsAtEnd, Keeps}
@@ -11,8 +11,8 @@ use Rattle.sixel_grammar.specs.declared.fault.Reason.{Reason}
 use Rattle.sixel_grammar.specs.declared.fault.Reason.TheVariants as reason
 use Rattle.sixel_judge.specs.declared.rule.Rule.{Rule}
 use Rattle.sixel_judge.specs.declared.rule.Rule.TheVariants as rule
-use Rattle.sixel_judge.specs.declared.verdict.Verdict.{Verdict}
-use Rattle.sixel_judge.specs.declared.verdict.Verdict.TheVariants.{Portable, Broken}
+use Rattle.sixel_judge.specs.declared.verdict.Outcome.{Outcome}
+use Rattle.sixel_judge.specs.declared.verdict.Outcome.TheVariants.{Portable, Broken}
 use Rattle.sixel_survey.specs.declared.entry.Entry.{Entry}
 use Rattle.sixel_survey.specs.declared.entry.Survey.{Survey as ASurvey}
 use Rattle.sixel_scan.specs.declared.answer.Answer.{Answer}
@@ -26,7 +26,7 @@ use Rattle.sixel_run.specs.declared.task.Task.TheVariants as task
 use Rattle.sixel_run.specs.Outputs.{TakesMemory, Wrote}
 use Rattle.sixel_run.specs.Scanned.{string_lines}
 use Rattle.sixel_run.specs.Texts.{Text, entry_line, line, numbers, pixel_parts, rule_name, size_line, spaced}
-use Rattle.sixel_run.specs.Texts.{answer_line, reason_name, string_line, survey_lines, verdict_line}
+use Rattle.sixel_run.specs.Texts.{answer_line, reason_name, string_line, survey_lines, outcome_line}
 use Rattle.sixel_explain.proofs.PastedLemmas.{AreDigits, number_digits}
 use Rattle.sixel_program.specs.declared.formats.Format.{Format}
 use Rattle.sixel_program.specs.Files.{IsFileEnd, IsLine, IsOverFor, ReadsOver, scans}
@@ -108,11 +108,11 @@ is_line first parts one are = (
   All-append IsUnfed first (spaced parts) one (spaced_unfed parts are),
 )
 
-verdict_is_line : (v : Verdict) → IsLine (verdict_line v)
-verdict_is_line (Portable picture) =
-    is_line (codes "portable") (numbers (picture.width ∷ picture.height ∷ [])) (name_unfed (codes "portable") refl)
-    (number_unfed picture.width, (number_unfed picture.height, tt))
-verdict_is_line (Broken f) =
+outcome_is_line : (o : Outcome) → IsLine (outcome_line o)
+outcome_is_line (Portable width height) =
+    is_line (codes "portable") (numbers (width ∷ height ∷ [])) (name_unfed (codes "portable") refl)
+    (number_unfed width, (number_unfed height, tt))
+outcome_is_line (Broken f) =
     is_line (codes "broken") (rule_name f.rule ∷ decimal f.place ∷ pixel_parts f.rule f.pixel)
     (name_unfed (codes "broken") refl)
     (rule_unfed f.rule, (number_unfed f.place, pixel_unfed f.rule f.pixel))
@@ -163,8 +163,8 @@ survey_is_lines s =
     (entries_are_lines s.entries.items) (size_is_line s.size)
 
 found_is_lines : (f : Found) → All IsLine (lines_found f)
-found_is_lines (found.Verdict verdict) =
-    All-cons IsLine (verdict_line verdict) [] (verdict_is_line verdict) (All-nil IsLine)
+found_is_lines (found.Outcome outcome) =
+    All-cons IsLine (outcome_line outcome) [] (outcome_is_line outcome) (All-nil IsLine)
 found_is_lines (found.Survey surveyed) = survey_is_lines surveyed.survey
 
 lines_are_lines : (r : Result Found RunFault) → All IsLine (lines_of r)

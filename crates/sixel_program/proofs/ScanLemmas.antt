@@ -1,5 +1,5 @@
 -- How the scan of a file ends.
-use Rattle.std.proofs.Common.{◌≡◌, ◌∙◌, ℕ, Bool, true, false, List, [], Option, Some, None, flat_map, inr, refl, take}
+use Rattle.std.proofs.Common.{◌≡◌, ℕ, Bool, true, false, List, [], Option, Some, None, flat_map, inr, refl, take}
 use Rattle.std.specs.Prelude.{◌≢◌, Result, Ok, Err, IfSome}
 use Rattle.std.specs.Io.KnownBytes.{Appends}
 use Rattle.std.specs.List.{concat}
@@ -11,7 +11,7 @@ use Rattle.sixel_run.specs.declared.fault.RunFault.{RunFault}
 use Rattle.sixel_run.specs.declared.fault.RunFault.TheVariants as run
 use Rattle.sixel_run.specs.declared.task.Status.{Status}
 use Rattle.sixel_run.specs.declared.task.Task.TheVariants.{Scan}
-use Rattle.sixel_run.specs.Outputs.{CountsWrites, Wrote, failures_by}
+use Rattle.sixel_run.specs.Outputs.{CountsWrites, Wrote}
 use Rattle.sixel_run.specs.Scanned.{Finds, string_lines}
 use Rattle.sixel_run.specs.Scanning.{PutsText, Scans}
 use Rattle.sixel_run.specs.Texts.{Text}

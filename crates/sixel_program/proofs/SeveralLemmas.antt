@@ -1,5 +1,5 @@
 -- The exit statuses of several files, and the line of each.
-use Rattle.std.proofs.Common.{ap, append_assoc, Result, Err, ◌++◌}
+use Rattle.std.proofs.Common.{ap, append_assoc, Err, ◌++◌}
 use Rattle.std.proofs.Common.{◌≡◌, ◌≤◌, ◌∷◌, ℕ, Bool, true, false, List, [], Some, arith, refl, sym, fold, length, map}
 use Rattle.std.proofs.Common.{slice_index_or, subst, suc, zero, inl, inr, ◌<◌, ◌+◌, ◌-◌, ◌^◌, ◌∙◌}
 use Rattle.std.specs.Prelude.{◌⊎◌, All, Contains, Ok, nat_lt, if◌then◌else◌}

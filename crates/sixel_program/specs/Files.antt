@@ -26,7 +26,7 @@ use Rattle.sixel_run.specs.Outputs.{Gives, TakesMemory, Wrote, failures_by}
 use Rattle.sixel_program.specs.Hints.{first_rule, hint_of}
 use Rattle.sixel_program.specs.Names.{named, named_fault_line, unopened_line}
 use Rattle.sixel_program.specs.Openings.{CountsOf, FailsWith, FolderView, IsOpening, Told, bytes_of}
-use Rattle.sixel_run.specs.Texts.{Text, fault_line, line}
+use Rattle.sixel_run.specs.Texts.{Text, fault_line}
 
 -- ---- names
 

@@ -8,8 +8,8 @@ use Rattle.sixel_run.specs.declared.fault.RunFault.{RunFault}
 use Rattle.sixel_run.specs.declared.task.Status.{Status}
 use Rattle.sixel_run.specs.declared.task.Task.{Task}
 use Rattle.sixel_run.specs.declared.task.Task.TheVariants as task
-use Rattle.sixel_run.specs.Outputs.{status_of}
-use Rattle.sixel_run.specs.Texts.{Text, survey_lines, verdict_line}
+use Rattle.sixel_run.specs.Outputs.{outcome_status}
+use Rattle.sixel_run.specs.Texts.{Text, outcome_line, survey_lines}
 
 -- the task over one input
 abbrev pub task_of : FilesTask → Task
@@ -18,12 +18,12 @@ task_of (Survey profile) = task.Survey profile
 task_of (Scan profile eight) = task.Scan profile eight
 
 abbrev pub status_found : Found → Status
-status_found (found.Verdict verdict) = status_of verdict
+status_found (found.Outcome outcome) = outcome_status outcome
 status_found (found.Survey surveyed) = surveyed.status
 
--- its lines: one for a verdict, one for each entry of a survey or that of the size
+-- its lines: one for a check, one for each entry of a survey or that of the size
 abbrev pub lines_found : Found → List Text
-lines_found (found.Verdict verdict) = verdict_line verdict ∷ []
+lines_found (found.Outcome outcome) = outcome_line outcome ∷ []
 lines_found (found.Survey surveyed) = survey_lines surveyed.survey
 
 -- the answer of a run that found this, and the lines that it writes

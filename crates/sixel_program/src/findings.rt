@@ -11,12 +11,12 @@ ghost use Rattle.sixel_run.specs.declared.fault.RunFault.TheVariants.{Read as Re
 ghost use Rattle.sixel_run.specs.declared.task.Task.TheVariants.{Check, Survey as Surveying};
 
 use crate::names::put_named;
-use sixel_check::Verdict;
+use sixel_check::Outcome;
 use sixel_io::{DeviceFault, PIECE, Sink, Source};
 use sixel_model::Profile;
 use sixel_run::{
-    PutLine, RunFault, Status, Surveyed, Task, entry_line, judge, judge_with, size_line, status_of,
-    survey_of, verdict_line,
+    PutLine, RunFault, Status, Surveyed, Task, entry_line, judge, judge_with, outcome_line,
+    size_line, status_of, survey_of,
 };
 use sixel_survey::{Entry, Survey};
 use std::alloc::Global;
@@ -32,7 +32,7 @@ pub enum FilesTask {
 /// What a check or a survey finds in an input.
 #[derive(Debug, Drop)]
 pub enum Found {
-    Verdict(Verdict),
+    Outcome(Outcome),
     Survey(Surveyed),
 }
 
@@ -55,7 +55,7 @@ impl Found {
         ensures { result ≡ status_found self.now }
     {
         match self {
-            Found::Verdict(verdict) => status_of(verdict),
+            Found::Outcome(outcome) => status_of(outcome),
             Found::Survey(surveyed) => surveyed.status,
         }
     }
@@ -88,7 +88,7 @@ pub fn find_verdict<S: Source>(
     ensures unwritten { answer_of result ≢ Err RunFault.Write }
 {
     match judge(alloc, profile, input) {
-        Ok(verdict) => Ok(Found::Verdict(verdict)),
+        Ok(outcome) => Ok(Found::Outcome(outcome)),
         Err(fault) => Err(fault),
     }
 }
@@ -111,7 +111,7 @@ pub fn find_verdict_with<S: Source>(
     ensures unwritten { answer_of result ≢ Err RunFault.Write }
 {
     match judge_with(alloc, profile, input, piece) {
-        Ok(verdict) => Ok(Found::Verdict(verdict)),
+        Ok(outcome) => Ok(Found::Outcome(outcome)),
         Err(fault) => Err(fault),
     }
 }
@@ -173,8 +173,8 @@ pub fn put_found<K: Sink>(name: &str, found: &Found, out: &mut K) -> Result<(), 
         (flat_map (named name.now) (lines_found found.now)) }
 {
     match found {
-        Found::Verdict(verdict) => {
-            put_named(out, b"", name, b": ", verdict_line(verdict).as_slice())
+        Found::Outcome(outcome) => {
+            put_named(out, b"", name, b": ", outcome_line(outcome).as_slice())
         }
         Found::Survey(surveyed) => put_survey(name, &surveyed.survey, out),
     }

@@ -14,8 +14,10 @@ use Rattle.sixel_grammar.proofs.ViableLemmas.{spells-some}
 use Rattle.sixel_grammar.proofs.UniqueLemmas.{document_once, fault_no_document, fault_once}
 use Rattle.sixel_judge.specs.declared.verdict.Verdict.{Verdict}
 use Rattle.sixel_judge.specs.Growth.{MayGrowIn}
-use Rattle.sixel_check.specs.Answers.{Answers as CheckAnswers}
-use Rattle.sixel_judge.specs.Verdicts.{IsVerdict}
+use Rattle.sixel_judge.specs.declared.verdict.Verdict.TheVariants.{Portable, Broken}
+use Rattle.sixel_judge.specs.declared.verdict.Outcome.{Outcome}
+use Rattle.sixel_check.specs.Answers.{Answers as CheckAnswers, AnswersOutcome}
+use Rattle.sixel_judge.specs.Verdicts.{IsVerdict, outcome_of}
 use Rattle.sixel_judge.proofs.DecideLemmas.{verdict_exists}
 use Rattle.sixel_judge.proofs.VerdictLemmas.{verdict_once}
 use Rattle.sixel_run.specs.declared.fault.RunFault.{RunFault}
@@ -23,8 +25,8 @@ use Rattle.sixel_run.specs.declared.fault.RunFault.TheVariants.{Grammar, Ppm, No
 use Rattle.sixel_run.specs.declared.fault.RunFault.TheVariants.{TooManyColours, OutOfMemory, Read, Write}
 use Rattle.sixel_run.specs.declared.task.Status.{Status}
 use Rattle.sixel_run.specs.Conversions.{of_input}
-use Rattle.sixel_run.specs.Outputs.{CheckGives, WroteBy, WroteNothing, status_of}
-use Rattle.sixel_run.specs.Texts.{Text, verdict_line}
+use Rattle.sixel_run.specs.Outputs.{CheckGives, WroteBy, WroteNothing, outcome_status, status_of}
+use Rattle.sixel_run.specs.Texts.{Text, outcome_line, verdict_line}
 
 -- a document isn't empty
 some_bytes : (events : List Placed) (bytes : List ℕ) → Document events bytes → 0 < length bytes
@@ -118,26 +120,50 @@ verdict_unwritten registers bytes v had has given put = (
       (drop put.0 (verdict_line v), same ∙ sym (take-append-drop put.0 (verdict_line v))),
 )
 
-pub checked_written : (registers : ℕ) (a : Option (List ℕ)) (v : Verdict) (had has : Option (List ℕ))
-    → IfSome a (CheckAnswers registers (Ok v)) → Appends had has (verdict_line v)
-    → IfSome a (λ bytes. WroteBy (CheckGives registers bytes) WroteNothing (Ok (status_of v)) had has)
-checked_written registers None v had has given put = tt
-checked_written registers (Some bytes) v had has given put = verdict_written _ bytes v had has given put
+-- an outcome has the line and the status of its verdict
+line_same : (v : Verdict) → outcome_line (outcome_of v) ≡ verdict_line v
+line_same (Portable p) = refl
+line_same (Broken f) = refl
 
-pub checked_unwritten : (registers : ℕ) (a : Option (List ℕ)) (v : Verdict) (had has : Option (List ℕ))
-    → IfSome a (CheckAnswers registers (Ok v)) → (n : ℕ) × Appends had has (take n (verdict_line v))
+status_same : (v : Verdict) → outcome_status (outcome_of v) ≡ status_of v
+status_same (Portable p) = refl
+status_same (Broken f) = refl
+
+outcome_written : (registers : ℕ) (bytes : List ℕ) (o : Outcome) (had has : Option (List ℕ))
+    → AnswersOutcome registers (Ok o) bytes → Appends had has (outcome_line o)
+    → WroteBy (CheckGives registers bytes) WroteNothing (Ok (outcome_status o)) had has
+outcome_written registers bytes o had has given put =
+    let line : outcome_line o ≡ verdict_line given.0 = ap outcome_line given.2 ∙ line_same given.0 in
+    let status : outcome_status o ≡ status_of given.0 = ap outcome_status given.2 ∙ status_same given.0 in
+    rw status (verdict_written _ bytes given.0 had has given.1 (rw line at put))
+
+outcome_unwritten : (registers : ℕ) (bytes : List ℕ) (o : Outcome) (had has : Option (List ℕ))
+    → AnswersOutcome registers (Ok o) bytes → (n : ℕ) × Appends had has (take n (outcome_line o))
+    → WroteBy (CheckGives registers bytes) WroteNothing (Err Write) had has
+outcome_unwritten registers bytes o had has given put =
+    let line : outcome_line o ≡ verdict_line given.0 = ap outcome_line given.2 ∙ line_same given.0 in
+    verdict_unwritten _ bytes given.0 had has given.1 (put.0, rw line at put.1)
+
+pub checked_written : (registers : ℕ) (a : Option (List ℕ)) (o : Outcome) (had has : Option (List ℕ))
+    → IfSome a (AnswersOutcome registers (Ok o)) → Appends had has (outcome_line o)
+    → IfSome a (λ bytes. WroteBy (CheckGives registers bytes) WroteNothing (Ok (outcome_status o)) had has)
+checked_written registers None o had has given put = tt
+checked_written registers (Some bytes) o had has given put = outcome_written _ bytes o had has given put
+
+pub checked_unwritten : (registers : ℕ) (a : Option (List ℕ)) (o : Outcome) (had has : Option (List ℕ))
+    → IfSome a (AnswersOutcome registers (Ok o)) → (n : ℕ) × Appends had has (take n (outcome_line o))
     → IfSome a (λ bytes. WroteBy (CheckGives registers bytes) WroteNothing (Err Write) had has)
-checked_unwritten registers None v had has given put = tt
-checked_unwritten registers (Some bytes) v had has given put = verdict_unwritten _ bytes v had has given put
+checked_unwritten registers None o had has given put = tt
+checked_unwritten registers (Some bytes) o had has given put = outcome_unwritten _ bytes o had has given put
 
 -- ---- memory
 
 -- if a check ran out of memory, a checker may allocate in the bytes
-pub grown : (registers : ℕ) (told : Option (List ℕ)) (fault : InputFault) (y : RunFault) (r : Result Status RunFault)
+pub grown : (A : Type 0) (registers : ℕ) (told : Option (List ℕ)) (fault : InputFault) (y : RunFault) (r : Result Status RunFault)
     → IfSome told
-    (λ bytes. (let k : Result Verdict InputFault = Err fault in k) ≡ Err input.OutOfMemory → MayGrowIn registers bytes)
+    (λ bytes. (let k : Result A InputFault = Err fault in k) ≡ Err input.OutOfMemory → MayGrowIn registers bytes)
     → r ≡ Err y → y ≡ of_input fault → r ≡ Err OutOfMemory → IfSome told (MayGrowIn registers)
-grown registers None fault y r h e f o = tt
-grown registers (Some bytes) (input.Grammar k) y r h e f o = cc
-grown registers (Some bytes) input.OutOfMemory y r h e f o = h refl
-grown registers (Some bytes) input.Read y r h e f o = cc
+grown A registers None fault y r h e f o = tt
+grown A registers (Some bytes) (input.Grammar k) y r h e f o = cc
+grown A registers (Some bytes) input.OutOfMemory y r h e f o = h refl
+grown A registers (Some bytes) input.Read y r h e f o = cc

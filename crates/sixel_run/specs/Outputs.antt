@@ -17,6 +17,8 @@ use Rattle.sixel_terminal.specs.Displays.{Display}
 use Rattle.sixel_terminal.specs.Drawing.{screen_on}
 use Rattle.sixel_judge.specs.declared.verdict.Verdict.{Verdict}
 use Rattle.sixel_judge.specs.declared.verdict.Verdict.TheVariants.{Portable, Broken}
+use Rattle.sixel_judge.specs.declared.verdict.Outcome.{Outcome}
+use Rattle.sixel_judge.specs.declared.verdict.Outcome.TheVariants.{Portable as PortableSize, Broken as BrokenRule}
 use Rattle.sixel_judge.specs.Growth.{MayGrowIn}
 use Rattle.sixel_judge.specs.Verdicts.{IsVerdict}
 use Rattle.sixel_encode.specs.Canon.{canon_text}
@@ -39,7 +41,7 @@ use Rattle.sixel_run.specs.declared.task.Task.TheVariants.{Mend, Scan}
 use Rattle.sixel_run.specs.Scanned.{AreBeforeAllocation, AreOfGiven, AreOfStream, MayGrowInString, answer_of_strings}
 use Rattle.sixel_run.specs.Scanned.{scan_text}
 use Rattle.sixel_run.specs.Screens.{declared_screen, screen_terminal, screen_text, show_choices, show_terminal}
-use Rattle.sixel_run.specs.Texts.{Text, BeginsWith, list_text, survey_text, verdict_line}
+use Rattle.sixel_run.specs.Texts.{Text, BeginsWith, list_text, outcome_line, survey_text, verdict_line}
 
 -- ---- lists
 
@@ -77,13 +79,18 @@ CheckGives registers bytes text (Ok status) =
 CheckGives registers bytes text (Err (Grammar fault)) = (text ≡ []) × IsFaultOf bytes fault
 CheckGives registers bytes text (Err fault) = ⊥
 
--- the answer of a check that found this verdict, and the line that it writes
-abbrev pub answer_of : Result Verdict RunFault → Result Status RunFault
-answer_of (Ok verdict) = Ok (status_of verdict)
+-- the status of a verdict without its picture
+abbrev pub outcome_status : Outcome → Status
+outcome_status (PortableSize width height) = Done
+outcome_status (BrokenRule finding) = status.Broken finding
+
+-- the answer of a check with this outcome, and the line that it writes
+abbrev pub answer_of : Result Outcome RunFault → Result Status RunFault
+answer_of (Ok outcome) = Ok (outcome_status outcome)
 answer_of (Err fault) = Err fault
 
-abbrev pub line_of : Result Verdict RunFault → Text
-line_of (Ok verdict) = verdict_line verdict
+abbrev pub line_of : Result Outcome RunFault → Text
+line_of (Ok outcome) = outcome_line outcome
 line_of (Err fault) = []
 
 -- ---- surveys

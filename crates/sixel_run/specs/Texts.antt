@@ -22,6 +22,8 @@ use Rattle.sixel_judge.specs.declared.rule.Rule.TheVariants as rule
 use Rattle.sixel_judge.specs.declared.verdict.Finding.{Finding}
 use Rattle.sixel_judge.specs.declared.verdict.Verdict.{Verdict}
 use Rattle.sixel_judge.specs.declared.verdict.Verdict.TheVariants.{Portable, Broken}
+use Rattle.sixel_judge.specs.declared.verdict.Outcome.{Outcome}
+use Rattle.sixel_judge.specs.declared.verdict.Outcome.TheVariants.{Portable as PortableSize, Broken as BrokenRule}
 use Rattle.sixel_survey.specs.declared.entry.Entry.{Entry}
 use Rattle.sixel_survey.specs.declared.entry.Survey.{Survey}
 use Rattle.sixel_scan.specs.declared.answer.Answer.{Answer}
@@ -171,6 +173,11 @@ portable_line p = size_line p.width p.height
 abbrev pub verdict_line : Verdict → Text
 verdict_line (Portable picture) = portable_line picture
 verdict_line (Broken finding) = finding_line finding
+
+-- the same of a verdict without its picture
+abbrev pub outcome_line : Outcome → Text
+outcome_line (PortableSize width height) = size_line width height
+outcome_line (BrokenRule finding) = finding_line finding
 
 -- ---- surveys
 

@@ -12,7 +12,8 @@ mod task;
 
 pub use fault::RunFault;
 pub use lines::{
-    Line, fault_line, finding_line, verdict_line, write_fault, write_finding, write_verdict,
+    Line, fault_line, finding_line, outcome_line, verdict_line, write_fault, write_finding,
+    write_outcome, write_verdict,
 };
 pub use running::check::{judge, judge_with, status_of};
 pub use running::run;

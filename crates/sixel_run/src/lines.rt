@@ -5,15 +5,15 @@ ghost use Rattle.arrayvec.specs.ArrayVec.{array_vec_len};
 ghost use Rattle.sixel_io.specs.Devices.{Writes};
 ghost use Rattle.sixel_run.specs.Texts.{event_line, event_parts, fault_line, finding_line, kind_name, numbers};
 ghost use Rattle.sixel_run.specs.Texts.{pixel_parts};
-ghost use Rattle.sixel_run.specs.Texts.{portable_line, ppm_reason_name, reason_name, rule_name, spaced, verdict_line};
+ghost use Rattle.sixel_run.specs.Texts.{outcome_line, ppm_reason_name, reason_name, rule_name, spaced, verdict_line};
 
 use crate::fault::RunFault;
+use crate::survey_lines::size_line;
 use arrayvec::ArrayVec;
 use itoa::Buffer;
-use sixel_check::{Finding, Rule, Verdict};
+use sixel_check::{Finding, Outcome, Rule, Verdict};
 use sixel_grammar::{Command, Event, Placed, Reason};
 use sixel_io::{DeviceFault, Sink, put_all};
-use sixel_model::Picture;
 use sixel_ppm::PpmReason;
 
 /// A line, with its line feed: of an event at most 58 bytes, of a fault at most 46, of a verdict at most 82, of a
@@ -261,26 +261,28 @@ pub fn write_finding<K: Sink>(finding: &Finding, out: &mut K) -> Result<(), Devi
     put_all(out, finding_line(finding).as_slice())
 }
 
-/// The line of a portable picture.
-fn portable_line(picture: &Picture) -> Line
-    ensures { result.items ≡ portable_line picture.now }
+/// Writes the line of an outcome, or on an `Err` a prefix of it. It doesn't flush.
+pub fn write_outcome<K: Sink>(outcome: &Outcome, out: &mut K) -> Result<(), DeviceFault>
+    ensures { Writes result (K.state out.old) (K.state out.new) (outcome_line outcome.now) }
 {
-    let mut line = ArrayVec::new();
-    push_all(&mut line, b"portable");
-    push_number(&mut line, picture.width() as u64);
-    push_number(&mut line, picture.height() as u64);
-    line.push(b'\n');
-    line
+    put_all(out, outcome_line(outcome).as_slice())
+}
+
+/// The line of an outcome.
+pub fn outcome_line(outcome: &Outcome) -> Line
+    ensures { result.items ≡ outcome_line outcome.now }
+{
+    match outcome {
+        Outcome::Portable { width, height } => size_line(*width, *height),
+        Outcome::Broken(finding) => finding_line(finding),
+    }
 }
 
 /// Writes the line of a verdict, or on an `Err` a prefix of it. It doesn't flush.
 pub fn write_verdict<K: Sink>(verdict: &Verdict, out: &mut K) -> Result<(), DeviceFault>
     ensures { Writes result (K.state out.old) (K.state out.new) (verdict_line verdict.now) }
 {
-    match verdict {
-        Verdict::Portable(picture) => put_all(out, portable_line(picture).as_slice()),
-        Verdict::Broken(finding) => write_finding(finding, out),
-    }
+    put_all(out, verdict_line(verdict).as_slice())
 }
 
 /// The line of a verdict.
@@ -288,7 +290,7 @@ pub fn verdict_line(verdict: &Verdict) -> Line
     ensures { result.items ≡ verdict_line verdict.now }
 {
     match verdict {
-        Verdict::Portable(picture) => portable_line(picture),
+        Verdict::Portable(picture) => size_line(picture.width(), picture.height()),
         Verdict::Broken(finding) => finding_line(finding),
     }
 }

@@ -104,8 +104,8 @@ fn statuses(
         piece,
     );
     (
-        own.map(|verdict| status_of(&verdict)),
-        other.map(|verdict| status_of(&verdict)),
+        own.map(|outcome| status_of(&outcome)),
+        other.map(|outcome| status_of(&outcome)),
     )
 }
 

@@ -7,7 +7,7 @@ use sixel_check::{Verdict, check};
 use sixel_grammar::InputFault;
 use sixel_io::{SliceSink, SliceSource};
 use sixel_model::{Colour, Picture, Profile};
-use sixel_plane::{BandPlane, BytePlane, Plane};
+use sixel_plane::{BandPlane, BytePlane, Cover};
 use sixel_ppm::{PpmFault, read_ppm};
 use sixel_run::{RunFault, Status, Task, run};
 use std::alloc::{AllocError, Global};
@@ -23,7 +23,7 @@ const MENDED_PIXEL: &[u8] = b"\x1bP0;1q\"1;1;1;1#0;2;0;0;0#0@\x1b\\";
 const RED: &[u8] = b"P6 5 1 100\nd\0\0d\0\0d\0\0d\0\0d\0\0";
 
 /// Whether a new plane is blank. `None` if an allocation fails; the same below.
-fn is_made_blank<P: Plane>(alloc: Global) -> Option<bool> {
+fn is_made_blank<P: Cover>(alloc: Global) -> Option<bool> {
     let plane = P::blank(alloc, 3, 7).ok()?;
     Some((plane.width(), plane.height(), plane.first_blank()) == (3, 7, Some((0, 0))))
 }

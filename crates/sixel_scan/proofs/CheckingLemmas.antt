@@ -1,4 +1,5 @@
 -- A check of a string.
+use Rattle.std.specs.Prelude.{Err, Result}
 use Rattle.std.proofs.Common.{◌≡◌, ◌∙◌, ℕ, zero, suc, ◌+◌, ◌≤◌, inl, inr, Option, Some, None, Ok}
 use Rattle.std.proofs.Common.{IsTrue, List, [], ◌∷◌, ◌++◌, length, sym, ap, subst, append_assoc, arith}
 use Rattle.std.specs.Prelude.{slice_get}
@@ -18,7 +19,10 @@ use Rattle.sixel_judge.specs.declared.verdict.Verdict.TheVariants.{Portable, Bro
 use Rattle.sixel_judge.specs.declared.verdict.Finding.{Finding}
 use Rattle.sixel_judge.proofs.StandLemmas.{whole_ended, whole_events}
 use Rattle.sixel_scan.specs.declared.string_check.StringCheck.{StringCheck}
-use Rattle.sixel_scan.specs.Answers.{IsPlacedWithin}
+use Rattle.sixel_judge.specs.declared.verdict.Outcome.{Outcome}
+use Rattle.sixel_judge.specs.declared.verdict.Outcome.TheVariants.{Portable as PortableSize, Broken as BrokenRule}
+use Rattle.sixel_scan.specs.declared.answer.Answer.TheVariants.{Portable as SaysPortable, Broken as SaysBroken, Refused}
+use Rattle.sixel_scan.specs.Answers.{IsPlacedWithin, Tells, briefly}
 use Rattle.sixel_scan.specs.Checking.{HasRead, HasTaken}
 
 none_kept : (fault : Fault) → (let o : Option Fault = None in o) ≡ Some fault → ⊥
@@ -109,3 +113,50 @@ pub verdict_within : (registers : ℕ) (events : List Placed) (bytes : List ℕ)
 verdict_within registers events bytes (Portable picture) d v = tt
 verdict_within registers events bytes (Broken finding) d v =
     finding_within registers events bytes finding v.0 d v.1
+
+-- ---- what is told without the picture
+
+pub told_portable : (place width height : ℕ) (whole : Result Verdict Fault)
+    → (let r : Result Outcome Fault = Ok (PortableSize width height) in r) ≡ briefly whole
+    → Tells place whole (SaysPortable width height)
+told_portable place width height (Ok (Portable picture)) is = cc
+told_portable place width height (Ok (Broken finding)) is = cc
+told_portable place width height (Err fault) is = cc
+
+same_broken : (f g : Finding)
+    → (let r : Result Outcome Fault = Ok (BrokenRule f) in r) ≡ Ok (BrokenRule g) → f ≡ g
+same_broken f g is = cc
+
+pub told_broken : (place : ℕ) (f : Finding) (whole : Result Verdict Fault)
+    → (let r : Result Outcome Fault = Ok (BrokenRule f) in r) ≡ briefly whole
+    → Tells place whole (SaysBroken (record f { place = place + f.place }))
+told_broken place f (Ok (Portable picture)) is = cc
+told_broken place f (Ok (Broken finding)) is =
+    ap (λ (g : Finding). SaysBroken (record g { place = place + g.place })) (same_broken f finding is)
+told_broken place f (Err fault) is = cc
+
+same_fault : (f g : Fault) → (let r : Result Outcome Fault = Err f in r) ≡ Err g → f ≡ g
+same_fault f g is = cc
+
+pub told_refused : (place : ℕ) (f : Fault) (whole : Result Verdict Fault)
+    → (let r : Result Outcome Fault = Err f in r) ≡ briefly whole
+    → Tells place whole (Refused (record f { place = place + f.place }))
+told_refused place f (Ok (Portable picture)) is = cc
+told_refused place f (Ok (Broken finding)) is = cc
+told_refused place f (Err fault) is =
+    ap (λ (g : Fault). Refused (record g { place = place + g.place })) (same_fault f fault is)
+
+pub broken_below : (size : ℕ) (f : Finding) (whole : Result Verdict Fault)
+    → (let r : Result Outcome Fault = Ok (BrokenRule f) in r) ≡ briefly whole → IsPlacedWithin size whole
+    → f.place ≤ size
+broken_below size f (Ok (Portable picture)) is within = cc
+broken_below size f (Ok (Broken finding)) is within =
+    omega (arith, within, ap (λ (g : Finding). g.place) (same_broken f finding is))
+broken_below size f (Err fault) is within = cc
+
+pub refused_below : (size : ℕ) (f : Fault) (whole : Result Verdict Fault)
+    → (let r : Result Outcome Fault = Err f in r) ≡ briefly whole → IsPlacedWithin size whole → f.place ≤ size
+refused_below size f (Ok (Portable picture)) is within = cc
+refused_below size f (Ok (Broken finding)) is within = cc
+refused_below size f (Err fault) is within =
+    omega (arith, within, ap (λ (g : Fault). g.place) (same_fault f fault is))

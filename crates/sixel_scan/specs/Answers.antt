@@ -1,9 +1,11 @@
 -- What a scan reports of a string.
-use Rattle.std.specs.Prelude.{◌≡◌, ℕ, ◌+◌, ◌≤◌, Result, Ok, Err}
+use Rattle.std.specs.Prelude.{◌≡◌, ℕ, ◌+◌, ◌≤◌, Result, Ok, Err, List, length}
 use Rattle.sixel_grammar.specs.declared.fault.Fault.{Fault}
 use Rattle.sixel_grammar.specs.declared.fault.InputFault.{InputFault}
 use Rattle.sixel_grammar.specs.declared.fault.InputFault.TheVariants.{Grammar}
 use Rattle.sixel_check.specs.Answers as checking
+use Rattle.sixel_judge.specs.Verdicts.{outcome_of}
+use Rattle.sixel_judge.specs.declared.verdict.Outcome.{Outcome}
 use Rattle.sixel_judge.specs.declared.verdict.Verdict.{Verdict}
 use Rattle.sixel_judge.specs.declared.verdict.Verdict.TheVariants.{Portable, Broken}
 use Rattle.sixel_scan.specs.declared.answer.Answer.{Answer}
@@ -35,3 +37,15 @@ abbrev pub IsPlacedWithin : ℕ → Result Verdict Fault → Type 0
 IsPlacedWithin n (Ok (Portable picture)) = Unit {0}
 IsPlacedWithin n (Ok (Broken finding)) = finding.place ≤ n
 IsPlacedWithin n (Err fault) = fault.place ≤ n
+
+-- the same result without the picture
+abbrev pub briefly : Result Verdict Fault → Result Outcome Fault
+briefly (Ok verdict) = Ok (outcome_of verdict)
+briefly (Err fault) = Err fault
+
+-- what a check of these bytes by themselves answers, without the picture
+pub record IsBrief (registers : ℕ) (bytes : List ℕ) (result : Result Outcome Fault) : Type 0 where
+  pub checked : Result Verdict Fault
+  pub answers : checking.Answers registers (as_checked checked) bytes
+  pub within : IsPlacedWithin (length bytes) checked
+  pub result_is : result ≡ briefly checked

@@ -1,17 +1,18 @@
 //! The check of one string.
 
-ghost use Rattle.std.specs.Prelude.{◌+◌, ◌<◌, ◌^◌, ◌++◌, ◌∷◌, [], ℕ, List, OnErr, OnOk, length};
+ghost use Rattle.std.specs.Prelude.{◌+◌, ◌<◌, ◌^◌, ◌++◌, ◌∷◌, ◌≡◌, [], ℕ, List, OnErr, OnOk, Result, length};
 ghost use Rattle.sixel_model.specs.Profiles.{count_of};
-ghost use Rattle.sixel_check.specs.Answers.{Answers};
 ghost use Rattle.sixel_check.specs.Checking.{AreAfter};
+ghost use Rattle.sixel_grammar.specs.declared.fault.Fault.{Fault};
+ghost use Rattle.sixel_judge.specs.declared.verdict.Verdict.{Verdict};
 ghost use Rattle.sixel_judge.specs.Growth.{MayGrowIn};
-ghost use Rattle.sixel_scan.specs.Answers.{IsPlacedWithin, Tells, as_checked};
+ghost use Rattle.sixel_scan.specs.Answers.{IsBrief, IsPlacedWithin, Tells, briefly};
 
 use crate::answer::Answer;
-use sixel_check::{Checker, Finding, Verdict, read_piece};
+use sixel_check::{Checker, Finding, Outcome, read_piece};
 use sixel_grammar::{Fault, InputFault, Reader};
 use sixel_model::Profile;
-use sixel_plane::BandPlane;
+use sixel_plane::CoverPlane;
 use std::alloc::{AllocError, Global};
 
 /// Checks the bytes of a string as they come, as `check` checks those of a document. After a fault of the grammar, it
@@ -19,7 +20,7 @@ use std::alloc::{AllocError, Global};
 #[derive(Drop)]
 pub(crate) struct StringCheck {
     reader: Reader,
-    checker: Checker<BandPlane>,
+    checker: Checker<CoverPlane>,
     /// The fault of the bytes, if there was one.
     refused: Option<Fault>,
 }
@@ -83,12 +84,10 @@ impl StringCheck {
     }
 
     /// The answer at the end of the string.
-    pub(crate) fn finish(self) -> Result<Verdict, Fault>
+    pub(crate) fn finish(self) -> Result<Outcome, Fault>
         requires { (registers : ℕ) × (bytes : List ℕ) × HasRead registers self bytes }
-        ensures answer { (registers : ℕ) (bytes : List ℕ) → HasRead registers self bytes
-            → Answers registers (as_checked result) bytes }
-        ensures within { (registers : ℕ) (bytes : List ℕ) → HasRead registers self bytes
-            → IsPlacedWithin (length bytes) result }
+        ensures { (registers : ℕ) (bytes : List ℕ) → HasRead registers self bytes
+            → IsBrief registers bytes result }
     {
         let StringCheck {
             reader,
@@ -103,28 +102,24 @@ impl StringCheck {
 }
 
 /// The answer at the end of bytes without a fault before it.
-fn conclude(reader: &Reader, checker: Checker<BandPlane>) -> Result<Verdict, Fault>
+fn conclude(reader: &Reader, checker: Checker<CoverPlane>) -> Result<Outcome, Fault>
     requires { (registers : ℕ) × (bytes : List ℕ) × AreAfter registers reader.now checker bytes }
-    ensures answer { (registers : ℕ) (bytes : List ℕ) → AreAfter registers reader.now checker bytes
-        → Answers registers (as_checked result) bytes }
-    ensures within { (registers : ℕ) (bytes : List ℕ) → AreAfter registers reader.now checker bytes
-        → IsPlacedWithin (length bytes) result }
+    ensures { (registers : ℕ) (bytes : List ℕ) → AreAfter registers reader.now checker bytes
+        → IsBrief registers bytes result }
 {
     reader.finish()?;
-    Ok(checker.finish().unwrap())
+    Ok(checker.outcome())
 }
 
 /// The answer of a string at `place`, from that of its bytes.
-pub(crate) fn told(place: u64, checked: Result<Verdict, Fault>) -> Answer
-    requires { (size : ℕ) × IsPlacedWithin size checked × (place + size < 2 ^ 64) }
-    ensures { Tells place checked result }
+pub(crate) fn told(place: u64, checked: Result<Outcome, Fault>) -> Answer
+    requires { (whole : Result Verdict Fault) × (size : ℕ) × (checked ≡ briefly whole)
+        × IsPlacedWithin size whole × (place + size < 2 ^ 64) }
+    ensures { (whole : Result Verdict Fault) → checked ≡ briefly whole → Tells place whole result }
 {
     match checked {
-        Ok(Verdict::Portable(picture)) => Answer::Portable {
-            width: picture.width(),
-            height: picture.height(),
-        },
-        Ok(Verdict::Broken(finding)) => Answer::Broken(Finding {
+        Ok(Outcome::Portable { width, height }) => Answer::Portable { width, height },
+        Ok(Outcome::Broken(finding)) => Answer::Broken(Finding {
             place: place + finding.place,
             ..finding
         }),

@@ -17,7 +17,7 @@ use sixel_grammar::Event;
 use sixel_judge::events::{bits_of, columns_of, is_raster, sides_of};
 use sixel_judge::rules::breaks_box_size;
 use sixel_model::BAND_ROWS;
-use sixel_plane::Plane;
+use sixel_plane::Cover;
 use std::alloc::{AllocError, Global};
 
 /// The lowest bits: as many as there are rows, which are at most six.
@@ -52,7 +52,7 @@ fn bits_within(bits: u8, band: u32, height: u32) -> u8
 /// Covers the pixels of the box that `count` columns from `column` on paint, in the rows of the band whose bits are
 /// set. What lies outside the box is left out. A column or band of `u64::MAX` means that number or any greater one.
 #[inline(always)]
-pub(crate) fn cover<P: Plane>(plane: &mut P, column: u64, band: u64, count: u16, bits: u8)
+pub(crate) fn cover<P: Cover>(plane: &mut P, column: u64, band: u64, count: u16, bits: u8)
     ensures { (left line : ℕ) → column ≡ capped left → band ≡ capped line
         → IsCoveredBy (P.grid plane.old) left count line bits (P.grid plane.new) }
 {
@@ -75,7 +75,7 @@ pub(crate) fn cover<P: Plane>(plane: &mut P, column: u64, band: u64, count: u16,
 
 /// A blank plane of the declared size, for the first raster attributes, if both sides are in range.
 #[inline(never)]
-fn first_plane<P: Plane>(
+fn first_plane<P: Cover>(
     alloc: Global,
     notes: &Notes,
     event: &Event,
@@ -99,7 +99,7 @@ fn first_plane<P: Plane>(
 
 /// Makes the plane at the first raster attributes, and covers its pixels after that.
 #[inline(always)]
-pub(crate) fn draw<P: Plane>(
+pub(crate) fn draw<P: Cover>(
     alloc: Global,
     notes: &Notes,
     plane: &mut Option<P>,
@@ -132,16 +132,16 @@ pub(crate) fn draw<P: Plane>(
 }
 
 /// Whether the pixel is blank. It must be in the box.
-fn is_blank<P: Plane>(plane: &P, x: u32, y: u32) -> bool
+fn is_blank<P: Cover>(plane: &P, x: u32, y: u32) -> bool
     requires inside_x { x < (P.grid plane.now).width }
     requires inside_y { y < (P.grid plane.now).height }
     ensures { result ≡ is_none (cell (P.grid plane.now) x y) }
 {
-    plane.register_at(x, y).is_none()
+    plane.is_blank(x, y)
 }
 
 /// How many pixels of the row are blank. It must be in the box.
-fn blank_in_row<P: Plane>(plane: &P, y: u32) -> u64
+fn blank_in_row<P: Cover>(plane: &P, y: u32) -> u64
     requires { y < (P.grid plane.now).height }
     ensures value { result ≡ blank_cells_in_row (P.grid plane.now) y (P.grid plane.now).width }
     ensures few { result ≤ (P.grid plane.now).width }
@@ -157,7 +157,7 @@ fn blank_in_row<P: Plane>(plane: &P, y: u32) -> u64
 }
 
 /// How many pixels are blank, row by row.
-fn count_rows<P: Plane>(plane: &P) -> u64
+fn count_rows<P: Cover>(plane: &P) -> u64
     ensures { result ≡ blank_cells (P.grid plane.now) }
 {
     let mut count = 0;
@@ -168,7 +168,7 @@ fn count_rows<P: Plane>(plane: &P) -> u64
 }
 
 /// How many pixels are blank. If the search for the first one finds none, it doesn't look at each.
-pub(crate) fn count_blank<P: Plane>(plane: &P) -> u64
+pub(crate) fn count_blank<P: Cover>(plane: &P) -> u64
     ensures { AreCells (P.grid plane.now) → result ≡ blank_cells (P.grid plane.now) }
 {
     if plane.first_blank().is_none() {

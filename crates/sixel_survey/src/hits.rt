@@ -25,7 +25,7 @@ use sixel_judge::rules::{
     breaks_repeat_zero,
 };
 use sixel_model::Profile;
-use sixel_plane::Plane;
+use sixel_plane::Cover;
 
 /// A select or a definition of a register that the profile doesn't have.
 #[tactic(auto, unfolding(sixel_model::specs::Rules::breaks_register))]
@@ -114,7 +114,7 @@ fn counts_by_notes(profile: Profile, notes: &Notes, event: &Event, rule: Rule) -
 
 /// The first pixel outside the box, in row order, that the event paints.
 #[inline(always)]
-fn pixel_outside<P: Plane>(notes: &Notes, plane: &P, event: &Event) -> Option<(u64, u64)>
+fn pixel_outside<P: Cover>(notes: &Notes, plane: &P, event: &Event) -> Option<(u64, u64)>
     ensures { (before : List EventValue) → IsNotesAfter notes.now before → (c : IsCoverOf (P.grid plane.now) before)
         → IsFirstIfAny (FallsOutside before event.now c.box) result }
 {
@@ -130,7 +130,7 @@ fn pixel_outside<P: Plane>(notes: &Notes, plane: &P, event: &Event) -> Option<(u
 
 /// The first blank pixel of the box.
 #[inline(always)]
-fn pixel_blank<P: Plane>(plane: &P) -> Option<(u64, u64)>
+fn pixel_blank<P: Cover>(plane: &P) -> Option<(u64, u64)>
     ensures { (before : List EventValue) → (c : IsCoverOf (P.grid plane.now) before) → paints_early before ≡ false
         → IsFirstIfAny (StaysBlank before c.box) result }
 {
@@ -152,7 +152,7 @@ fn hit_at(pixel: Option<(u64, u64)>) -> Option<Hit>
 
 /// Where `Outside` counts.
 #[inline(always)]
-fn hit_outside<P: Plane>(notes: &Notes, plane: &Option<P>, event: &Event) -> Option<Hit>
+fn hit_outside<P: Cover>(notes: &Notes, plane: &Option<P>, event: &Event) -> Option<Hit>
     ensures { (registers : ℕ) (before : List EventValue) → IsNotesAfter notes.now before
         → IsCoverAfter (option_map P.grid plane.now) before → IsHit registers Outside before event.now result }
 {
@@ -164,7 +164,7 @@ fn hit_outside<P: Plane>(notes: &Notes, plane: &Option<P>, event: &Event) -> Opt
 
 /// Where `Uncovered` counts.
 #[inline(always)]
-fn hit_uncovered<P: Plane>(notes: &Notes, plane: &Option<P>, event: &Event) -> Option<Hit>
+fn hit_uncovered<P: Cover>(notes: &Notes, plane: &Option<P>, event: &Event) -> Option<Hit>
     ensures { (registers : ℕ) (before : List EventValue) → IsNotesAfter notes.now before
         → IsCoverAfter (option_map P.grid plane.now) before → IsHit registers Uncovered before event.now result }
 {
@@ -195,7 +195,7 @@ fn hit_by_notes(profile: Profile, notes: &Notes, event: &Event, rule: Rule) -> O
 
 /// Where the rule counts at the event.
 #[inline(always)]
-pub(crate) fn hit_of<P: Plane>(
+pub(crate) fn hit_of<P: Cover>(
     profile: Profile,
     notes: &Notes,
     plane: &Option<P>,

@@ -11,6 +11,7 @@ ghost use Rattle.sixel_grammar.specs.declared.command.Event.TheVariants.{Step};
 ghost use Rattle.sixel_grammar.specs.declared.command.Placed.{Placed as PlacedValue};
 ghost use Rattle.sixel_model.specs.Events.{is_painting};
 ghost use Rattle.sixel_model.specs.Profiles.{count_of};
+ghost use Rattle.sixel_plane.specs.Covers.{kept_by};
 ghost use Rattle.sixel_plane.specs.Stretches.{sixel_of, stretched_grid};
 ghost use Rattle.sixel_judge.specs.declared.rule.Rule.{Rule as RuleValue};
 ghost use Rattle.sixel_judge.specs.declared.rule.Rule.TheVariants.{Outside, RasterFirst, Undefined, Unselected};
@@ -28,11 +29,11 @@ use crate::tallying::{put, tally_of};
 use sixel_judge::Rule;
 use sixel_judge::outside::{is_inside, outside_pixel};
 use sixel_model::Profile;
-use sixel_plane::Plane;
+use sixel_plane::Cover;
 
 /// Whether `count` columns from the current one on lie in the box, with all six rows of their band.
 #[inline(always)]
-pub(crate) fn fits<P: Plane>(notes: &Notes, plane: &P, count: usize) -> bool
+pub(crate) fn fits<P: Cover>(notes: &Notes, plane: &P, count: usize) -> bool
     ensures within { result ≡ true → FitsIn notes.now count (P.grid plane.now) }
     ensures column { result ≡ true → notes.now.column ≤ u32.MAX }
     ensures band { result ≡ true → notes.now.band ≤ u32.MAX }
@@ -107,7 +108,7 @@ fn counted_stretch(
 
 /// The tally of `Outside` after a stretch.
 #[inline(never)]
-fn counted_outside<P: Plane>(
+fn counted_outside<P: Cover>(
     tally: Option<Entry>,
     notes: &Notes,
     plane: &P,
@@ -202,7 +203,7 @@ fn tally_undefined(
 
 /// The tally of `Outside` after a stretch; the sixels that lie in the box aren't looked at.
 #[inline(always)]
-fn tally_with_box<P: Plane>(
+fn tally_with_box<P: Cover>(
     tally: Option<Entry>,
     notes: &Notes,
     plane: &P,
@@ -224,7 +225,7 @@ fn tally_with_box<P: Plane>(
 
 /// Counts a stretch for `Outside`.
 #[inline(always)]
-fn tally_outside<P: Plane>(
+fn tally_outside<P: Cover>(
     tallies: &mut [Option<Entry>; RULE_COUNT],
     notes: &Notes,
     plane: &Option<P>,
@@ -251,7 +252,7 @@ fn tally_outside<P: Plane>(
 
 /// Counts a stretch for each rule: only for those that a sixel can break.
 #[inline(always)]
-pub(crate) fn tally_stretch<P: Plane>(
+pub(crate) fn tally_stretch<P: Cover>(
     tallies: &mut [Option<Entry>; RULE_COUNT],
     profile: Profile,
     notes: &Notes,
@@ -275,12 +276,12 @@ pub(crate) fn tally_stretch<P: Plane>(
 /// Covers the pixels of the first `count` bytes of `bytes`, all of them data, in one step. Returns whether it did: only
 /// if they lie in the box, and the plane can.
 #[inline(always)]
-fn try_cover<P: Plane>(notes: &Notes, plane: &mut P, bytes: &[u8], count: usize) -> bool
+fn try_cover<P: Cover>(notes: &Notes, plane: &mut P, bytes: &[u8], count: usize) -> bool
     requires sixels { (k : ℕ) → k < count → IsTrue (is_data (slice_index bytes.now k)) }
     requires bytes { count ≤ length bytes.now }
     ensures fits { result ≡ true → FitsIn notes.now count (P.grid plane.old) }
     ensures covered { result ≡ true → P.grid plane.new ≡ stretched_grid (P.grid plane.old) notes.now.column
-        notes.now.band count (sixel_of bytes.now count) 0 }
+        notes.now.band count (sixel_of bytes.now count) (kept_by P.keeps 0) }
     ensures kept { result ≡ false → plane.new ≡ plane.old }
 {
     fits(notes, plane, count)
@@ -289,7 +290,7 @@ fn try_cover<P: Plane>(notes: &Notes, plane: &mut P, bytes: &[u8], count: usize)
 
 /// Covers the pixels of a stretch, sixel by sixel.
 #[inline(never)]
-fn cover_each<P: Plane>(notes: &Notes, plane: &mut P, stretch: &[u8])
+fn cover_each<P: Cover>(notes: &Notes, plane: &mut P, stretch: &[u8])
     requires { AreSixels stretch.now }
     ensures { (seen : List PlacedValue) (place : ℕ) → IsNotesAfter notes.now (events_of seen)
         → IsCoverOf (P.grid plane.old) (events_of seen)
@@ -303,7 +304,7 @@ fn cover_each<P: Plane>(notes: &Notes, plane: &mut P, stretch: &[u8])
 
 /// Covers the pixels of the first `count` bytes of `bytes`, all of them data.
 #[inline(always)]
-pub(crate) fn draw_stretch<P: Plane>(
+pub(crate) fn draw_stretch<P: Cover>(
     notes: &Notes,
     plane: &mut Option<P>,
     bytes: &[u8],

@@ -24,11 +24,11 @@ use crate::surveyor::Surveyor;
 use sixel_grammar::{Columns, Command, Completed, Event, InputFault, Placed, Plain, Reader, Run};
 use sixel_io::{PIECE, Source};
 use sixel_model::Profile;
-use sixel_plane::{BandPlane, Plane};
+use sixel_plane::{Cover, CoverPlane};
 use std::alloc::{AllocError, Global};
 
 /// Takes an event, if there is one.
-fn take_one<P: Plane>(
+fn take_one<P: Cover>(
     surveyor: &mut Surveyor<P>,
     alloc: Global,
     placed: Option<Placed>,
@@ -43,7 +43,7 @@ fn take_one<P: Plane>(
 }
 
 /// Takes the events that a byte completed.
-fn take_completed<P: Plane>(
+fn take_completed<P: Cover>(
     surveyor: &mut Surveyor<P>,
     alloc: Global,
     completed: Completed,
@@ -58,7 +58,7 @@ fn take_completed<P: Plane>(
 
 /// Takes a command. It is inlined, so that a caller that knows the kind keeps only the code for that kind.
 #[inline(always)]
-fn take_command<P: Plane>(
+fn take_command<P: Cover>(
     surveyor: &mut Surveyor<P>,
     alloc: Global,
     place: u64,
@@ -73,7 +73,7 @@ fn take_command<P: Plane>(
 
 /// Takes a command of any kind.
 #[inline(never)]
-fn take_rarely<P: Plane>(
+fn take_rarely<P: Cover>(
     surveyor: &mut Surveyor<P>,
     alloc: Global,
     place: u64,
@@ -87,7 +87,7 @@ fn take_rarely<P: Plane>(
 
 /// Takes a command that a byte below `?` completed: each kind that is frequent gets its own inlined call.
 #[inline(always)]
-fn take_sign<P: Plane>(
+fn take_sign<P: Cover>(
     surveyor: &mut Surveyor<P>,
     alloc: Global,
     place: u64,
@@ -108,7 +108,7 @@ fn take_sign<P: Plane>(
 
 /// Takes a command that isn't raster attributes: only these allocate.
 #[inline(always)]
-fn take_still<P: Plane>(surveyor: &mut Surveyor<P>, alloc: Global, place: u64, command: Command)
+fn take_still<P: Cover>(surveyor: &mut Surveyor<P>, alloc: Global, place: u64, command: Command)
     requires { raster_of (Step command) ≡ None }
     ensures { TakesEvents surveyor.old surveyor.new (command_at place command ∷ []) }
 {
@@ -121,7 +121,7 @@ fn take_still<P: Plane>(surveyor: &mut Surveyor<P>, alloc: Global, place: u64, c
 
 /// Takes columns whose first byte has the offset `place`: the first `count` of the bytes.
 #[inline(always)]
-fn take_columns<P: Plane>(
+fn take_columns<P: Cover>(
     surveyor: &mut Surveyor<P>,
     alloc: Global,
     place: u64,
@@ -145,7 +145,7 @@ fn take_columns<P: Plane>(
 
 /// Takes a select, if there is one.
 #[inline(always)]
-fn take_select<P: Plane>(surveyor: &mut Surveyor<P>, alloc: Global, place: u64, select: Option<u16>)
+fn take_select<P: Cover>(surveyor: &mut Surveyor<P>, alloc: Global, place: u64, select: Option<u16>)
     ensures { TakesEvents surveyor.old surveyor.new (select_events place select) }
 {
     match select {
@@ -156,7 +156,7 @@ fn take_select<P: Plane>(surveyor: &mut Surveyor<P>, alloc: Global, place: u64, 
 
 /// Takes the run at the beginning of the bytes.
 #[inline(always)]
-fn take_run<P: Plane>(surveyor: &mut Surveyor<P>, alloc: Global, run: Run, bytes: &[u8])
+fn take_run<P: Cover>(surveyor: &mut Surveyor<P>, alloc: Global, run: Run, bytes: &[u8])
     requires sixels { run.columns ≡ single_sixels → (k : ℕ) → run.start ≤ k → k < run.length
         → IsTrue (is_data (slice_index bytes.now k)) }
     requires within { (run.start < run.length) × (run.length ≤ length bytes.now) }
@@ -177,7 +177,7 @@ fn take_run<P: Plane>(surveyor: &mut Surveyor<P>, alloc: Global, run: Run, bytes
 
 /// Reads one byte of any kind, and takes the events that it completes.
 #[inline(never)]
-fn read_byte<P: Plane>(
+fn read_byte<P: Cover>(
     reader: &mut Reader,
     surveyor: &mut Surveyor<P>,
     alloc: Global,
@@ -193,7 +193,7 @@ fn read_byte<P: Plane>(
 
 /// As `read_byte`. The result has a local of its own here, so that the fast paths write no memory for it.
 #[inline(always)]
-fn read_otherwise<P: Plane>(
+fn read_otherwise<P: Cover>(
     reader: &mut Reader,
     surveyor: &mut Surveyor<P>,
     alloc: Global,
@@ -208,7 +208,7 @@ fn read_otherwise<P: Plane>(
 
 /// Reads one byte, and takes the events that it completes. It is for bytes below `?`.
 #[inline(always)]
-fn read_sign<P: Plane>(
+fn read_sign<P: Cover>(
     reader: &mut Reader,
     surveyor: &mut Surveyor<P>,
     alloc: Global,
@@ -227,7 +227,7 @@ fn read_sign<P: Plane>(
 
 /// Reads one byte, and takes the events that it completes. It is for data bytes while a command is open.
 #[inline(always)]
-fn read_data<P: Plane>(
+fn read_data<P: Cover>(
     reader: &mut Reader,
     surveyor: &mut Surveyor<P>,
     alloc: Global,
@@ -249,7 +249,7 @@ fn read_data<P: Plane>(
 /// Reads the columns at the beginning of `bytes`, perhaps after a select, or else one byte. Returns how many bytes it
 /// read.
 #[inline(always)]
-fn read_run_or_byte<P: Plane>(
+fn read_run_or_byte<P: Cover>(
     reader: &mut Reader,
     surveyor: &mut Surveyor<P>,
     alloc: Global,
@@ -277,7 +277,7 @@ fn read_run_or_byte<P: Plane>(
 }
 
 /// Reads the bytes of a piece.
-fn read_piece<P: Plane>(
+fn read_piece<P: Cover>(
     reader: &mut Reader,
     surveyor: &mut Surveyor<P>,
     alloc: Global,
@@ -295,14 +295,14 @@ fn read_piece<P: Plane>(
 }
 
 /// A reader and a surveyor before any byte.
-fn nothing_read(profile: Profile) -> (Reader, Surveyor<BandPlane>)
+fn nothing_read(profile: Profile) -> (Reader, Surveyor<CoverPlane>)
     ensures { AreAfter (count_of profile) result.0 result.1 [] }
 {
     (Reader::new(), Surveyor::new(profile))
 }
 
 /// The answer at the end of the bytes.
-fn conclude<P: Plane>(reader: &Reader, surveyor: Surveyor<P>) -> Result<Survey, InputFault>
+fn conclude<P: Cover>(reader: &Reader, surveyor: Surveyor<P>) -> Result<Survey, InputFault>
     requires { (registers : ℕ) × (prefix : List ℕ) × AreAfter registers reader.now surveyor prefix }
     ensures answer { (registers : ℕ) (prefix : List ℕ) → AreAfter registers reader.now surveyor prefix
         → Answers registers result prefix }

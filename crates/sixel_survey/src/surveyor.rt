@@ -25,7 +25,7 @@ use arrayvec::ArrayVec;
 use sixel_grammar::Placed;
 use sixel_judge::Rule;
 use sixel_model::Profile;
-use sixel_plane::Plane;
+use sixel_plane::Cover;
 use std::alloc::{AllocError, Global};
 use std::marker::Model;
 
@@ -101,7 +101,7 @@ fn entries_of(tallies: &[Option<Entry>; RULE_COUNT], blank: u64) -> ArrayVec<Ent
 }
 
 /// How many pixels of the box are blank; 0 without a plane.
-fn blank_in<P: Plane>(plane: &Option<P>) -> u64
+fn blank_in<P: Cover>(plane: &Option<P>) -> u64
     ensures { (events : List Event) → IsCoverAfter (option_map P.grid plane.now) events
         → result ≡ option_map_or blank_cells (option_map P.grid plane.now) 0 }
 {
@@ -112,7 +112,7 @@ fn blank_in<P: Plane>(plane: &Option<P>) -> u64
 }
 
 /// The size of the box in pixels.
-fn size_of<P: Plane>(plane: &Option<P>) -> Option<(u32, u32)>
+fn size_of<P: Cover>(plane: &Option<P>) -> Option<(u32, u32)>
     ensures { result ≡ size_in (option_map P.grid plane.now) }
 {
     match plane {
@@ -122,7 +122,7 @@ fn size_of<P: Plane>(plane: &Option<P>) -> Option<(u32, u32)>
 }
 
 /// The size of the picture in pixels, which a survey has if it has no entries.
-fn size_without<P: Plane>(entries: &[Entry], plane: &Option<P>) -> Option<(u32, u32)>
+fn size_without<P: Cover>(entries: &[Entry], plane: &Option<P>) -> Option<(u32, u32)>
     ensures none { entries.now ≡ [] → result ≡ size_in (option_map P.grid plane.now) }
     ensures some { entries.now ≢ [] → result ≡ None }
 {
@@ -135,7 +135,7 @@ fn size_without<P: Plane>(entries: &[Entry], plane: &Option<P>) -> Option<(u32, 
 
 /// What a survey knows after some events.
 #[derive(Drop)]
-pub(crate) struct Surveyor<P: Plane> {
+pub(crate) struct Surveyor<P: Cover> {
     profile: Profile,
     notes: Notes,
     /// The pixels of the box, from the first raster attributes on, if both sides are in range.
@@ -144,7 +144,7 @@ pub(crate) struct Surveyor<P: Plane> {
     tallies: [Option<Entry>; RULE_COUNT],
 }
 
-impl<P: Plane> Model for Surveyor<P> {
+impl<P: Cover> Model for Surveyor<P> {
     ghost use Rattle.std.specs.Option.{option_map};
     ghost use Rattle.sixel_survey.specs.Surveying.{SurveyorValue};
 
@@ -158,7 +158,7 @@ impl<P: Plane> Model for Surveyor<P> {
     } };
 }
 
-impl<P: Plane> Surveyor<P> {
+impl<P: Cover> Surveyor<P> {
     /// A surveyor that has seen no event.
     pub(crate) fn new(profile: Profile) -> Surveyor<P>
         ensures { HasSurveyed (count_of profile) result [] }

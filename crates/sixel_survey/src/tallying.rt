@@ -24,7 +24,7 @@ use sixel_grammar::{Command, Event, Placed};
 use sixel_judge::Rule;
 use sixel_judge::events::{columns_of, is_painting, is_repeat_of_zero};
 use sixel_model::Profile;
-use sixel_plane::Plane;
+use sixel_plane::Cover;
 
 /// The place of the rule in the order, counted from 0.
 #[inline(always)]
@@ -67,7 +67,7 @@ pub(crate) fn put(tallies: &mut [Option<Entry>; RULE_COUNT], rule: Rule, tally: 
 
 /// Counts an event for a rule.
 #[inline(always)]
-fn tally_rule<P: Plane>(
+fn tally_rule<P: Cover>(
     tallies: &mut [Option<Entry>; RULE_COUNT],
     profile: Profile,
     notes: &Notes,
@@ -88,7 +88,7 @@ fn tally_rule<P: Plane>(
 
 /// Whether columns lie in the box, if there is one, with all six rows of their band.
 #[inline(always)]
-fn fits_box<P: Plane>(notes: &Notes, plane: &Option<P>, count: u16) -> bool
+fn fits_box<P: Cover>(notes: &Notes, plane: &Option<P>, count: u16) -> bool
     ensures { result ≡ true → IfSome (option_map P.grid plane.now) (FitsIn notes.now count) }
 {
     match plane {
@@ -99,7 +99,7 @@ fn fits_box<P: Plane>(notes: &Notes, plane: &Option<P>, count: u16) -> bool
 
 /// Whether a command that paints breaks none of the rules on its register and on the box.
 #[inline(always)]
-fn paints_well<P: Plane>(profile: Profile, notes: &Notes, plane: &Option<P>, event: &Event) -> bool
+fn paints_well<P: Cover>(profile: Profile, notes: &Notes, plane: &Option<P>, event: &Event) -> bool
     ensures known { result ≡ true → is_some (known_in notes.now) ≡ true }
     ensures defined { result ≡ true → lacks_definition_in (count_of profile) notes.now ≡ false }
     ensures fits { result ≡ true → IfSome (option_map P.grid plane.now) (FitsIn notes.now (said_columns 0 event.now)) }
@@ -111,7 +111,7 @@ fn paints_well<P: Plane>(profile: Profile, notes: &Notes, plane: &Option<P>, eve
 
 /// Counts a sixel or a repeat for the rules that it can break, one by one.
 #[inline(never)]
-fn tally_columns_fully<P: Plane>(
+fn tally_columns_fully<P: Cover>(
     tallies: &mut [Option<Entry>; RULE_COUNT],
     profile: Profile,
     notes: &Notes,
@@ -132,7 +132,7 @@ fn tally_columns_fully<P: Plane>(
 
 /// Counts a sixel or a repeat for the rules that it can break. Most break none, and are seen quickly.
 #[inline(always)]
-fn tally_columns<P: Plane>(
+fn tally_columns<P: Cover>(
     tallies: &mut [Option<Entry>; RULE_COUNT],
     profile: Profile,
     notes: &Notes,
@@ -157,7 +157,7 @@ fn tally_columns<P: Plane>(
 
 /// Counts an event for each rule: only for those that an event of its kind can break.
 #[inline(always)]
-pub(crate) fn tally<P: Plane>(
+pub(crate) fn tally<P: Cover>(
     tallies: &mut [Option<Entry>; RULE_COUNT],
     profile: Profile,
     notes: &Notes,

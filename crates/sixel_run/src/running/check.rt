@@ -7,12 +7,12 @@ ghost use Rattle.sixel_judge.specs.Growth.{MayGrowIn};
 ghost use Rattle.sixel_run.specs.declared.fault.RunFault.TheVariants.{Read};
 ghost use Rattle.sixel_run.specs.Outputs.{CheckGives, CountsWrites, WroteBy, WroteNothing, answer_of, failures_by};
 ghost use Rattle.sixel_run.specs.Outputs.{line_of};
-ghost use Rattle.sixel_run.specs.Outputs.{status_of};
+ghost use Rattle.sixel_run.specs.Outputs.{outcome_status};
 
 use crate::fault::RunFault;
-use crate::lines::write_verdict;
+use crate::lines::write_outcome;
 use crate::task::Status;
-use sixel_check::{Verdict, check_with};
+use sixel_check::{Outcome, outcome_with};
 use sixel_io::{PIECE, Sink, Source};
 use sixel_model::Profile;
 use std::alloc::Global;
@@ -32,18 +32,18 @@ pub fn check<S: Source, K: Sink>(
     ensures reads { (S.state input.new).failures ≡ failures_by Read result (S.state input.old).failures }
     ensures writes { CountsWrites result (K.state output.old).failures (K.state output.new).failures }
 {
-    let verdict = sixel_check::check(alloc, profile, input)?;
-    match write_verdict(&verdict, output) {
-        Ok(()) => Ok(status_of(&verdict)),
+    let outcome = sixel_check::outcome(alloc, profile, input)?;
+    match write_outcome(&outcome, output) {
+        Ok(()) => Ok(status_of(&outcome)),
         Err(_) => Err(RunFault::Write),
     }
 }
 
-/// Reads the whole input, and returns the verdict. It writes nothing.
+/// Reads the whole input, and returns the outcome of the check. It writes nothing.
 ///
 /// It isn't inlined, or its room would be on the stack of every task.
 #[inline(never)]
-pub fn judge<S: Source>(alloc: Global, profile: Profile, input: &mut S) -> Result<Verdict, RunFault>
+pub fn judge<S: Source>(alloc: Global, profile: Profile, input: &mut S) -> Result<Outcome, RunFault>
     ensures judged { IfSome (S.state input.old).remaining (λ bytes.
         WroteBy (CheckGives (count_of profile) bytes) WroteNothing
         (answer_of result) (Some []) (Some (line_of result))) }
@@ -62,7 +62,7 @@ pub fn judge_with<S: Source>(
     profile: Profile,
     input: &mut S,
     piece: &mut [u8; PIECE],
-) -> Result<Verdict, RunFault>
+) -> Result<Outcome, RunFault>
     ensures judged { IfSome (S.state input.old).remaining (λ bytes.
         WroteBy (CheckGives (count_of profile) bytes) WroteNothing
         (answer_of result) (Some []) (Some (line_of result))) }
@@ -72,15 +72,15 @@ pub fn judge_with<S: Source>(
     ensures left { ReadsToEnd (answer_of result) (S.state input.old).remaining (S.state input.new).remaining }
     ensures unwritten { answer_of result ≢ Err RunFault.Write }
 {
-    Ok(check_with(alloc, profile, input, piece)?)
+    Ok(outcome_with(alloc, profile, input, piece)?)
 }
 
-/// The status of a verdict: `Done` for a portable picture, `Broken` for a finding.
-pub fn status_of(verdict: &Verdict) -> Status
-    ensures { result ≡ status_of verdict.now }
+/// The status of an outcome: `Done` for a portable picture, `Broken` for a finding.
+pub fn status_of(outcome: &Outcome) -> Status
+    ensures { result ≡ outcome_status outcome.now }
 {
-    match verdict {
-        Verdict::Portable(_) => Status::Done,
-        Verdict::Broken(finding) => Status::Broken(*finding),
+    match outcome {
+        Outcome::Portable { .. } => Status::Done,
+        Outcome::Broken(finding) => Status::Broken(*finding),
     }
 }

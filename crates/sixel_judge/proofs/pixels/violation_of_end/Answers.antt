@@ -11,10 +11,10 @@ returns-then-not-is_finish g c = λ registers before d none.
 pub returns-in-Some : goal.returns-in-Some
 returns-in-Some g c = λ registers before d none.
     let ends : is_finish c.args.event.now ≡ true = search rules in
-    violation_uncovered before c.args.event.now (g.P.Plane.grid c.args.plane.now) c.in-Some.pixel ends d none
+    violation_uncovered before c.args.event.now (g.P.Cover.grid c.args.plane.now) c.in-Some.pixel ends d none
     (c.in-Some.ensures before d)
 
 pub returns-in-None : goal.returns-in-None
 returns-in-None g c = λ registers before d none.
     c.violation_of_eight_bit-in-None.ensures registers before
-    (none_uncovered _ before c.args.event.now (g.P.Plane.grid c.args.plane.now) d none (c.in-None.ensures before d))
+    (none_uncovered _ before c.args.event.now (g.P.Cover.grid c.args.plane.now) d none (c.in-None.ensures before d))

@@ -12,7 +12,7 @@ same_row s x row y blank is same = ap (λ (n : ℕ). is_none (cell s x n)) (sym 
 
 pub loop-x-preserved : goal.loop-x-preserved
 loop-x-preserved g c =
-    let s = g.P.Plane.grid c.args.plane.now in
+    let s = g.P.Cover.grid c.args.plane.now in
     let i : ℕ = c.loop-x.x in
     let p : ℕ → Bool = λ x. is_none (cell s x c.args.y) in
     let little = c.loop-x.invariant.0 in

@@ -11,7 +11,7 @@ same_count s row y count is same = is ∙ ap (λ (n : ℕ). blank_cells_in_row s
 
 pub overflow_add-count : goal.overflow_add-count
 overflow_add-count g c =
-    let s = g.P.Plane.grid c.args.plane.now in
+    let s = g.P.Cover.grid c.args.plane.now in
     let row = c.blank_in_row-count.ensures in
     let lt : c.loop-y.y < s.height = omega (arith, c.height-y-end.ensures, c.loop-y-test.true) in
     let low : s.height < 4294967296 = omega (arith, c.height-y-end.ensures, c.height-y-end.type_inv) in
@@ -24,7 +24,7 @@ overflow_add-count g c =
 
 pub loop-y-preserved : goal.loop-y-preserved
 loop-y-preserved g c =
-    let s = g.P.Plane.grid c.args.plane.now in
+    let s = g.P.Cover.grid c.args.plane.now in
     let row = c.blank_in_row-count.ensures in
     let lt : c.loop-y.y < s.height = omega (arith, c.height-y-end.ensures, c.loop-y-test.true) in
     let low : s.height < 4294967296 = omega (arith, c.height-y-end.ensures, c.height-y-end.type_inv) in

@@ -18,7 +18,7 @@ loop-index-preserved g c = λ registers seen h cover is.
     let before = c.loop-index.invariant registers seen h cover is in
     let o = c.outside_pixel-pixel.result in
     let here =
-    outside_each registers c.args.notes.now (g.P.Plane.grid c.args.plane.now) seen c.args.place stretch o h cover k lt
+    outside_each registers c.args.notes.now (g.P.Cover.grid c.args.plane.now) seen c.args.place stretch o h cover k lt
     (λ left line column_is band_is.
     rw (c.width-width.ensures, c.height-height.ensures) at
     (c.outside_pixel-pixel.ensures left line (c.saturating_add-column.ensures ∙ column_is) band_is)) in

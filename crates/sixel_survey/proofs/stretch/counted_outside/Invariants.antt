@@ -11,5 +11,5 @@ use Rattle.sixel_survey.proofs.stretch.counted_outside.Given as goal
 abbrev pub invariant-loop-index : goal.invariant-loop-index
 invariant-loop-index g l =
     (registers : ℕ) (seen : List Placed) → IsNotesAfter l.notes (events_of seen)
-    → IsCoverOf (g.P.Plane.grid l.plane) (events_of seen) → IsTallyOf registers seen Outside l.fn.tally
+    → IsCoverOf (g.P.Cover.grid l.plane) (events_of seen) → IsTallyOf registers seen Outside l.fn.tally
     → IsTallyOf registers (with_sixels seen l.place l.stretch l.index) Outside l.all

@@ -9,5 +9,5 @@ use Rattle.sixel_survey.proofs.stretch.cover_each.Given as goal
 abbrev pub invariant-loop-index : goal.invariant-loop-index
 invariant-loop-index g l =
     (seen : List Placed) (place : ℕ) → IsNotesAfter l.notes (events_of seen)
-    → IsCoverOf (g.P.Plane.grid l.fn.plane) (events_of seen)
-    → IsCoverOf (g.P.Plane.grid l.plane) (events_of (with_sixels seen place l.stretch l.index))
+    → IsCoverOf (g.P.Cover.grid l.fn.plane) (events_of seen)
+    → IsCoverOf (g.P.Cover.grid l.plane) (events_of (with_sixels seen place l.stretch l.index))

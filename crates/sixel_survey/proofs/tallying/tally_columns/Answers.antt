@@ -17,6 +17,6 @@ pub returns-then-paints_well : goal.returns-then-paints_well
 returns-then-paints_well g c = λ seen n k t.
     let some : is_repeat_of_zero c.args.placed.now.event ≡ false = search rules in
     let well : c.paints_well.result ≡ true = c.if-paints_well.true in
-    painted_quiet (count_of c.args.profile) c.args.notes.now (option_map g.P.Plane.grid c.args.plane.now) seen
+    painted_quiet (count_of c.args.profile) c.args.notes.now (option_map g.P.Cover.grid c.args.plane.now) seen
     c.args.placed.now c.args.tallies.now (at_most_256 c.args.profile) n k c.if-notes.true some
     (c.paints_well.ensures.known well) (c.paints_well.ensures.defined well) (c.paints_well.ensures.fits well) t

@@ -15,8 +15,8 @@ try_take_stretch-requires-clause-stands g c = (
 pub returns-clause-pushed : goal.returns-clause-pushed
 returns-clause-pushed g c = λ done registers place seen s may.
     let took = c.try_take_stretch.ensures in
-    stretch_taken registers place c.args.count c.args.bytes.now _ _ seen c.requires.bytes c.requires.sixels may
+    stretch_taken registers place c.args.count c.args.bytes.now _ _ seen c.requires.bytes c.requires.sixels may refl
     took.finding refl
-    (λ some. (ap (λ j. j.state) (took.broken some), ap (λ j. option_map g.P.Plane.grid j.plane) (took.broken some)))
+    (λ some. (ap (λ j. j.state) (took.broken some), ap (λ j. option_map g.P.Cover.grid j.plane) (took.broken some)))
     (took.taken done)
     (subst (λ (v : CheckerValue). StandsAfter registers v seen) (sym c.self.view_is) s)

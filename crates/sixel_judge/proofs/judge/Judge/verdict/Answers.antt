@@ -8,7 +8,7 @@ use Rattle.sixel_judge.proofs.judge.Judge.verdict.Goals as goal
 pub picture_of-requires-clause-full : goal.picture_of-requires-clause-full
 picture_of-requires-clause-full g c =
     let s = rw (c.in-None-Some.is-0, c.in-None-Some.is-1) at c.requires.2 in
-    full_grid _ (g.P.Plane.grid c.in-None-Some.plane) (events_of c.requires.1) c.requires.3 s.unbroken s.grid_is
+    full_grid _ (g.P.Cover.grid c.in-None-Some.plane) (events_of c.requires.1) c.requires.3 s.unbroken s.grid_is
 
 pub unreachable-requires : goal.unreachable-requires
 unreachable-requires g c =

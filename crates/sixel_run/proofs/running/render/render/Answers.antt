@@ -14,7 +14,7 @@ returns-in_err-write_ppm-in-Portable-clause-wrote g c =
 pub returns-in_err-picture-clause-memory : goal.returns-in_err-picture-clause-memory
 returns-in_err-picture-clause-memory g c =
     let failed = err_from_is_err_and c.from_residual.result c.from_residual.ensures.1 in
-    grown _ (g.S.Source.state c.args.input.now).remaining _ failed.0 c.from_residual.result
+    grown _ _ (g.S.Source.state c.args.input.now).remaining _ failed.0 c.from_residual.result
     c.in_err-picture.ensures.memory
     failed.1 failed.2
 

@@ -1,0 +1,8 @@
+use Rattle.std.proofs.Common.{◌*◌}
+use Rattle.std.specs.Int.Bits.{bit_or}
+use Rattle.sixel_plane.specs.Stretches.{AreMapped, sixel_of}
+use Rattle.sixel_plane.proofs.stretch.cover_each_group.Given as goal
+
+abbrev pub invariant-loop-group : goal.invariant-loop-group
+invariant-loop-group l =
+    AreMapped l.covered (l.group * 16) (λ j b. bit_or b (sixel_of l.bytes l.count j)) l.initial.coverage l.coverage
