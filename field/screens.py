@@ -58,7 +58,8 @@ def end(process):
 
 
 class Screen:
-    """An X server without a screen of its own, and a Wayland compositor inside it for terminals that need one."""
+    """An X server without a screen of its own, and a Wayland compositor inside it for terminals that need one. Neither
+    has a pointer: it would be drawn over the pictures."""
 
     def __init__(self, width=WIDTH, height=HEIGHT):
         self.width, self.height = width, height
@@ -67,7 +68,7 @@ class Screen:
         ready, told = os.pipe()
         self.server = subprocess.Popen(
             ["Xvfb", "-displayfd", str(told), "-screen", "0", f"{width}x{height}x24", "-fbdir", self.folder,
-             "-nolisten", "tcp", "-noreset"], pass_fds=[told], stdout=self.log, stderr=self.log)
+             "-nolisten", "tcp", "-noreset", "-nocursor"], pass_fds=[told], stdout=self.log, stderr=self.log)
         os.close(told)
         with os.fdopen(ready) as line:
             self.display = ":" + line.readline().strip()
@@ -84,12 +85,13 @@ class Screen:
                                 stdout=self.log, stderr=self.log)
 
     def needs_wayland(self):
-        """Starts weston, which shows one full window inside the X server."""
+        """Starts weston, which shows one full window inside the X server. With input devices it draws a pointer of its
+        own, often at the top left, over a picture's first pixels."""
         if self.compositor:
             return
         self.compositor = self.start(
             ["weston", "--backend=x11-backend.so", "--use-pixman", "--shell=kiosk-shell.so", "--no-config",
-             f"--width={self.width}", f"--height={self.height}", "--socket=field", "--idle-time=0"])
+             f"--width={self.width}", f"--height={self.height}", "--socket=field", "--idle-time=0", "--no-input"])
         self.environment["WAYLAND_DISPLAY"] = "field"
         if not wait_for(lambda: accepts(self.folder / "run" / "field"), PATIENCE):
             raise TimeoutError("weston didn't start")
@@ -115,10 +117,11 @@ class Screen:
                 return last
         raise TimeoutError("the screen doesn't come to rest")
 
-    def has(self, colour):
-        """Whether a pixel of the corner has this colour."""
+    def has(self, colour, picture=None):
+        """Whether a pixel of the corner has this colour, on the screen or on this picture of it."""
         width, height = CORNER
-        corner = self.picture(self.height - height).crop((self.width - width, 0, self.width, height))
+        last = picture.crop((0, self.height - height, *picture.size)) if picture else self.picture(self.height - height)
+        corner = last.crop((self.width - width, 0, self.width, height))
         return any(pixel == colour for _, pixel in corner.getcolors(width * height))
 
     def close(self):
@@ -169,7 +172,8 @@ def konsole(screen, program, background, options):
     colour = ",".join(str(part) for part in bytes.fromhex(background))
     (share / "field.colorscheme").write_text(f"[Background]\nColor={colour}\n\n[Foreground]\nColor=255,255,255\n")
     (share / "field.profile").write_text(
-        "[Appearance]\nColorScheme=field\n\n[General]\nName=field\nTerminalMargin=0\n\n"
+        # Else konsole writes its size over the middle of the screen when it starts.
+        "[Appearance]\nColorScheme=field\n\n[General]\nName=field\nTerminalMargin=0\nShowTerminalSizeHint=false\n\n"
         "[Scrolling]\nScrollBarPosition=2\n")
     (screen.folder / ".config/konsolerc").write_text(
         "[Desktop Entry]\nDefaultProfile=field.profile\n\n[KonsoleWindow]\nShowMenuBarByDefault=false\n\n"
@@ -201,12 +205,16 @@ class Terminal:
 
     def show(self, data):
         """Sends a string. After it two marks are drawn, one after the other: a terminal that meets its end by the
-        string has then met it. The status, if it has ended."""
+        string has then met it. The status, if it has ended, and the screen, which has the last mark if it hasn't."""
         self.mark(READY)
         self.send(b"\x1b[2J\x1b[H" + data)
         self.mark(DRAWN)
         self.mark(OVER)
-        return self.process.poll()
+        picture = self.screen.at_rest()
+        while not self.ended() and not self.screen.has(OVER[1], picture):
+            self.mark(OVER)
+            picture = self.screen.at_rest()
+        return self.process.poll(), picture
 
     def mark(self, mark):
         """Draws a mark and asks a question, and waits until the one is seen and the other answered, or the terminal has
