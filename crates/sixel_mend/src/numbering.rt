@@ -1,7 +1,7 @@
 //! Makes a picture of pixels, whose colours get registers in the order in which they are first seen.
 
 ghost use Rattle.std.specs.Prelude.{◌≡◌, ◌≤◌, ◌*◌, ◌&&◌, [], IfErr, IfOk, IfSome, IsTrue, List, None, OnSome, Some};
-ghost use Rattle.std.specs.Prelude.{◌+◌, ◌-◌, ◌++◌, OnOk, length, map, replicate, vec_capacity, vec_len};
+ghost use Rattle.std.specs.Prelude.{◌≢◌, ◌+◌, ◌-◌, ◌++◌, OnOk, length, map, replicate, slice_get, vec_capacity, vec_len};
 ghost use Rattle.sixel_model.specs.declared.colour.Parts.{Parts};
 ghost use Rattle.sixel_model.specs.Pictures.{is_side};
 ghost use Rattle.sixel_model.specs.Profiles.{count_of};
@@ -117,6 +117,7 @@ fn end_of_run(pixels: &[Pixel], at: usize, pixel: &Pixel) -> usize
     requires { at ≤ length pixels.now }
     ensures within { (at ≤ result) × (result ≤ length pixels.now) }
     ensures same { AreAll pixels.now at result pixel.now }
+    ensures stops { IfSome (slice_get pixels.now result) (λ next. next ≢ pixel.now) }
 {
     let mut end = at;
     while end + LANES <= pixels.len() && are_same(pixels, end, pixel) {
