@@ -2,3 +2,4 @@ pub mod RangeLemmas
 pub mod TouchedLemmas
 pub mod MendedLemmas
 pub mod StaysLemmas
+pub mod OrderLemmas

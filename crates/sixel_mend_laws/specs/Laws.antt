@@ -1,5 +1,5 @@
 -- What the laws say.
-use Rattle.std.specs.Prelude.{◌≡◌, ◌<◌, ℕ, Some, Ok, List}
+use Rattle.std.specs.Prelude.{◌≡◌, ◌≢◌, ◌<◌, ℕ, IsSome, Option, Some, Ok, List, slice_get}
 use Rattle.sixel_grammar.specs.declared.command.Event.{Event}
 use Rattle.sixel_grammar.specs.declared.command.Placed.{Placed}
 use Rattle.sixel_grammar.specs.Document.{AreWhole, Document, events_of}
@@ -16,7 +16,7 @@ use Rattle.sixel_encode.specs.Canon.{canon_text}
 use Rattle.sixel_mend.specs.declared.mending.Mending.{Mending}
 use Rattle.sixel_mend.specs.Screens.{mending_terminal}
 use Rattle.sixel_mend.specs.Sizes.{IsSize, IsTouched}
-use Rattle.sixel_mend.specs.Mended.{MendsEvents}
+use Rattle.sixel_mend.specs.Mended.{MendsEvents, mended_colours}
 
 -- a list of events has at least one size
 abbrev pub SomeSize : Type 0
@@ -67,3 +67,22 @@ abbrev pub PortableStays : ℕ → Type 0
 PortableStays registers =
     (m : Mending) (events : List Event) → AreWhole events → BreaksNone registers last_rule events
     → (p : PictureValue) × MendsEvents registers m events (Ok p) × LookTheSame p (picture_left registers events)
+
+-- in the list the first of this colour stands at this index
+abbrev pub IsFirstAt : List Parts → ℕ → Parts → Type 0
+IsFirstAt colours i c = (slice_get colours i ≡ Some c) × ((j : ℕ) → j < i → slice_get colours j ≢ Some c)
+
+-- the palette has each of the colours once, in the order in which they come first, from register 0 on, and no other
+pub record AreInOrder (colours : List Parts) (palette : List (Option Parts)) : Type 0 where
+  pub each : (i : ℕ) (c : Parts) → slice_get colours i ≡ Some c → (r : ℕ) × (palette_at palette r ≡ Some c)
+  pub once : (r s : ℕ) (c : Parts) → palette_at palette r ≡ Some c → palette_at palette s ≡ Some c → r ≡ s
+  pub order : (r s i j : ℕ) (c d : Parts) → r < s → palette_at palette r ≡ Some c → palette_at palette s ≡ Some d
+      → IsFirstAt colours i c → IsFirstAt colours j d → i < j
+  pub from_0 : (r s : ℕ) → r < s → IsSome (palette_at palette s) → IsSome (palette_at palette r)
+  pub no_other : (r : ℕ) (c : Parts) → palette_at palette r ≡ Some c → (i : ℕ) × (slice_get colours i ≡ Some c)
+
+-- so has the palette of a mended picture the colours of its pixels, row by row
+abbrev pub ColoursInOrder : ℕ → Type 0
+ColoursInOrder registers =
+    (m : Mending) (events : List Event) (p : PictureValue) → MendsEvents registers m events (Ok p)
+    → AreInOrder (mended_colours m events p.width p.height) p.palette

@@ -1,6 +1,7 @@
 //! Laws about the definitions. Each function's contract is the law.
 
-ghost use Rattle.sixel_mend_laws.specs.Laws.{MendedIsPortable, NothingIsLost, OneSize, PortableStays, SomeSize};
+ghost use Rattle.sixel_mend_laws.specs.Laws.{ColoursInOrder, MendedIsPortable, NothingIsLost, OneSize, PortableStays};
+ghost use Rattle.sixel_mend_laws.specs.Laws.{SomeSize};
 ghost use Rattle.sixel_model.specs.Profiles.{count_of};
 ghost use Rattle.sixel_model.specs.declared.profile.Profile.{Profile};
 
@@ -26,4 +27,10 @@ pub fn nothing_is_lost()
 /// and each pixel has the same colour.
 pub fn portable_stays()
     ensures { (profile : Profile) → PortableStays (count_of profile) }
+{}
+
+/// The palette of a mended picture has each colour of its pixels once, from register 0 on, in the order in which they
+/// are first seen row by row, and no other colour.
+pub fn colours_are_in_order()
+    ensures { (profile : Profile) → ColoursInOrder (count_of profile) }
 {}
