@@ -10,6 +10,6 @@ mod numbering;
 mod terminal;
 
 pub use following::{Follower, follow_bytes};
-pub use making::{mend, mend_measured};
+pub use making::{mend, mend_measured, size_of};
 pub use measuring::Measurer;
 pub use mending::{MendFault, Mending};

@@ -82,8 +82,9 @@ fn judge(width: u32, height: u32) -> Result<(), MendFault>
     Ok(())
 }
 
-/// The width and the height of the picture of a document, in pixels.
-fn size_of(measurer: &Measurer) -> Result<(u32, u32), MendFault>
+/// The width and the height of the picture that `mend` makes of what this measurer has read, in pixels. `Grammar`,
+/// `Empty`, `TooLarge`: there is no such picture.
+pub fn size_of(measurer: &Measurer) -> Result<(u32, u32), MendFault>
     ensures sides { IfOk result (λ sides. IsTrue (is_side sides.0 && is_side sides.1)) }
     ensures sized { IfOk result (λ sides. (bytes : List ℕ) → HasMeasured measurer.now bytes
         → (events : List Place) × Document events bytes

@@ -1,7 +1,7 @@
 -- What a run of `mend` owes.
 use Rattle.std.proofs.Common.{◌≡◌, ◌∙◌, ℕ, Bool, true, false, List, [], take, drop, Option, Some, None, refl, sym}
 use Rattle.std.proofs.Common.{ap, ap₂, subst, inl, inr}
-use Rattle.std.specs.Prelude.{◌==◌, ◌||◌, ◌≢◌, Result, Ok, Err, IfSome, length, nat_lt, if◌then◌else◌}
+use Rattle.std.specs.Prelude.{◌==◌, ◌&&◌, ◌||◌, ◌≢◌, IsTrue, Result, Ok, Err, IfSome, length, nat_lt, if◌then◌else◌}
 use Rattle.std.specs.Io.KnownBytes.{Appends}
 use Rattle.std.proofs.lemmas.List.{take-append-drop}
 use Rattle.sixel_io.proofs.SinkLemmas.{Appends-none}
@@ -15,7 +15,7 @@ use Rattle.sixel_grammar.specs.Faults.{IsFaultOf}
 use Rattle.sixel_grammar.specs.Reading.{Explains}
 use Rattle.sixel_grammar.proofs.TotalLemmas.{judged}
 use Rattle.sixel_grammar.proofs.UniqueLemmas.{document_once, fault_no_document, fault_once}
-use Rattle.sixel_model.specs.Pictures.{PictureValue, most_side}
+use Rattle.sixel_model.specs.Pictures.{PictureValue, is_side, most_side}
 use Rattle.sixel_ppm.specs.PpmReading.{distinct, picture_of}
 use Rattle.sixel_encode.specs.Canon.{canon_text}
 use Rattle.sixel_mend.specs.declared.mending.MendFault.{MendFault}
@@ -29,7 +29,9 @@ use Rattle.sixel_run.specs.declared.fault.RunFault.TheVariants.{Write}
 use Rattle.sixel_run.specs.declared.task.Status.{Status}
 use Rattle.sixel_run.specs.declared.task.Status.TheVariants.{Done}
 use Rattle.sixel_run.specs.Conversions.{of_input, of_mend}
-use Rattle.sixel_run.specs.Outputs.{MendGives, WroteBy, WroteNothing, mend_output}
+use Rattle.sixel_run.specs.Outputs.{HasPictureSize, MendGives, WroteBy, WroteNothing, mend_output}
+use Rattle.sixel_mend.specs.Measuring.{HasMeasured, Measured}
+use Rattle.sixel_mend.specs.Sizes.{IsSize}
 use Rattle.sixel_run.specs.Texts.{Text}
 
 -- ---- at most one output
@@ -202,3 +204,52 @@ mend_unread registers m (Some bytes) fault had is = unread registers m bytes fau
 pub explained : (a : Option (List ℕ)) → IfSome a (Explains input.OutOfMemory)
 explained None = tt
 explained (Some bytes) = tt
+
+-- ---- memory
+
+-- the document has a picture's size, if mending runs out of memory
+sized : (registers : ℕ) (m : Mending) (bytes : List ℕ) (fault : MendFault) → Mends registers m bytes (Err fault)
+    → of_mend fault ≡ OutOfMemory → HasPictureSize m bytes
+sized registers m bytes mend.OutOfMemory g is = g
+sized registers m bytes (mend.Grammar f) g is = cc
+sized registers m bytes mend.Empty g is = cc
+sized registers m bytes mend.TooLarge g is = cc
+sized registers m bytes mend.TooManyColours g is = cc
+
+pub mend_grown : (registers : ℕ) (m : Mending) (a : Option (List ℕ)) (bytes : List ℕ) (fault : MendFault)
+    → IfSome a (λ told. told ≡ bytes) → Mends registers m bytes (Err fault)
+    → of_mend fault ≡ OutOfMemory → IfSome a (HasPictureSize m)
+mend_grown registers m None bytes fault same g is = tt
+mend_grown registers m (Some told) bytes fault same g is =
+    subst (HasPictureSize m) (sym same) (sized registers m bytes fault g is)
+
+-- what was measured of bytes that aren't kept
+pub measured_refused : (registers : ℕ) (m : Mending) (measurer : Measured) (a : Option (List ℕ)) (fault : MendFault)
+    (had : Option (List ℕ)) → IfSome a (HasMeasured measurer)
+    → ((bytes : List ℕ) → HasMeasured measurer bytes → (r : ℕ) (n : Mending) → Mends r n bytes (Err fault))
+    → IfSome a (λ told. WroteBy (MendGives registers m told) WroteNothing (Err (of_mend fault)) had had)
+measured_refused registers m measurer None fault had has refused = tt
+measured_refused registers m measurer (Some told) fault had has refused =
+    unmended registers m told fault had (refused told has registers m)
+
+pub measured_grown : (registers : ℕ) (m : Mending) (measurer : Measured) (a : Option (List ℕ)) (fault : MendFault)
+    → IfSome a (HasMeasured measurer)
+    → ((bytes : List ℕ) → HasMeasured measurer bytes → (r : ℕ) (n : Mending) → Mends r n bytes (Err fault))
+    → of_mend fault ≡ OutOfMemory → IfSome a (HasPictureSize m)
+measured_grown registers m measurer None fault has refused is = tt
+measured_grown registers m measurer (Some told) fault has refused is =
+    sized registers m told fault (refused told has registers m) is
+
+pub measured_sized : (m : Mending) (measurer : Measured) (a : Option (List ℕ)) (w h : ℕ)
+    → IfSome a (HasMeasured measurer) → IsTrue (is_side w && is_side h)
+    → ((bytes : List ℕ) → HasMeasured measurer bytes
+    → (events : List Placed) × Document events bytes × ((n : Mending) → IsSize n (events_of events) w h))
+    → IfSome a (HasPictureSize m)
+measured_sized m measurer None w h has sides sized = tt
+measured_sized m measurer (Some told) w h has sides sized =
+    let d = sized told has in (d.0, d.1, (w, h, d.2 m, sides))
+
+pub not_grown : (fault : InputFault) → (fault ≡ input.OutOfMemory → ⊥) → of_input fault ≡ OutOfMemory → ⊥
+not_grown (input.Grammar f) other is = cc
+not_grown input.OutOfMemory other is = other refl
+not_grown input.Read other is = cc

@@ -17,7 +17,9 @@ use Rattle.sixel_run.specs.declared.task.Status.TheVariants.{Done}
 use Rattle.sixel_run.specs.declared.task.Task.{Task}
 use Rattle.sixel_run.specs.declared.task.Task.TheVariants.{List as Listing, Check, Survey, Render, Show, ShowBox, Encode}
 use Rattle.sixel_run.specs.declared.task.Task.TheVariants.{Mend, Scan}
-use Rattle.sixel_run.specs.Outputs.{Gives, ListGives, ListsUnread, Wrote, WroteBefore, WroteUnread, mending}
+use Rattle.sixel_run.specs.Outputs.{FoundNoFault, Gives, ListGives, ListsUnread, Wrote, WroteBefore, WroteBy, WroteNothing}
+use Rattle.sixel_run.specs.Outputs.{WroteUnread, mending}
+use Rattle.sixel_grammar.specs.Reading.{NoFaultBefore}
 use Rattle.sixel_run.specs.Scanned.{AreOfFirst, scan_text}
 use Rattle.sixel_run.specs.Screens.{screen_terminal, show_choices, show_terminal}
 use Rattle.sixel_run.specs.Texts.{Text, BeginsWith, list_text}
@@ -142,8 +144,10 @@ unflushed-unread Listing bytes left had mid has w kept = unflushed-list bytes le
 unflushed-unread (Scan profile eight) bytes left had mid has w kept =
     unflushed-scan profile eight bytes left had mid has w.0
     (given_first eight (count_of profile) bytes left w.0 w.1) w.2 kept
-unflushed-unread _ bytes left had mid has w kept =
+unflushed-unread (Encode profile) bytes left had mid has w kept =
     ([], Appends-keeps had mid has [] w kept, λ text answer g. (text, refl))
+unflushed-unread _ bytes left had mid has w kept =
+    ([], Appends-keeps had mid has [] w.1 kept, λ text answer g. (text, refl))
 
 unflushed-before : (task : Task) (bytes : List ℕ) (left had mid has : Option (List ℕ))
     → WroteBefore task bytes had mid → Keeps mid has → Wrote task bytes left (Err Write) had has
@@ -179,7 +183,8 @@ flushed-unread Listing bytes left had mid has w kept =
     (w.0, w.1, w.2, w.3, Appends-keeps had mid has w.1 w.4 kept)
 flushed-unread (Scan profile eight) bytes left had mid has w kept =
     (w.0, w.1, Appends-keeps had mid has (scan_text w.0) w.2 kept)
-flushed-unread _ bytes left had mid has w kept = Appends-keeps had mid has [] w kept
+flushed-unread (Encode profile) bytes left had mid has w kept = Appends-keeps had mid has [] w kept
+flushed-unread _ bytes left had mid has w kept = (w.0, Appends-keeps had mid has [] w.1 kept)
 
 flushed-before : (task : Task) (bytes : List ℕ) (had mid has : Option (List ℕ))
     → WroteBefore task bytes had mid → Keeps mid has → WroteBefore task bytes had has
@@ -205,3 +210,22 @@ pub unflushed : (task : Task) (a left had mid has : Option (List ℕ)) (answer :
     → IfSome a (λ (bytes : List ℕ). Wrote task bytes left (Err Write) had has)
 unflushed task None left had mid has answer w kept = tt
 unflushed task (Some bytes) left had mid has answer w kept = unflushed-run task bytes left had mid has answer w kept
+
+-- ---- a read that fails
+
+unread-run : (gives : Text → Result Status RunFault → Type 0) (bytes : List ℕ) (left had has : Option (List ℕ))
+    (answer : Result Status RunFault) → WroteBy gives WroteNothing answer had has
+    → (answer ≡ Err Read → NoFaultBefore left bytes) → WroteBy gives (FoundNoFault bytes left) answer had has
+unread-run gives bytes left had has (Err Read) wrote none = (none refl, wrote)
+unread-run gives bytes left had has (Err OutOfMemory) wrote none = wrote
+unread-run gives bytes left had has (Err Write) wrote none = wrote
+unread-run gives bytes left had has answer wrote none = wrote
+
+-- a run that has written nothing when a read fails, and has found no fault by then
+pub unread : (gives : List ℕ → Text → Result Status RunFault → Type 0) (a left had has : Option (List ℕ))
+    (answer : Result Status RunFault) → IfSome a (λ (bytes : List ℕ). WroteBy (gives bytes) WroteNothing answer had has)
+    → (answer ≡ Err Read → IfSome a (NoFaultBefore left))
+    → IfSome a (λ (bytes : List ℕ). WroteBy (gives bytes) (FoundNoFault bytes left) answer had has)
+unread gives None left had has answer wrote none = tt
+unread gives (Some bytes) left had has answer wrote none =
+    unread-run (gives bytes) bytes left had has answer wrote none

@@ -1,7 +1,7 @@
 -- A document whose declared box gives the sides of the screen, while it is read.
-use Rattle.std.proofs.Common.{◌≡◌, ◌∙◌, ◌++◌, ◌∷◌, ◌+◌, [], ℕ, List, Option, Some, None, refl, sym}
+use Rattle.std.proofs.Common.{◌≡◌, ◌∙◌, ◌++◌, ◌∷◌, ◌+◌, [], ℕ, List, Option, Some, None, false, refl, sym, true}
 use Rattle.std.proofs.Common.{ap, ap₂, append_assoc, subst}
-use Rattle.std.specs.Prelude.{option_and_then, option_map, IsSome}
+use Rattle.std.specs.Prelude.{option_and_then, option_map, IfSome, IsSome}
 use Rattle.std.specs.Io.KnownBytes.{Consumes}
 use Rattle.std.specs.Option.{option_or}
 use Rattle.std.proofs.lemmas.List.{append-nil}
@@ -28,7 +28,7 @@ use Rattle.sixel_terminal.specs.Drawings.{Drawn as DrawnValue, HasDrawn}
 use Rattle.sixel_run.specs.declared.running.show_box.Stage.{Stage}
 use Rattle.sixel_run.specs.declared.running.show_box.Stage.TheVariants.{Undeclared, Drawn, Unshowable}
 use Rattle.sixel_run.specs.Boxes.{Finds, HasRead, IsDrawnInBox, IsStageAfter, Refuses, box_in}
-use Rattle.sixel_run.specs.Screens.{declared_screen, sides_of_box}
+use Rattle.sixel_run.specs.Screens.{DeclareScreenIn, declared_screen, sides_of_box}
 use Rattle.sixel_mend.specs.Following.{FollowsBytes, HasDrawnOn}
 use Rattle.sixel_mend.proofs.FollowLemmas.{events-then}
 
@@ -256,3 +256,41 @@ drawn-all reader r s d e f bytes more start none one two =
           (complete_once (bytes ++ more) a.events events (read_complete s a.events (bytes ++ more) a.read) complete)
           a.followed.1,
     )
+
+-- ---- memory
+
+-- the bytes so far are kept with more behind them
+pub kept-more : {K : Type 0} (items : K → List ℕ) (kept longer : Option K) (bytes more : List ℕ)
+    → IfSome longer (λ l. IfSome kept (λ k. items l ≡ items k ++ more)) → (IsSome longer → IsSome kept)
+    → IfSome kept (λ k. items k ≡ bytes) → IfSome longer (λ l. items l ≡ bytes ++ more)
+kept-more items kept None bytes more is some had = tt
+kept-more {K} items None (Some l) bytes more is some had = let no : false ≡ true = some refl in cc
+kept-more items (Some k) (Some l) bytes more is some had = is ∙ ap (λ (t : List ℕ). t ++ more) had
+
+-- a box of a screen's size was declared now
+pub declares-now : (reader : Reader) (xs ys : List Placed) (width height : ℕ) (sides : Sides) (bytes : List ℕ)
+    → StandsAfter reader (xs ++ ys) bytes → box_in (events_of xs) ≡ None → Some (width, height) ≡ box_in (events_of ys)
+    → Some sides ≡ sides_of_box width height → DeclareScreenIn bytes
+declares-now reader xs ys width height sides bytes read none found fit = record {
+  prefix = bytes;
+  rest = [];
+  bytes_are = sym (append-nil bytes);
+  events = xs ++ ys;
+  complete = read_complete reader (xs ++ ys) bytes read;
+  declares = subst IsSome (sym (ap declared_screen (events-then xs ys)
+      ∙ declared-now (events_of xs) (events_of ys) width height none found ∙ sym fit)) refl;
+}
+
+-- what is declared in the first bytes of a source is declared in all
+pub declares-early : (a b : Option (List ℕ)) (xs : List ℕ) → Consumes a b xs → DeclareScreenIn xs
+    → IfSome a DeclareScreenIn
+declares-early None b xs c d = tt
+declares-early (Some a) None xs c d = absurd c
+declares-early (Some a) (Some b) xs c d = record {
+  prefix = d.prefix;
+  rest = d.rest ++ b;
+  bytes_are = c ∙ ap (λ (t : List ℕ). t ++ b) d.bytes_are ∙ append_assoc d.prefix d.rest b;
+  events = d.events;
+  complete = d.complete;
+  declares = d.declares;
+}

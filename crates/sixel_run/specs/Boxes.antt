@@ -1,5 +1,5 @@
 -- Reading a document whose declared box gives the sides of the screen. Only contracts of private functions cite these.
-use Rattle.std.specs.Prelude.{◌≡◌, ◌++◌, ℕ, List, Option, Some, None, IsSome, option_map}
+use Rattle.std.specs.Prelude.{◌≡◌, ◌++◌, ℕ, List, Option, Some, None, IfSome, IsSome, option_map}
 use Rattle.sixel_grammar.specs.declared.command.Event.{Event}
 use Rattle.sixel_grammar.specs.declared.command.Placed.{Placed}
 use Rattle.sixel_grammar.specs.declared.fault.InputFault.{InputFault}
@@ -50,7 +50,7 @@ pub record IsDrawnInBox (terminal : ℕ × ℕ → Display) (d : DrawnValue) (ev
 
 -- the stage after these bytes, in which these events are complete
 abbrev pub IsStageAfter : (ℕ × ℕ → Display) → Stage → List Event → List ℕ → Type 0
-IsStageAfter terminal (Undeclared kept) events bytes = (kept.items ≡ bytes) × (box_in events ≡ None)
+IsStageAfter terminal (Undeclared kept) events bytes = IfSome kept (λ k. k.items ≡ bytes) × (box_in events ≡ None)
 IsStageAfter terminal (Drawn d) events bytes = IsDrawnInBox terminal d events
 IsStageAfter terminal Unshowable events bytes = IsSome (box_in events) × (declared_screen events ≡ None)
 

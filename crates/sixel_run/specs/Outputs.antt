@@ -4,9 +4,10 @@ use Rattle.std.specs.Prelude.{Result, Ok, Err, if◌then◌else◌}
 use Rattle.std.specs.Io.KnownBytes.{Appends, Consumes}
 use Rattle.sixel_grammar.specs.declared.command.Placed.{Placed}
 use Rattle.sixel_io.specs.Devices.{one_more}
-use Rattle.sixel_grammar.specs.Document.{Document, events_of, most_bytes}
+use Rattle.sixel_grammar.specs.Document.{Document, IsDocument, events_of, most_bytes}
 use Rattle.sixel_grammar.specs.Prefixes.{CompleteIn}
 use Rattle.sixel_grammar.specs.Faults.{IsFaultOf}
+use Rattle.sixel_grammar.specs.Reading.{NoFaultBefore}
 use Rattle.sixel_ppm.specs.declared.ppm.PpmFault.{PpmFault}
 use Rattle.sixel_model.specs.Pictures.{PictureValue}
 use Rattle.sixel_model.specs.Profiles.{count_of}
@@ -27,7 +28,7 @@ use Rattle.sixel_survey.specs.Declaring.{DeclareBoxIn}
 use Rattle.sixel_survey.specs.Surveys.{IsSurvey}
 use Rattle.sixel_mend.specs.declared.mending.MendFault.{MendFault}
 use Rattle.sixel_mend.specs.declared.mending.Mending.{Mending}
-use Rattle.sixel_mend.specs.Mended.{MendsEvents}
+use Rattle.sixel_mend.specs.Mended.{HasSides as HasMendedSides, MendsEvents}
 use Rattle.sixel_scan.specs.declared.answer.Scanned.{Scanned}
 use Rattle.sixel_run.specs.Conversions.{of_mend, of_ppm}
 use Rattle.sixel_run.specs.declared.fault.RunFault.{RunFault}
@@ -40,7 +41,7 @@ use Rattle.sixel_run.specs.declared.task.Task.TheVariants.{List as Listing, Chec
 use Rattle.sixel_run.specs.declared.task.Task.TheVariants.{Mend, Scan}
 use Rattle.sixel_run.specs.Scanned.{AreBeforeAllocation, AreOfGiven, AreOfStream, MayGrowInString, answer_of_strings}
 use Rattle.sixel_run.specs.Scanned.{scan_text}
-use Rattle.sixel_run.specs.Screens.{declared_screen, screen_terminal, screen_text, show_choices, show_terminal}
+use Rattle.sixel_run.specs.Screens.{DeclareScreenIn, declared_screen, screen_terminal, screen_text, show_choices, show_terminal}
 use Rattle.sixel_run.specs.Texts.{Text, BeginsWith, list_text, outcome_line, survey_text, verdict_line}
 
 -- ---- lists
@@ -224,20 +225,31 @@ Gives (ShowBox profile showing fill selects) bytes text answer =
 abbrev pub WroteNothing : Option (List ℕ) → Option (List ℕ) → Type 0
 WroteNothing had has = Appends had has []
 
--- what a task has appended to what the sink `had` when reading these bytes fails before `left`
+-- no fault is in the bytes given so far, those before `left`, and nothing was appended to what the sink `had`
+abbrev pub FoundNoFault : List ℕ → Option (List ℕ) → Option (List ℕ) → Option (List ℕ) → Type 0
+FoundNoFault bytes left had has = NoFaultBefore left bytes × WroteNothing had has
+
+-- what a task has appended to what the sink `had` when reading these bytes fails before `left`. A fault in the bytes
+-- given before that would have been answered
 abbrev pub WroteUnread : Task → List ℕ → Option (List ℕ) → Option (List ℕ) → Option (List ℕ) → Type 0
 WroteUnread Listing bytes left had has = ListsUnread bytes left had has
 WroteUnread (Scan profile eight) bytes left had has = ScansUnread eight (count_of profile) bytes left had has
-WroteUnread t bytes left had has = WroteNothing had has
+WroteUnread (Encode profile) bytes left had has = WroteNothing had has
+WroteUnread t bytes left had has = FoundNoFault bytes left had has
 
 -- what a task over these bytes has appended to what the sink `had` when an allocation fails
 abbrev pub WroteBefore : Task → List ℕ → Option (List ℕ) → Option (List ℕ) → Type 0
 WroteBefore (Scan profile eight) bytes had has = ScansBefore eight (count_of profile) bytes had has
 WroteBefore t bytes had has = WroteNothing had has
 
+-- the bytes are a document whose mended picture has a size that a picture may have
+abbrev pub HasPictureSize : Mending → List ℕ → Type 0
+HasPictureSize m bytes = (events : List Placed) × Document events bytes × HasMendedSides m (events_of events)
+
 -- a run of the task over these bytes, if they are known, may run out of memory: a check or a render only if a checker
 -- may allocate in them, a scan only if it may in one of the strings, a survey only if a box in range is declared in
--- them, an encode only after a whole header, a list never
+-- them, an encode only after a whole header, a mend only for a document that has a picture's size,
+-- a show only for a document, or with --box only if a screen's size is declared in them, a list never
 abbrev pub TakesMemory : Task → Option (List ℕ) → Type 0
 TakesMemory Listing told = ⊥
 TakesMemory (Check profile) told = IfSome told (MayGrowIn (count_of profile))
@@ -245,9 +257,10 @@ TakesMemory (Survey profile) told = IfSome told DeclareBoxIn
 TakesMemory (Scan profile eight) told = IfSome told (MayGrowInString eight (count_of profile))
 TakesMemory (Render profile) told = IfSome told (MayGrowIn (count_of profile))
 TakesMemory (Encode profile) told = IfSome told HasWholeHeader
-TakesMemory (Mend profile background showing selects) told = Unit {0}
-TakesMemory (Show profile showing fill selects width height) told = Unit {0}
-TakesMemory (ShowBox profile showing fill selects) told = Unit {0}
+TakesMemory (Mend profile background showing selects) told =
+    IfSome told (HasPictureSize (mending background showing selects))
+TakesMemory (Show profile showing fill selects width height) told = IfSome told IsDocument
+TakesMemory (ShowBox profile showing fill selects) told = IfSome told DeclareScreenIn
 
 -- what a run with this answer appended to what the sink `had`. OutOfMemory: what `before` says; Read: what `unread`
 -- says; Write: a prefix of each text that `gives` allows; any other answer: a text that `gives` allows with that answer

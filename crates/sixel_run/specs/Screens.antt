@@ -1,9 +1,13 @@
 -- The terminal that shows a picture, and the PPM of its screen.
-use Rattle.std.specs.Prelude.{◌≡◌, ℕ, ◌*◌, ◌%◌, ◌&&◌, Bool, true, false, List, Option, map, replicate, if◌then◌else◌}
+use Rattle.std.specs.Prelude.{◌≡◌, ◌++◌, ℕ, ◌*◌, ◌%◌, ◌&&◌, Bool, true, false, IsSome, List, Option, map, replicate}
+use Rattle.std.specs.Prelude.{if◌then◌else◌}
 use Rattle.std.specs.Bool.{then_some}
 use Rattle.std.specs.List.{range_with_len}
 use Rattle.std.specs.Option.{option_and_then}
 use Rattle.sixel_grammar.specs.declared.command.Event.{Event}
+use Rattle.sixel_grammar.specs.declared.command.Placed.{Placed}
+use Rattle.sixel_grammar.specs.Document.{events_of}
+use Rattle.sixel_grammar.specs.Prefixes.{CompleteIn}
 use Rattle.sixel_model.specs.declared.colour.Parts.{Parts}
 use Rattle.sixel_model.specs.declared.colour.Parts.TheVariants.{Rgb}
 use Rattle.sixel_ppm.specs.Ppm.{is_file_side, ppm_text}
@@ -65,6 +69,15 @@ sides_of_box width height = then_some (is_file_side width && is_file_side height
 -- the width and height of the declared box, that of the first raster attributes, if a screen can have them
 unfoldable pub declared_screen : List Event → Option (ℕ × ℕ)
 declared_screen events = option_and_then (λ a. sides_of_box a.width a.height) (raster_before events)
+
+-- the events that are complete in some viable prefix of the bytes declare a box of a screen's size
+pub record DeclareScreenIn (bytes : List ℕ) : Type 0 where
+  pub prefix : List ℕ
+  pub rest : List ℕ
+  pub bytes_are : bytes ≡ prefix ++ rest
+  pub events : List Placed
+  pub complete : CompleteIn events prefix
+  pub declares : IsSome (declared_screen (events_of events))
 
 -- the terminal with a screen of these sides
 abbrev pub screen_terminal : Profile → Bool → Bool → Bool → ℕ × ℕ → Display

@@ -6,6 +6,7 @@ ghost use Rattle.sixel_run.specs.Outputs.{CountsReads, CountsWrites, HasSides, T
 pub mod check;
 mod draw;
 mod encode;
+mod kept;
 mod list;
 mod list_lines;
 mod mend;

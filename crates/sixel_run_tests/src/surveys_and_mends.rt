@@ -1,11 +1,13 @@
 //! For `survey` and `mend`, each call of a device fails in turn; and the calls of whole runs are counted.
 
 use crate::in_turn::{CHECKED, Case, FAULT, all_stop};
-use crate::runs::{SURVEY, mend_on_black};
+use crate::runs::{SURVEY, agrees, mend_on_black};
 use sixel_check::{Finding, Rule};
 use sixel_model::Profile;
 use sixel_run::{RunFault, Status, entry_line};
 use sixel_survey::Entry;
+use std::alloc::Global;
+use std::test::Fail;
 
 /// Three broken rules, surveyed: 15 bytes in, 46 out.
 const THREE: Case = Case {
@@ -45,6 +47,25 @@ const EMPTY: Case = Case {
 fn each_call_of_a_device_fails_in_a_mend(rt: HostRuntime) {
     let task = mend_on_black(Profile::Registers16);
     assert!(rt; all_stop(rt.alloc(), &task, &[MENDED, EMPTY, FAULT]));
+}
+
+/// Whether the text is mended as a black pixel, in pieces of at most so many bytes.
+fn is_mended(alloc: Global, text: &[u8], piece: usize) -> bool {
+    let task = mend_on_black(Profile::Registers16);
+    agrees(alloc, task, text, piece, MENDED.text, Ok(Status::Done))
+}
+
+/// A long text, in many pieces, is mended as a short one: there is memory for it.
+#[test]
+fn a_long_text_is_mended(rt: HostRuntime) -> Result<(), Fail> {
+    let mut text = Vec::new(rt.alloc());
+    text.extend_from_slice(b"\x1bPq\"1;1;1;1#0;2;0;0;0#0@")?;
+    text.resize(1_000_000, b'$')?;
+    text.extend_from_slice(b"\x1b\\")?;
+    assert!(rt; is_mended(rt.alloc(), &text, 1_000));
+    assert!(rt; is_mended(rt.alloc(), &text, 65_536));
+    assert!(rt; is_mended(rt.alloc(), &text, 2_000_000));
+    Ok(())
 }
 
 /// The longest line of an entry has 92 bytes.

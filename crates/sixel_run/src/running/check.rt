@@ -2,6 +2,7 @@
 
 ghost use Rattle.std.specs.Prelude.{◌≡◌, ◌≢◌, [], Err, IfSome, Some};
 ghost use Rattle.sixel_io.specs.Devices.{ReadsToEnd};
+ghost use Rattle.sixel_grammar.specs.Reading.{NoFaultBefore};
 ghost use Rattle.sixel_model.specs.Profiles.{count_of};
 ghost use Rattle.sixel_judge.specs.Growth.{MayGrowIn};
 ghost use Rattle.sixel_run.specs.declared.fault.RunFault.TheVariants.{Read};
@@ -30,6 +31,8 @@ pub fn check<S: Source, K: Sink>(
     ensures memory { result ≡ Err RunFault.OutOfMemory →
         IfSome (S.state input.old).remaining (MayGrowIn (count_of profile)) }
     ensures reads { (S.state input.new).failures ≡ failures_by Read result (S.state input.old).failures }
+    ensures unread { result ≡ Err Read →
+        IfSome (S.state input.old).remaining (NoFaultBefore (S.state input.new).remaining) }
     ensures writes { CountsWrites result (K.state output.old).failures (K.state output.new).failures }
 {
     let outcome = sixel_check::outcome(alloc, profile, input)?;
@@ -50,6 +53,8 @@ pub fn judge<S: Source>(alloc: Global, profile: Profile, input: &mut S) -> Resul
     ensures memory { answer_of result ≡ Err RunFault.OutOfMemory →
         IfSome (S.state input.old).remaining (MayGrowIn (count_of profile)) }
     ensures reads { (S.state input.new).failures ≡ failures_by Read (answer_of result) (S.state input.old).failures }
+    ensures unread { answer_of result ≡ Err Read →
+        IfSome (S.state input.old).remaining (NoFaultBefore (S.state input.new).remaining) }
     ensures left { ReadsToEnd (answer_of result) (S.state input.old).remaining (S.state input.new).remaining }
     ensures unwritten { answer_of result ≢ Err RunFault.Write }
 {
@@ -69,6 +74,8 @@ pub fn judge_with<S: Source>(
     ensures memory { answer_of result ≡ Err RunFault.OutOfMemory →
         IfSome (S.state input.old).remaining (MayGrowIn (count_of profile)) }
     ensures reads { (S.state input.new).failures ≡ failures_by Read (answer_of result) (S.state input.old).failures }
+    ensures unread { answer_of result ≡ Err Read →
+        IfSome (S.state input.old).remaining (NoFaultBefore (S.state input.new).remaining) }
     ensures left { ReadsToEnd (answer_of result) (S.state input.old).remaining (S.state input.new).remaining }
     ensures unwritten { answer_of result ≢ Err RunFault.Write }
 {

@@ -1,14 +1,15 @@
-//! Draws a document while it is read.
+//! Reads a document, and draws it or not.
 
-ghost use Rattle.std.specs.Prelude.{◌≡◌, [], IfErr, IfSome, List, OnOk};
+ghost use Rattle.std.specs.Prelude.{◌≡◌, ◌≢◌, [], Err, IfErr, IfSome, List, OnOk};
 ghost use Rattle.sixel_grammar.specs.declared.command.Placed.{Placed as Place};
-ghost use Rattle.sixel_grammar.specs.Document.{Document, events_of};
-ghost use Rattle.sixel_grammar.specs.Reading.{Explains, failures_after};
+ghost use Rattle.sixel_grammar.specs.Document.{Document, IsDocument, events_of};
+ghost use Rattle.sixel_grammar.specs.declared.fault.InputFault.TheVariants.{Read as ReadFault};
+ghost use Rattle.sixel_grammar.specs.Reading.{Explains, NoFaultBefore, failures_after};
 ghost use Rattle.sixel_terminal.specs.Drawings.{HasDrawn};
 
 use sixel_grammar::{InputFault, Reader};
 use sixel_io::{PIECE, Source};
-use sixel_mend::follow_bytes;
+use sixel_mend::{Measurer, follow_bytes};
 use sixel_terminal::Drawing;
 
 /// Reads the source to its end, and draws the events of its document. It keeps none of them.
@@ -19,6 +20,9 @@ pub fn draw<S: Source>(input: &mut S, drawing: &mut Drawing) -> Result<(), Input
         (events : List Place) × Document events bytes × HasDrawn drawing.new (events_of events))) }
     ensures refused { IfErr result (λ fault. IfSome (S.state input.old).remaining (Explains fault)) }
     ensures failures { (S.state input.new).failures ≡ failures_after result (S.state input.old).failures }
+    ensures unread { result ≡ Err ReadFault →
+        IfSome (S.state input.old).remaining (NoFaultBefore (S.state input.new).remaining) }
+    ensures memory { result ≢ Err InputFault.OutOfMemory }
 {
     let mut reader = Reader::new();
     let mut piece = [0u8; PIECE];
@@ -28,5 +32,25 @@ pub fn draw<S: Source>(input: &mut S, drawing: &mut Drawing) -> Result<(), Input
             return Ok(reader.finish()?);
         }
         follow_bytes(&mut reader, drawing, &piece[..count])?;
+    }
+}
+
+/// Reads the source to its end, and keeps nothing.
+pub fn read_whole<S: Source>(input: &mut S) -> Result<(), InputFault>
+    ensures read { OnOk result (IfSome (S.state input.old).remaining IsDocument) }
+    ensures refused { IfErr result (λ fault. IfSome (S.state input.old).remaining (Explains fault)) }
+    ensures failures { (S.state input.new).failures ≡ failures_after result (S.state input.old).failures }
+    ensures unread { result ≡ Err ReadFault →
+        IfSome (S.state input.old).remaining (NoFaultBefore (S.state input.new).remaining) }
+    ensures memory { result ≢ Err InputFault.OutOfMemory }
+{
+    let mut measurer = Measurer::new();
+    let mut piece = [0u8; PIECE];
+    loop {
+        let count = input.fill(&mut piece)?;
+        if count == 0 {
+            return Ok(measurer.finish()?);
+        }
+        measurer.feed(&piece[..count])?;
     }
 }

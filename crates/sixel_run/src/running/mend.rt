@@ -1,24 +1,27 @@
 //! Makes a portable sixel picture of a sixel string.
 
-ghost use Rattle.std.specs.Prelude.{◌≡◌, IfErr, IfOk, IfSome};
-ghost use Rattle.sixel_grammar.specs.Reading.{Explains, failures_after};
+ghost use Rattle.std.specs.Prelude.{◌≡◌, ◌≢◌, Err, IfErr, IfOk, IfSome};
+ghost use Rattle.sixel_grammar.specs.declared.fault.InputFault.TheVariants.{Read as ReadFault};
+ghost use Rattle.sixel_grammar.specs.Reading.{Explains, NoFaultBefore, failures_after};
 ghost use Rattle.sixel_mend.specs.Measuring.{HasMeasured};
 ghost use Rattle.sixel_model.specs.Profiles.{count_of};
 ghost use Rattle.sixel_run.specs.declared.fault.RunFault.TheVariants.{Read};
-ghost use Rattle.sixel_run.specs.Outputs.{CountsWrites, MendGives, WroteBy, WroteNothing, failures_by};
+ghost use Rattle.sixel_run.specs.Outputs.{CountsWrites, HasPictureSize, MendGives, WroteBy, WroteNothing, failures_by};
 
+use super::kept::kept_with;
 use crate::fault::RunFault;
 use crate::task::Status;
 use sixel_grammar::InputFault;
 use sixel_io::{PIECE, Sink, Source};
-use sixel_mend::{Measurer, Mending, mend_measured};
+use sixel_mend::{Measurer, Mending, mend_measured, size_of};
 use sixel_model::Profile;
 use std::alloc::Global;
 
 /// Reads the whole input, and writes the canonical sixel text of its mended picture. It doesn't flush.
 ///
 /// The size of the picture is known at the end only, so the bytes are kept, and measured while they come. Nothing is
-/// allocated for the picture of a string whose size no picture may have.
+/// allocated for the picture of a string whose size no picture may have. Without memory to keep the bytes they are still
+/// measured, so that such a string, or one that is no document, gets its own fault.
 pub fn mend<S: Source, K: Sink>(
     alloc: Global,
     profile: Profile,
@@ -29,10 +32,18 @@ pub fn mend<S: Source, K: Sink>(
     ensures wrote { IfSome (S.state input.old).remaining (λ bytes.
         WroteBy (MendGives (count_of profile) mending.now bytes) WroteNothing result
         (K.state output.old).taken (K.state output.new).taken) }
+    ensures memory { result ≡ Err RunFault.OutOfMemory →
+        IfSome (S.state input.old).remaining (HasPictureSize mending.now) }
     ensures reads { (S.state input.new).failures ≡ failures_by Read result (S.state input.old).failures }
+    ensures unread { result ≡ Err Read →
+        IfSome (S.state input.old).remaining (NoFaultBefore (S.state input.new).remaining) }
     ensures writes { CountsWrites result (K.state output.old).failures (K.state output.new).failures }
 {
-    let (bytes, measurer) = read_document(alloc, input)?;
+    let (kept, measurer) = read_document(alloc, input)?;
+    let Some(bytes) = kept else {
+        size_of(&measurer)?;
+        return Err(RunFault::OutOfMemory);
+    };
     let picture = mend_measured(alloc, profile, mending, &measurer, &bytes)?;
     match sixel_encode::encode(&picture, output) {
         Ok(()) => Ok(Status::Done),
@@ -40,24 +51,32 @@ pub fn mend<S: Source, K: Sink>(
     }
 }
 
-/// The bytes of the document, up to the end of the source, and what they measure. It reads no piece after an invalid
-/// byte.
-fn read_document<S: Source>(alloc: Global, input: &mut S) -> Result<(Vec<u8>, Measurer), InputFault>
-    ensures read { IfOk result (λ document. IfSome (S.state input.old).remaining (λ told. told ≡ document.0.items)) }
-    ensures measured { IfOk result (λ document. HasMeasured document.1 document.0.items) }
+/// Reads the source to its end. Returns the bytes of the document, if there is memory for them, and what they measure. It
+/// reads no piece after an invalid byte.
+fn read_document<S: Source>(
+    alloc: Global,
+    input: &mut S,
+) -> Result<(Option<Vec<u8>>, Measurer), InputFault>
+    ensures read { IfOk result (λ document. IfSome document.0 (λ kept.
+        IfSome (S.state input.old).remaining (λ told. told ≡ kept.items))) }
+    ensures measured { IfOk result (λ document. IfSome document.0 (λ kept. HasMeasured document.1 kept.items)) }
+    ensures told { IfOk result (λ document. IfSome (S.state input.old).remaining (HasMeasured document.1)) }
     ensures refused { IfErr result (λ fault. IfSome (S.state input.old).remaining (Explains fault)) }
+    ensures memory { result ≢ Err InputFault.OutOfMemory }
     ensures failures { (S.state input.new).failures ≡ failures_after result (S.state input.old).failures }
+    ensures unread { result ≡ Err ReadFault →
+        IfSome (S.state input.old).remaining (NoFaultBefore (S.state input.new).remaining) }
 {
-    let mut bytes = Vec::new(alloc);
+    let mut kept = Some(Vec::new(alloc));
     let mut measurer = Measurer::new();
     let mut piece = [0u8; PIECE];
     loop {
         let count = input.fill(&mut piece)?;
         if count == 0 {
             measurer.finish()?;
-            return Ok((bytes, measurer));
+            return Ok((kept, measurer));
         }
         measurer.feed(&piece[..count])?;
-        bytes.extend_from_slice(&piece[..count])?;
+        kept = kept_with(kept, &piece[..count]);
     }
 }

@@ -1,6 +1,7 @@
 //! Writes a portable sixel picture as a PPM.
 
 ghost use Rattle.std.specs.Prelude.{◌≡◌, Err, IfSome};
+ghost use Rattle.sixel_grammar.specs.Reading.{NoFaultBefore};
 ghost use Rattle.sixel_model.specs.Profiles.{count_of};
 ghost use Rattle.sixel_judge.specs.Growth.{MayGrowIn};
 ghost use Rattle.sixel_run.specs.declared.fault.RunFault.TheVariants.{Read};
@@ -28,6 +29,8 @@ pub fn render<S: Source, K: Sink>(
     ensures memory { result ≡ Err RunFault.OutOfMemory →
         IfSome (S.state input.old).remaining (MayGrowIn (count_of profile)) }
     ensures reads { (S.state input.new).failures ≡ failures_by Read result (S.state input.old).failures }
+    ensures unread { result ≡ Err Read →
+        IfSome (S.state input.old).remaining (NoFaultBefore (S.state input.new).remaining) }
     ensures writes { CountsWrites result (K.state output.old).failures (K.state output.new).failures }
 {
     match sixel_check::check(alloc, profile, input)? {

@@ -74,6 +74,7 @@ pub fn write_screen<K: Sink>(screen: &Screen, output: &mut K) -> Result<Status, 
         IsScreenAfter t screen.now (events_of events) →
         WroteBy (ShowGives t bytes) WroteNothing result (K.state output.old).taken (K.state output.new).taken }
     ensures unread { result ≢ Err Read }
+    ensures memory { result ≢ Err RunFault.OutOfMemory }
     ensures writes { CountsWrites result (K.state output.old).failures (K.state output.new).failures }
 {
     write_ppm_screen(screen, output)?;

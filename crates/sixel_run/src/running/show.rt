@@ -1,19 +1,21 @@
 //! Shows a sixel picture as one terminal would draw it, as a PPM.
 
-ghost use Rattle.std.specs.Prelude.{◌≡◌, ◌≢◌, ◌*◌, ◌≤◌, ◌<◌, ℕ, Err, IfErr, IfOk, IfSome, IsTrue, List, None, length};
+ghost use Rattle.std.specs.Prelude.{◌≡◌, ◌≢◌, ◌*◌, [], ◌≤◌, ◌<◌, ℕ, Err, IfErr, IfOk, IfSome, IsTrue, List, None, length};
 ghost use Rattle.sixel_grammar.specs.declared.command.Placed.{Placed as Place};
-ghost use Rattle.sixel_grammar.specs.Document.{Document, events_of};
-ghost use Rattle.sixel_grammar.specs.Reading.{Explains, failures_after};
+ghost use Rattle.sixel_grammar.specs.Document.{Document, IsDocument, events_of};
+ghost use Rattle.sixel_grammar.specs.declared.fault.InputFault.TheVariants.{Read as ReadFault};
+ghost use Rattle.sixel_grammar.specs.Reading.{Explains, NoFaultBefore, failures_after};
 ghost use Rattle.sixel_ppm.specs.Ppm.{is_file_side};
 ghost use Rattle.sixel_model.specs.Profiles.{count_of};
 ghost use Rattle.sixel_model.specs.declared.profile.Profile.{Profile as AProfile};
 ghost use Rattle.sixel_model.specs.declared.colour.Parts.TheVariants.{Rgb};
+ghost use Rattle.sixel_terminal.specs.Drawings.{HasDrawn};
 ghost use Rattle.sixel_terminal.specs.Limits.{terminal_fault};
 ghost use Rattle.sixel_run.specs.declared.fault.RunFault.TheVariants.{Read};
 ghost use Rattle.sixel_run.specs.Outputs.{CountsWrites, ShowGives, WroteBy, WroteNothing, failures_by};
 ghost use Rattle.sixel_run.specs.Screens.{IsScreenAfter, greys, percent_at, show_choices, show_terminal, white_screen};
 
-use super::draw::draw;
+use super::draw::{draw, read_whole};
 use super::screen::write_screen;
 use crate::fault::RunFault;
 use crate::task::Status;
@@ -49,7 +51,8 @@ pub fn show_choices(showing: bool, fill: bool, selects: bool, width: u32, height
     }
 }
 
-/// Draws the document on the terminal of these choices while it reads it, and writes the screen. It doesn't flush.
+/// Draws the document on the terminal of these choices while it reads it, and writes the screen. It doesn't flush. Without
+/// memory for the screen the input is still read, so that one that is no document gets its own fault.
 pub fn show<S: Source, K: Sink>(
     alloc: Global,
     profile: Profile,
@@ -61,7 +64,10 @@ pub fn show<S: Source, K: Sink>(
     ensures wrote { IfSome (S.state input.old).remaining (λ bytes.
         WroteBy (ShowGives (show_terminal profile choices) bytes) WroteNothing result
         (K.state output.old).taken (K.state output.new).taken) }
+    ensures memory { result ≡ Err RunFault.OutOfMemory → IfSome (S.state input.old).remaining IsDocument }
     ensures reads { (S.state input.new).failures ≡ failures_by Read result (S.state input.old).failures }
+    ensures unread { result ≡ Err Read →
+        IfSome (S.state input.old).remaining (NoFaultBefore (S.state input.new).remaining) }
     ensures writes { CountsWrites result (K.state output.old).failures (K.state output.new).failures }
 {
     let screen = read_screen(alloc, profile, choices, input)?;
@@ -81,11 +87,26 @@ fn read_screen<S: Source>(
         × IsScreenAfter (show_terminal profile choices) screen (events_of events))) }
     ensures refused { IfErr result (λ fault. IfSome (S.state input.old).remaining (Explains fault)) }
     ensures failures { (S.state input.new).failures ≡ failures_after result (S.state input.old).failures }
+    ensures unread { result ≡ Err ReadFault →
+        IfSome (S.state input.old).remaining (NoFaultBefore (S.state input.new).remaining) }
+    ensures memory { result ≡ Err InputFault.OutOfMemory → IfSome (S.state input.old).remaining IsDocument }
 {
-    let terminal = terminal_of(alloc, profile, choices)?;
-    let mut drawing = Drawing::new(alloc, terminal)?;
+    let Ok(mut drawing) = nothing_drawn(alloc, profile, choices) else {
+        read_whole(input)?;
+        return Err(InputFault::OutOfMemory);
+    };
     draw(input, &mut drawing)?;
     Ok(drawing.finish())
+}
+
+/// A drawing of no events, on the terminal of these choices.
+fn nothing_drawn(alloc: Global, profile: Profile, choices: Choices) -> Result<Drawing, AllocError>
+    requires { terminal_fault choices (greys profile) (white_screen choices) ≡ None }
+    ensures terminal { IfOk result (λ drawing. drawing.terminal ≡ show_terminal profile choices) }
+    ensures drawn { IfOk result (λ drawing. HasDrawn drawing []) }
+{
+    let terminal = terminal_of(alloc, profile, choices)?;
+    Drawing::new(alloc, terminal)
 }
 
 /// The terminal of `show` with these choices.

@@ -1,6 +1,6 @@
 //! Shows a sixel picture on a screen as large as its declared box, as a PPM.
 
-ghost use Rattle.std.specs.Prelude.{◌≡◌, ◌++◌, ◌∷◌, [], ◌<◌, ◌≤◌, ℕ, List, IfErr, IfOk, IfSome, IsTrue, length};
+ghost use Rattle.std.specs.Prelude.{◌≡◌, ◌≢◌, ◌++◌, ◌∷◌, [], ◌<◌, ◌≤◌, ℕ, Err, List, IfErr, IfOk, IfSome, IsTrue, length};
 ghost use Rattle.std.specs.Prelude.{OnOk, option_map, take};
 ghost use Rattle.std.specs.Option.{option_to_list};
 ghost use Rattle.sixel_grammar.specs.declared.command.Event.TheVariants.{Step};
@@ -8,7 +8,8 @@ ghost use Rattle.sixel_grammar.specs.declared.command.Event.{Event as AnEvent};
 ghost use Rattle.sixel_grammar.specs.declared.command.Placed.{Placed as Place};
 ghost use Rattle.sixel_grammar.specs.Document.{Document, events_of};
 ghost use Rattle.sixel_grammar.specs.Prefixes.{CompleteIn};
-ghost use Rattle.sixel_grammar.specs.Reading.{Explains, ExplainsAlways, failures_after};
+ghost use Rattle.sixel_grammar.specs.declared.fault.InputFault.TheVariants.{Read as ReadFault};
+ghost use Rattle.sixel_grammar.specs.Reading.{Explains, ExplainsAlways, NoFaultBefore, failures_after};
 ghost use Rattle.sixel_grammar.specs.Standing.{completions};
 ghost use Rattle.sixel_ppm.specs.Ppm.{is_file_side};
 ghost use Rattle.sixel_model.specs.Events.{raster_of};
@@ -18,8 +19,9 @@ ghost use Rattle.sixel_run.specs.Boxes.{Finds, HasRead, IsShownInBox, IsStageAft
 ghost use Rattle.sixel_run.specs.Boxes.{terminal_of_kind};
 ghost use Rattle.sixel_run.specs.declared.fault.RunFault.TheVariants.{Read};
 ghost use Rattle.sixel_run.specs.Outputs.{CountsWrites, ShowBoxGives, WroteBy, WroteNothing, failures_by};
-ghost use Rattle.sixel_run.specs.Screens.{screen_terminal, sides_of_box};
+ghost use Rattle.sixel_run.specs.Screens.{DeclareScreenIn, screen_terminal, sides_of_box};
 
+use super::kept::kept_with;
 use super::screen::write_screen;
 use super::show::{show_choices, terminal_of};
 use crate::fault::RunFault;
@@ -43,8 +45,9 @@ struct Kind {
 /// What is known of the screen after a part of a document.
 #[derive(Debug, Drop)]
 enum Stage {
-    /// No box is declared yet. All bytes so far are kept, since the box may come after painting.
-    Undeclared(Vec<u8>),
+    /// No box is declared yet. All bytes so far are kept, since the box may come after painting; none, if there was no
+    /// memory for them.
+    Undeclared(Option<Vec<u8>>),
     /// The events so far are drawn on a screen with the sides of the declared box.
     Drawn(Drawing),
     /// No screen can have the sides of the declared box.
@@ -65,7 +68,10 @@ pub fn show_box<S: Source, K: Sink>(
     ensures wrote { IfSome (S.state input.old).remaining (λ bytes.
         WroteBy (ShowBoxGives (screen_terminal profile showing fill selects) bytes) WroteNothing result
         (K.state output.old).taken (K.state output.new).taken) }
+    ensures memory { result ≡ Err RunFault.OutOfMemory → IfSome (S.state input.old).remaining DeclareScreenIn }
     ensures reads { (S.state input.new).failures ≡ failures_by Read result (S.state input.old).failures }
+    ensures unread { result ≡ Err Read →
+        IfSome (S.state input.old).remaining (NoFaultBefore (S.state input.new).remaining) }
     ensures writes { CountsWrites result (K.state output.old).failures (K.state output.new).failures }
 {
     let kind = Kind {
@@ -91,9 +97,12 @@ fn read_box_screen<S: Source>(
         × IsShownInBox (terminal_of_kind kind) screen (events_of events))) }
     ensures refused { IfErr result (λ fault. IfSome (S.state input.old).remaining (Explains fault)) }
     ensures failures { (S.state input.new).failures ≡ failures_after result (S.state input.old).failures }
+    ensures unread { result ≡ Err ReadFault →
+        IfSome (S.state input.old).remaining (NoFaultBefore (S.state input.new).remaining) }
+    ensures memory { result ≡ Err InputFault.OutOfMemory → IfSome (S.state input.old).remaining DeclareScreenIn }
 {
     let mut reader = Reader::new();
-    let mut stage = Stage::Undeclared(Vec::new(alloc));
+    let mut stage = Stage::Undeclared(Some(Vec::new(alloc)));
     let mut piece = [0u8; PIECE];
     loop {
         let count = input.fill(&mut piece)?;
@@ -119,6 +128,8 @@ impl Stage {
             HasRead (terminal_of_kind kind) reader.new stage (bytes ++ piece.now)) }
         ensures refused { IfErr result (λ fault. (bytes : List ℕ) →
             HasRead (terminal_of_kind kind) reader.old self bytes → ExplainsAlways fault (bytes ++ piece.now)) }
+        ensures memory { result ≡ Err InputFault.OutOfMemory → (bytes : List ℕ) →
+            HasRead (terminal_of_kind kind) reader.old self bytes → DeclareScreenIn (bytes ++ piece.now) }
     {
         match self {
             Stage::Undeclared(kept) => look_for_box(alloc, kind, kept, reader, piece),
@@ -150,7 +161,7 @@ impl Stage {
 fn look_for_box(
     alloc: Global,
     kind: Kind,
-    mut kept: Vec<u8>,
+    kept: Option<Vec<u8>>,
     reader: &mut Reader,
     piece: &[u8],
 ) -> Result<Stage, InputFault>
@@ -160,17 +171,20 @@ fn look_for_box(
     ensures refused { IfErr result (λ fault. (bytes : List ℕ) →
         HasRead (terminal_of_kind kind) reader.old (Stage.Undeclared kept) bytes →
         ExplainsAlways fault (bytes ++ piece.now)) }
+    ensures memory { result ≡ Err InputFault.OutOfMemory → (bytes : List ℕ) →
+        HasRead (terminal_of_kind kind) reader.old (Stage.Undeclared kept) bytes →
+        DeclareScreenIn (bytes ++ piece.now) }
 {
     match find_box(reader, piece)? {
-        None => {
-            kept.extend_from_slice(piece)?;
-            Ok(Stage::Undeclared(kept))
-        }
+        None => Ok(Stage::Undeclared(kept_with(kept, piece))),
         Some((width, height)) => match sides_of_box(width, height) {
             None => Ok(Stage::Unshowable),
-            Some((width, height)) => Ok(Stage::Drawn(draw_bytes(
-                alloc, kind, width, height, &kept, piece,
-            )?)),
+            Some((width, height)) => {
+                let Some(kept) = kept else {
+                    return Err(InputFault::OutOfMemory);
+                };
+                Ok(Stage::Drawn(draw_bytes(alloc, kind, width, height, &kept, piece)?))
+            }
         },
     }
 }
@@ -203,6 +217,7 @@ fn draw_bytes(
 pub fn read_on(reader: &mut Reader, piece: &[u8]) -> Result<(), InputFault>
     ensures read { OnOk result (Reads reader.old reader.new piece.now) }
     ensures refused { IfErr result (Refuses reader.old piece.now) }
+    ensures memory { result ≢ Err InputFault.OutOfMemory }
 {
     find_box(reader, piece)?;
     Ok(())
@@ -212,6 +227,7 @@ pub fn read_on(reader: &mut Reader, piece: &[u8]) -> Result<(), InputFault>
 fn find_box(reader: &mut Reader, piece: &[u8]) -> Result<Option<(u16, u16)>, InputFault>
     ensures found { IfOk result (λ found. Finds reader.old reader.new found piece.now) }
     ensures refused { IfErr result (Refuses reader.old piece.now) }
+    ensures memory { result ≢ Err InputFault.OutOfMemory }
 {
     let mut found = None;
     let mut read = 0;
@@ -235,6 +251,7 @@ fn find_in_part(
     ensures within { IfOk result (λ part. part.0 ≤ length bytes.now) }
     ensures found { IfOk result (λ part. Finds reader.old reader.new part.1 (take part.0 bytes.now)) }
     ensures refused { IfErr result (Refuses reader.old (take 1 bytes.now)) }
+    ensures memory { result ≢ Err InputFault.OutOfMemory }
 {
     if let Some(run) = reader.feed_run(bytes) {
         return Ok((run.length, None));
@@ -247,6 +264,7 @@ fn find_in_part(
 fn find_in_byte(reader: &mut Reader, byte: u8) -> Result<Option<(u16, u16)>, InputFault>
     ensures found { IfOk result (λ found. Finds reader.old reader.new found (byte ∷ [])) }
     ensures refused { IfErr result (Refuses reader.old (byte ∷ [])) }
+    ensures memory { result ≢ Err InputFault.OutOfMemory }
 {
     match reader.feed_command(byte) {
         Some(Plain::Nothing) => Ok(box_of(None)),
@@ -263,6 +281,7 @@ fn find_in_byte(reader: &mut Reader, byte: u8) -> Result<Option<(u16, u16)>, Inp
 fn find_in_byte_rarely(reader: &mut Reader, byte: u8) -> Result<Option<(u16, u16)>, InputFault>
     ensures found { IfOk result (λ found. Finds reader.old reader.new found (byte ∷ [])) }
     ensures refused { IfErr result (Refuses reader.old (byte ∷ [])) }
+    ensures memory { result ≢ Err InputFault.OutOfMemory }
 {
     match reader.feed_two(byte) {
         Some(two) => Ok(box_in_command(two.ended).or(box_in_command(two.own))),
@@ -275,6 +294,7 @@ fn find_in_byte_rarely(reader: &mut Reader, byte: u8) -> Result<Option<(u16, u16
 fn find_in_byte_of_any_kind(reader: &mut Reader, byte: u8) -> Result<Option<(u16, u16)>, InputFault>
     ensures found { IfOk result (λ found. Finds reader.old reader.new found (byte ∷ [])) }
     ensures refused { IfErr result (Refuses reader.old (byte ∷ [])) }
+    ensures memory { result ≢ Err InputFault.OutOfMemory }
 {
     let completed = reader.feed(byte)?;
     Ok(box_in(completed))

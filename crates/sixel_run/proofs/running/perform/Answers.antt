@@ -1,3 +1,7 @@
+use Rattle.sixel_model.specs.Profiles.{count_of}
+use Rattle.sixel_run.specs.Outputs.{CheckGives, MendGives, RenderGives, ShowBoxGives, ShowGives, SurveyGives, mending}
+use Rattle.sixel_run.specs.Screens.{screen_terminal, show_choices, show_terminal}
+use Rattle.sixel_run.proofs.RunLemmas.{unread}
 use Rattle.sixel_run.proofs.running.perform.Goals as goal
 
 pub returns-in-Scan-clause-wrote : goal.returns-in-Scan-clause-wrote
@@ -17,3 +21,60 @@ returns-in-Render-clause-memory g c = rw c.in-Render.is c.render.ensures.memory
 
 pub returns-in-Encode-clause-memory : goal.returns-in-Encode-clause-memory
 returns-in-Encode-clause-memory g c = rw c.in-Encode.is c.encode.ensures.memory
+
+pub returns-in-Check-clause-wrote : goal.returns-in-Check-clause-wrote
+returns-in-Check-clause-wrote g c =
+    rw c.in-Check.is
+    (unread (λ bytes. CheckGives (count_of c.in-Check.profile) bytes)
+    (g.S.Source.state c.args.input.now).remaining (g.S.Source.state c.check.new.input).remaining
+    (g.K.Sink.state c.args.output.now).taken (g.K.Sink.state c.check.new.output).taken c.check.result
+    c.check.ensures.wrote c.check.ensures.unread)
+
+pub returns-in-Survey-clause-wrote : goal.returns-in-Survey-clause-wrote
+returns-in-Survey-clause-wrote g c =
+    rw c.in-Survey.is
+    (unread (λ bytes. SurveyGives (count_of c.in-Survey.profile) bytes)
+    (g.S.Source.state c.args.input.now).remaining (g.S.Source.state c.survey.new.input).remaining
+    (g.K.Sink.state c.args.output.now).taken (g.K.Sink.state c.survey.new.output).taken c.survey.result
+    c.survey.ensures.wrote c.survey.ensures.unread)
+
+pub returns-in-Render-clause-wrote : goal.returns-in-Render-clause-wrote
+returns-in-Render-clause-wrote g c =
+    rw c.in-Render.is
+    (unread (λ bytes. RenderGives (count_of c.in-Render.profile) bytes)
+    (g.S.Source.state c.args.input.now).remaining (g.S.Source.state c.render.new.input).remaining
+    (g.K.Sink.state c.args.output.now).taken (g.K.Sink.state c.render.new.output).taken c.render.result
+    c.render.ensures.wrote c.render.ensures.unread)
+
+pub returns-in-Mend-clause-wrote : goal.returns-in-Mend-clause-wrote
+returns-in-Mend-clause-wrote g c =
+    rw c.in-Mend.is
+    (unread (λ bytes. MendGives (count_of c.in-Mend.profile) (mending c.in-Mend.background c.in-Mend.showing c.in-Mend.selects) bytes)
+    (g.S.Source.state c.args.input.now).remaining (g.S.Source.state c.mend.new.input).remaining
+    (g.K.Sink.state c.args.output.now).taken (g.K.Sink.state c.mend.new.output).taken c.mend.result
+    c.mend.ensures.wrote c.mend.ensures.unread)
+
+pub returns-in-Show-clause-wrote : goal.returns-in-Show-clause-wrote
+returns-in-Show-clause-wrote g c =
+    rw c.in-Show.is
+    (unread (λ bytes. ShowGives (show_terminal c.in-Show.profile (show_choices c.in-Show.showing c.in-Show.fill c.in-Show.selects c.in-Show.width c.in-Show.height)) bytes)
+    (g.S.Source.state c.args.input.now).remaining (g.S.Source.state c.show.new.input).remaining
+    (g.K.Sink.state c.args.output.now).taken (g.K.Sink.state c.show.new.output).taken c.show.result
+    (rw c.show_choices-choices.ensures at c.show.ensures.wrote) c.show.ensures.unread)
+
+pub returns-in-ShowBox-clause-wrote : goal.returns-in-ShowBox-clause-wrote
+returns-in-ShowBox-clause-wrote g c =
+    rw c.in-ShowBox.is
+    (unread (λ bytes. ShowBoxGives (screen_terminal c.in-ShowBox.profile c.in-ShowBox.showing c.in-ShowBox.fill c.in-ShowBox.selects) bytes)
+    (g.S.Source.state c.args.input.now).remaining (g.S.Source.state c.show_box.new.input).remaining
+    (g.K.Sink.state c.args.output.now).taken (g.K.Sink.state c.show_box.new.output).taken c.show_box.result
+    c.show_box.ensures.wrote c.show_box.ensures.unread)
+
+pub returns-in-Mend-clause-memory : goal.returns-in-Mend-clause-memory
+returns-in-Mend-clause-memory g c = rw c.in-Mend.is c.mend.ensures.memory
+
+pub returns-in-Show-clause-memory : goal.returns-in-Show-clause-memory
+returns-in-Show-clause-memory g c = rw c.in-Show.is c.show.ensures.memory
+
+pub returns-in-ShowBox-clause-memory : goal.returns-in-ShowBox-clause-memory
+returns-in-ShowBox-clause-memory g c = rw c.in-ShowBox.is c.show_box.ensures.memory

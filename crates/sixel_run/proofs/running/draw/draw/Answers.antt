@@ -8,7 +8,7 @@ use Rattle.sixel_grammar.specs.Standing.{left_of}
 use Rattle.sixel_terminal.specs.Drawings.{HasDrawn}
 use Rattle.sixel_grammar.specs.Reading.{Explains}
 use Rattle.sixel_grammar.specs.declared.fault.InputFault.TheVariants.{Grammar}
-use Rattle.sixel_grammar.proofs.SourceLemmas.{all_read, consumes-then, refused_early, take_none}
+use Rattle.sixel_grammar.proofs.SourceLemmas.{all_read, consumes-then, no_fault_before, refused_early, take_none}
 use Rattle.sixel_run.proofs.running.draw.draw.Goals as goal
 
 pub returns-in_err-finish-clause-refused : goal.returns-in_err-finish-clause-refused
@@ -86,3 +86,9 @@ returns-in_err-follow_bytes-clause-failures g c =
     let failed = err_from_is_err_and exit.result exit.ensures.1 in
     rw (failed.1, failed.2)
     (◌∙◌ {b = (g.S.Source.state c.loop-count.input).failures} c.in_ok-count.ensures.failures i.3)
+
+pub returns-in_err-count-clause-unread : goal.returns-in_err-count-clause-unread
+returns-in_err-count-clause-unread g c = λ is.
+    let i = c.loop-count.invariant in
+    no_fault_before _ (g.S.Source.state c.loop-count.input).remaining _ c.loop-count.reader i.1.events i.0 i.1.read i.2
+    c.in_err-count.ensures.bytes

@@ -1,13 +1,13 @@
 use Rattle.std.proofs.lemmas.Result.{err_from_is_err_and}
-use Rattle.sixel_run.proofs.MendLemmas.{mend_refused, mend_unread, mend_unwritten, mend_written}
+use Rattle.sixel_run.proofs.MendLemmas.{measured_grown, measured_refused, measured_sized, mend_grown, mend_refused, mend_unread, mend_unwritten, mend_written}
 use Rattle.sixel_run.proofs.running.mend.mend.Goals as goal
 
-pub returns-in_err-bytes-clause-wrote : goal.returns-in_err-bytes-clause-wrote
-returns-in_err-bytes-clause-wrote g c =
+pub returns-in_err-kept-clause-wrote : goal.returns-in_err-kept-clause-wrote
+returns-in_err-kept-clause-wrote g c =
     let failed = err_from_is_err_and c.from_residual.result c.from_residual.ensures.1 in
     rw (failed.1, failed.2)
-    (mend_unread _ c.args.mending.now (g.S.Source.state c.args.input.now).remaining c.in_err-bytes.field-0.0 _
-    c.in_err-bytes.ensures.refused)
+    (mend_unread _ c.args.mending.now (g.S.Source.state c.args.input.now).remaining c.in_err-kept.field-0.0 _
+    c.in_err-kept.ensures.refused)
 
 pub returns-in_err-picture-clause-wrote : goal.returns-in_err-picture-clause-wrote
 returns-in_err-picture-clause-wrote g c =
@@ -15,16 +15,45 @@ returns-in_err-picture-clause-wrote g c =
     let failed = err_from_is_err_and exit.result exit.ensures.1 in
     rw (failed.1, failed.2)
     (mend_refused _ c.args.mending.now (g.S.Source.state c.args.input.now).remaining c.deref.result.now
-    c.in_err-picture.field-0.0 _ (rw c.deref.ensures.value c.in_ok-bytes.ensures.read) c.in_err-picture.ensures)
+    c.in_err-picture.field-0.0 _ (rw c.deref.ensures.value (rw c.in-Some.is at c.in_ok-kept.ensures.read)) c.in_err-picture.ensures)
 
 pub returns-in-Ok-clause-wrote : goal.returns-in-Ok-clause-wrote
 returns-in-Ok-clause-wrote g c =
     mend_written _ c.args.mending.now (g.S.Source.state c.args.input.now).remaining c.deref.result.now
-    c.in_ok-picture.picture _ _ (rw c.deref.ensures.value c.in_ok-bytes.ensures.read) c.in_ok-picture.ensures
+    c.in_ok-picture.picture _ _ (rw c.deref.ensures.value (rw c.in-Some.is at c.in_ok-kept.ensures.read)) c.in_ok-picture.ensures
     c.in-Ok.ensures.written.taken
 
 pub returns-clause-wrote : goal.returns-clause-wrote
 returns-clause-wrote g c =
     mend_unwritten _ c.args.mending.now (g.S.Source.state c.args.input.now).remaining c.deref.result.now
-    c.in_ok-picture.picture _ _ (rw c.deref.ensures.value c.in_ok-bytes.ensures.read) c.in_ok-picture.ensures
+    c.in_ok-picture.picture _ _ (rw c.deref.ensures.value (rw c.in-Some.is at c.in_ok-kept.ensures.read)) c.in_ok-picture.ensures
     c.in-Err.ensures.written.taken
+
+pub returns-in_err-picture-clause-memory : goal.returns-in_err-picture-clause-memory
+returns-in_err-picture-clause-memory g c = λ is.
+    let exit = c.from_residual-in_err-picture in
+    let failed = err_from_is_err_and exit.result exit.ensures.1 in
+    mend_grown _ c.args.mending.now (g.S.Source.state c.args.input.now).remaining c.deref.result.now
+    c.in_err-picture.field-0.0 (rw c.deref.ensures.value (rw c.in-Some.is at c.in_ok-kept.ensures.read))
+    c.in_err-picture.ensures (cc (failed.1, failed.2, is))
+
+pub returns-in_err-size_of-clause-wrote : goal.returns-in_err-size_of-clause-wrote
+returns-in_err-size_of-clause-wrote g c =
+    let exit = c.from_residual-in_err-size_of in
+    let failed = err_from_is_err_and exit.result exit.ensures.1 in
+    rw (failed.1, failed.2)
+    (measured_refused _ c.args.mending.now c.in_ok-kept.measurer (g.S.Source.state c.args.input.now).remaining
+    c.in_err-size_of.field-0.0 _ c.in_ok-kept.ensures.told c.in_err-size_of.ensures.refused)
+
+pub returns-in_err-size_of-clause-memory : goal.returns-in_err-size_of-clause-memory
+returns-in_err-size_of-clause-memory g c = λ is.
+    let exit = c.from_residual-in_err-size_of in
+    let failed = err_from_is_err_and exit.result exit.ensures.1 in
+    measured_grown 0 c.args.mending.now c.in_ok-kept.measurer (g.S.Source.state c.args.input.now).remaining
+    c.in_err-size_of.field-0.0 c.in_ok-kept.ensures.told c.in_err-size_of.ensures.refused (cc (failed.1, failed.2, is))
+
+pub returns-in_default-clause-memory : goal.returns-in_default-clause-memory
+returns-in_default-clause-memory g c = λ is.
+    measured_sized c.args.mending.now c.in_ok-kept.measurer (g.S.Source.state c.args.input.now).remaining
+    c.in_ok-size_of.field-0.0 c.in_ok-size_of.field-0.1 c.in_ok-kept.ensures.told c.in_ok-size_of.ensures.sides
+    c.in_ok-size_of.ensures.sized

@@ -9,7 +9,7 @@ use Rattle.sixel_run.proofs.running.show.read_screen.Goals as goal
 pub returns-clause-shown : goal.returns-clause-shown
 returns-clause-shown g c =
     let terminal : c.draw.new.drawing.terminal ≡ show_terminal c.args.profile c.args.choices =
-    c.in_ok-draw.ensures.terminal ∙ c.in_ok-drawing.ensures.terminal ∙ c.in_ok-terminal.ensures in
+    c.in_ok-draw.ensures.terminal ∙ c.in-Ok.ensures.terminal in
     told (g.S.Source.state c.args.input.now).remaining _ _
     (λ bytes d. (
       d.0,

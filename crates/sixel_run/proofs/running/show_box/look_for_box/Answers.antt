@@ -1,9 +1,9 @@
-use Rattle.std.proofs.Common.{◌∙◌, ◌++◌, ℕ, List, ap, subst, sym}
+use Rattle.std.proofs.Common.{◌∙◌, ◌++◌, ℕ, List, subst, sym}
 use Rattle.std.proofs.lemmas.Result.{err_from_is_err_and}
 use Rattle.sixel_grammar.specs.Prefixes.{CompleteIn}
 use Rattle.sixel_grammar.proofs.StandLemmas.{read_complete}
 use Rattle.sixel_run.specs.Boxes.{terminal_of_kind}
-use Rattle.sixel_run.proofs.StageLemmas.{drawn-now, none-again, unfit-now}
+use Rattle.sixel_run.proofs.StageLemmas.{declares-now, drawn-now, kept-more, none-again, unfit-now}
 use Rattle.sixel_run.proofs.running.show_box.look_for_box.Goals as goal
 
 pub returns-in_err-find_box-clause-refused : goal.returns-in_err-find_box-clause-refused
@@ -19,8 +19,8 @@ returns-in-None-clause-read c = λ bytes h.
       events = h.events ++ f.0;
       read = f.1;
       stands = (
-        c.in_ok-extend_from_slice-in-None.ensures.items
-            ∙ ap (λ (t : List ℕ). t ++ c.args.piece.now) h.stands.0,
+        kept-more (λ k. k.items) c.args.kept c.kept_with.result bytes c.args.piece.now c.kept_with.ensures.longer
+            c.kept_with.ensures.some h.stands.0,
         none-again h.events f.0 h.stands.1 f.2,
       );
     }
@@ -36,15 +36,16 @@ returns-in-None-sides_of_box-clause-read c = λ bytes h.
           (sym c.in-None-sides_of_box.is ∙ c.sides_of_box.ensures.value);
     }
 
-pub returns-clause-read : goal.returns-clause-read
-returns-clause-read c = λ bytes h.
+pub returns-in_ok-draw_bytes-in-Some-sides_of_box-clause-read : goal.returns-in_ok-draw_bytes-in-Some-sides_of_box-clause-read
+returns-in_ok-draw_bytes-in-Some-sides_of_box-clause-read c = λ bytes h.
     let found = rw c.in-Some.is at c.in_ok-find_box.ensures.found in
     let f = found h.events bytes h.read in
     let drawing = c.in_ok-draw_bytes-in-Some-sides_of_box in
     let sides : ℕ × ℕ = (c.in-Some-sides_of_box.width, c.in-Some-sides_of_box.height) in
+    let had = rw c.in-Some-kept.is at h.stands.0 in
     let complete : CompleteIn (h.events ++ f.0) (c.deref.result.now ++ c.args.piece.now) =
     subst (λ (t : List ℕ). CompleteIn (h.events ++ f.0) (t ++ c.args.piece.now))
-    (sym (c.deref.ensures.value ∙ h.stands.0))
+    (sym (c.deref.ensures.value ∙ had))
     (read_complete c.find_box.new.reader (h.events ++ f.0) (bytes ++ c.args.piece.now) f.1) in
     record {
       events = h.events ++ f.0;
@@ -54,3 +55,19 @@ returns-clause-read c = λ bytes h.
           drawing.ensures.terminal
           (drawing.ensures.drawn (h.events ++ f.0) complete);
     }
+
+pub returns-in_default-clause-memory : goal.returns-in_default-clause-memory
+returns-in_default-clause-memory c = λ is bytes h.
+    let found = rw c.in-Some.is at c.in_ok-find_box.ensures.found in
+    let f = found h.events bytes h.read in
+    let sides : ℕ × ℕ = (c.in-Some-sides_of_box.width, c.in-Some-sides_of_box.height) in
+    declares-now c.find_box.new.reader h.events f.0 c.in-Some.width c.in-Some.height sides
+    (bytes ++ c.args.piece.now) f.1 h.stands.1 f.2 (sym c.in-Some-sides_of_box.is ∙ c.sides_of_box.ensures.value)
+
+pub returns-in_err-draw_bytes-in-Some-sides_of_box-clause-memory : goal.returns-in_err-draw_bytes-in-Some-sides_of_box-clause-memory
+returns-in_err-draw_bytes-in-Some-sides_of_box-clause-memory c = λ is bytes h.
+    let found = rw c.in-Some.is at c.in_ok-find_box.ensures.found in
+    let f = found h.events bytes h.read in
+    let sides : ℕ × ℕ = (c.in-Some-sides_of_box.width, c.in-Some-sides_of_box.height) in
+    declares-now c.find_box.new.reader h.events f.0 c.in-Some.width c.in-Some.height sides
+    (bytes ++ c.args.piece.now) f.1 h.stands.1 f.2 (sym c.in-Some-sides_of_box.is ∙ c.sides_of_box.ensures.value)

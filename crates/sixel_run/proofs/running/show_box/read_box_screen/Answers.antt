@@ -8,10 +8,10 @@ use Rattle.sixel_grammar.specs.Faults.{IsFaultOf}
 use Rattle.sixel_grammar.specs.Reading.{Explains}
 use Rattle.sixel_grammar.specs.Standing.{left_of}
 use Rattle.sixel_grammar.specs.declared.fault.InputFault.TheVariants.{Grammar}
-use Rattle.sixel_grammar.proofs.SourceLemmas.{all_read, consumes-then, refused_early, take_none}
+use Rattle.sixel_grammar.proofs.SourceLemmas.{all_read, consumes-then, no_fault_before, refused_early, take_none}
 use Rattle.sixel_judge.proofs.PieceLemmas.{not_failed}
 use Rattle.sixel_run.specs.Boxes.{IsShownInBox, terminal_of_kind}
-use Rattle.sixel_run.proofs.StageLemmas.{box-of-none, nothing-taken}
+use Rattle.sixel_run.proofs.StageLemmas.{box-of-none, declares-early, nothing-taken}
 use Rattle.sixel_run.proofs.running.show_box.read_box_screen.Goals as goal
 
 pub loop-stage-init : goal.loop-stage-init
@@ -104,3 +104,18 @@ returns-in_err-stage-clause-failures g c =
     rw (failed.1, failed.2)
     (◌∙◌ {b = (g.S.Source.state c.loop-stage.input).failures} c.in_ok-count.ensures.failures i.3
     ∙ not_failed (Unit {0}) c.in_err-stage.field-0.0 _ _ h)
+
+pub returns-in_err-count-clause-unread : goal.returns-in_err-count-clause-unread
+returns-in_err-count-clause-unread g c = λ is.
+    let i = c.loop-stage.invariant in
+    no_fault_before _ (g.S.Source.state c.loop-stage.input).remaining _ c.loop-stage.reader i.1.events i.0 i.1.read i.2
+    c.in_err-count.ensures.bytes
+
+pub returns-in_err-stage-clause-memory : goal.returns-in_err-stage-clause-memory
+returns-in_err-stage-clause-memory g c = λ is.
+    let i = c.loop-stage.invariant in
+    let exit = c.from_residual-in_err-stage in
+    let failed = err_from_is_err_and exit.result exit.ensures.1 in
+    declares-early _ _ (i.0 ++ take c.in_ok-count.count c.fill.new.piece)
+    (consumes-then _ _ _ i.0 (take c.in_ok-count.count c.fill.new.piece) i.2 c.in_ok-count.ensures.bytes.0)
+    (c.in_err-stage.ensures.memory (cc (failed.1, failed.2, is, c.in_err-stage.was)) i.0 i.1)
