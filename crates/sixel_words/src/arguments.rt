@@ -48,7 +48,8 @@ impl<'a> Arguments for Process<'a> {
     }
 }
 
-/// The arguments as texts. In each, U+FFFD replaces what isn't valid UTF-8. An `Err` means that an allocation failed.
+/// The arguments as texts. In each, U+FFFD replaces what isn't valid UTF-8. `Err`: an allocation failed; or there are
+/// 2^64 - 1 arguments, or one that is longer than 2^64 bytes, which no system can give.
 pub fn arguments_of<A: Arguments>(alloc: Global, arguments: &A) -> Result<Vec<String>, AllocError>
     ensures { IfOk result (λ texts. IfSome (A.given arguments.now) (λ given.
         map string_bytes texts.items ≡ map utf8_lossy given)) }

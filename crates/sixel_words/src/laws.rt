@@ -22,31 +22,37 @@ pub fn the_word_list_gives_a_list()
     ensures task { (program : Text) → IsTaskOf (program ∷ codes "list" ∷ []) Listing }
 {}
 
-/// `sixel survey` is accepted, and surveys with 16 registers. With `--wide`, and over files in turn, it has 256.
+/// `sixel survey` is accepted, and surveys with 16 registers. So it is with `--wide` and over files in turn, and has 256.
 pub fn the_word_survey_gives_a_survey()
     ensures taken { (program : Text) → takes sixel_app (program ∷ codes "survey" ∷ []) ≡ true }
     ensures task { (program : Text) → IsTaskOf (program ∷ codes "survey" ∷ []) (Survey Registers16) }
+    ensures files_taken { (program : Text) →
+        takes sixel_app (program ∷ codes "survey" ∷ codes "--wide" ∷ codes "a" ∷ codes "b" ∷ []) ≡ true }
     ensures files { (program : Text) →
         IsRequestOf (program ∷ codes "survey" ∷ codes "--wide" ∷ codes "a" ∷ codes "b" ∷ [])
         (Survey Registers256) false (codes "a" ∷ codes "b" ∷ []) }
 {}
 
-/// `sixel scan` is accepted, and scans with 16 registers and without 8-bit controls. With `--wide` and `--eight-bit`,
-/// and over files in turn, it has 256 and counts these controls.
+/// `sixel scan` is accepted, and scans with 16 registers and without 8-bit controls. So it is with `--wide` and
+/// `--eight-bit` and over files in turn, and then has 256 and counts these controls.
 pub fn the_word_scan_gives_a_scan()
     ensures taken { (program : Text) → takes sixel_app (program ∷ codes "scan" ∷ []) ≡ true }
     ensures task { (program : Text) → IsTaskOf (program ∷ codes "scan" ∷ []) (Scan Registers16 false) }
+    ensures files_taken { (program : Text) → takes sixel_app (program ∷ codes "scan" ∷ codes "--wide"
+        ∷ codes "--eight-bit" ∷ codes "a" ∷ codes "b" ∷ []) ≡ true }
     ensures files { (program : Text) →
         IsRequestOf (program ∷ codes "scan" ∷ codes "--wide" ∷ codes "--eight-bit" ∷ codes "a" ∷ codes "b" ∷ [])
         (Scan Registers256 true) false (codes "a" ∷ codes "b" ∷ []) }
 {}
 
-/// `sixel mend` is accepted, and mends without any flag, with 16 registers and a black background. The colour of
-/// `--background` is red, green and blue.
+/// `sixel mend` is accepted, and mends without any flag, with 16 registers and a black background. So is `--background`,
+/// whose colour is red, green and blue.
 pub fn the_word_mend_gives_a_mend()
     ensures taken { (program : Text) → takes sixel_app (program ∷ codes "mend" ∷ []) ≡ true }
     ensures task { (program : Text) →
         IsTaskOf (program ∷ codes "mend" ∷ []) (Mend Registers16 (Rgb 0 0 0) false false) }
+    ensures coloured_taken { (program : Text) → takes sixel_app (program ∷ codes "mend" ∷ codes "--showing"
+        ∷ codes "--background" ∷ codes "100,50,0" ∷ []) ≡ true }
     ensures coloured { (program : Text) →
         IsTaskOf (program ∷ codes "mend" ∷ codes "--showing" ∷ codes "--background" ∷ codes "100,50,0" ∷ [])
         (Mend Registers16 (Rgb 100 50 0) true false) }
@@ -82,8 +88,8 @@ pub fn the_word_help_asks_for_help()
     ensures short_version { (program : Text) → kinds_of (program ∷ codes "-V" ∷ []) ≡ DisplayVersion ∷ [] }
 {}
 
-/// Without arguments, with an unknown option and with a side of 0, clap finds a usage error and no request for help.
-/// `list --wide` is refused, although it names the task `List`.
+/// Without arguments, with an unknown option, with a side of 0 and with a second file of a task that reads one, clap
+/// finds a usage error and no request for help. `list --wide` is refused, although it names the task `List`.
 pub fn wrong_words_ask_for_no_help()
     ensures none { (program : Text) → kinds_of (program ∷ []) ≡ MissingSubcommand ∷ [] }
     ensures unknown { (program : Text) →
@@ -92,6 +98,8 @@ pub fn wrong_words_ask_for_no_help()
         IsTaskOf (program ∷ codes "list" ∷ codes "--wide" ∷ []) Listing }
     ensures side { (program : Text) →
         kinds_of (program ∷ codes "show" ∷ codes "--width" ∷ codes "0" ∷ []) ≡ ValueValidation ∷ [] }
+    ensures second_file { (program : Text) →
+        kinds_of (program ∷ codes "mend" ∷ codes "a" ∷ codes "b" ∷ []) ≡ UnknownArgument ∷ [] }
 {}
 
 /// A check takes its flags in any order and as often as they are given. It has the profile of 256 registers exactly if

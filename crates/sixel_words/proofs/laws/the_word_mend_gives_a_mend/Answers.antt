@@ -56,3 +56,7 @@ returns-clause-coloured c = λ program. (
     refl,
   ),
 )
+
+pub returns-clause-coloured_taken : goal.returns-clause-coloured_taken
+unfolding walked walk_passes
+returns-clause-coloured_taken c = λ program. refl

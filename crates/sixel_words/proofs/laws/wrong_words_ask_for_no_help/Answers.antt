@@ -13,4 +13,10 @@ named program = (codes "list", _, refl, refl)
 
 pub returns : goal.returns
 unfolding clap_on_literals
-returns c = record { none = λ program. refl; unknown = λ program. refl; named = named; side = λ program. refl }
+returns c = record {
+  none = λ program. refl;
+  unknown = λ program. refl;
+  named = named;
+  side = λ program. refl;
+  second_file = λ program. refl;
+}
