@@ -89,7 +89,10 @@ String: ESC P p ESC \\
 Output of check: sixel: NotSixel at 2
 
 Fix: remove what comes before the string. It starts with its ESC P, and q
-follows its numbers.
+follows its numbers. In the pass-through of tmux each ESC is doubled between ESC
+P tmux; and ESC \\: take off these two, and one ESC of each pair. That of GNU
+Screen is in pieces, each between ESC P and ESC \\: take these off, and join the
+pieces.
 
 Programs: use img2sixel without -P, and with -S for an animation; and gnuplot's
 sixelgd without animate. mpv always writes other escape sequences first. More:

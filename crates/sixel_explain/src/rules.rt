@@ -31,7 +31,8 @@ pub fn rule_named(name: &str) -> Option<Rule>
     }
 }
 
-/// What the rule means, what breaks it, how terminals differ, a string that breaks it, and how to fix it.
+/// What the rule means, what breaks it, how terminals differ, a string that breaks it, how to fix it, and what `mend`
+/// does with it.
 pub fn of_rule(rule: Rule) -> &'static str
     ensures { StartsWith result.now (rule_name rule ++ codes ": ") }
 {
@@ -65,6 +66,7 @@ String: ESC P q ESC \\
 Output of check: broken RasterFirst 3
 
 Fix: write \"1;1;WIDTH;HEIGHT, with the true size, right after the introducer.
+sixel mend keeps earlier paint.
 ";
 
 const RASTER_TWICE: &str = "RasterTwice: raster attributes more than once
@@ -77,6 +79,7 @@ String: ESC P q \"1;1;1;1\"1;1;1;1 ESC \\
 Output of check: broken RasterTwice 11
 
 Fix: write raster attributes once, when you know the size of the whole picture.
+sixel mend keeps earlier paint.
 ";
 
 const RATIO: &str = "Ratio: a pixel aspect ratio not written as 1;1
@@ -90,7 +93,8 @@ be any number of pixels.
 String: ESC P q \"2;1;1;1 ESC \\
 Output of check: broken Ratio 3
 
-Fix: write 1;1, and stretch the picture yourself.
+Fix: write 1;1, and stretch the picture yourself. sixel mend makes each sixel
+pixel one row tall.
 ";
 
 const BOX_SIZE: &str = "BoxSize: a width or height outside 1 to 2,048
@@ -105,10 +109,12 @@ String: ESC P q \"1;1 ESC \\
 Output of check: broken BoxSize 3
 
 Fix: declare the size. Scale a larger picture down, or cut it into several
-strings.
+strings. sixel mend finds the size.
 
 Programs: use gnuplot's sixelgd instead of its sixeltek, and sixel encode
-instead of ppmtosixel: those two declare no size. More: docs/RECIPES.md.
+instead of ppmtosixel: those two declare no size. For a side above 2,048 use
+ImageMagick -resize 2048x2048, or pnmscale -xysize 2048 2048. More:
+docs/RECIPES.md.
 ";
 
 const REGISTER: &str = "Register: a register above 15, or above 255 with --wide
@@ -125,7 +131,7 @@ Output of check: broken Register 3
 
 Fix: reduce the picture to 16 colours and number them from 0. Or check with
 --wide, if the picture is meant only for terminals with 256 registers or more:
-the promise then covers only these.
+the promise then covers only these. sixel mend keeps up to 256 registers apart.
 
 Programs: use img2sixel -p 16, chafa -c 16, ImageMagick -colors 16, or gnuplot's
 sixelgd without truecolor. More: docs/RECIPES.md.
@@ -146,7 +152,8 @@ colour that the register had before differs between terminals.
 String: ESC P q #0;2;255;0;0 ESC \\
 Output of check: broken ColourValue 3
 
-Fix: write system 2 and percentages, not 0 to 255.
+Fix: write system 2 and percentages, not 0 to 255. sixel mend takes the nearest
+values; another system is no colour.
 ";
 
 const REPEAT_ZERO: &str = "RepeatZero: a repeat of 0
@@ -158,7 +165,7 @@ Terminals take it as no column, or as one.
 String: ESC P q \"1;1;1;1!0@ ESC \\
 Output of check: broken RepeatZero 11
 
-Fix: leave such a repeat out.
+Fix: leave such a repeat out. sixel mend takes it as one column.
 ";
 
 const UNSELECTED: &str = "Unselected: painting while no register is known
@@ -173,7 +180,8 @@ String: ESC P q \"1;1;1;1@ ESC \\
 Output of check: broken Unselected 11
 
 Fix: select a register after the last definition, and again after each later
-one.
+one. sixel mend paints in the register selected last, at first 0; with
+--define-selects a definition selects.
 
 Programs: use img2sixel -p 2 instead of -e. More: docs/RECIPES.md.
 ";
@@ -188,7 +196,8 @@ Terminals start with different colours in their registers.
 String: ESC P q \"1;1;1;1#0@ ESC \\
 Output of check: broken Undefined 13
 
-Fix: define every register that you paint in, for black too.
+Fix: define every register that you paint in, for black too. sixel mend takes
+the register's colour on a VT340.
 ";
 
 const REDEFINED: &str = "Redefined: a different colour for a register already painted in
@@ -203,7 +212,8 @@ String: ESC P q \"1;1;1;1#0;2;0;0;0#0@#0;2;100;0;0 ESC \\
 Output of check: broken Redefined 24
 
 Fix: give the second colour its own register. A picture has at most 16 colours,
-or 256 with --wide.
+or 256 with --wide. sixel mend keeps the colour at the time of painting; with
+--showing it takes the last one.
 
 Programs: use img2sixel -p 16 instead of -I. More: docs/RECIPES.md.
 ";
@@ -222,7 +232,7 @@ Output of check: broken Outside 23 0 1
 
 Fix: declare the true size. If the height is no multiple of six, clear the bits
 below the last row: here ~ sets six rows in a box of one, and @ sets only the
-first.
+first. sixel mend makes the box as large as what is painted.
 
 Programs: use sixel encode or ImageMagick instead of img2sixel, which paints
 below a picture of fewer than six rows. More: docs/RECIPES.md.
@@ -240,7 +250,8 @@ String: ESC P q \"1;1;1;1 ESC \\
 Output of check: broken Uncovered 11 0 0
 
 Fix: paint the background too, in a colour of its own. A picture with
-transparent pixels can't be portable.
+transparent pixels can't be portable. sixel mend paints such pixels black, or in
+the colour of --background.
 
 Programs: use chafa -t 1, gnuplot's sixelgd without transparent, or ImageMagick
 -background white -flatten, which puts a colour under the picture. More:
@@ -263,7 +274,7 @@ and konsole 22.12 say so. If ESC P started the string, foot ends it at 9C.)
 String: 90 q ESC \\
 Output of check: broken EightBit 0
 
-Fix: write ESC P and ESC \\.
+Fix: write ESC P and ESC \\. sixel mend writes these.
 
 Programs: use img2sixel without -8, and sixel encode instead of ppmtosixel,
 which has no option for it. More: docs/RECIPES.md.

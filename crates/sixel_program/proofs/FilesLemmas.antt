@@ -1,23 +1,26 @@
 -- On checks and surveys of several files.
 use Rattle.std.proofs.Common.{◌≡◌, ◌∙◌, ◌+◌, ◌<◌, ℕ, Bool, true, false, List, [], ◌∷◌, ◌++◌, length, take}
 use Rattle.std.proofs.Common.{drop, Option, Some, None, refl, sym, ap, ap₂, subst, arith, inl, inr, flat_map}
-use Rattle.std.proofs.Common.{fold, map}
+use Rattle.std.proofs.Common.{All, map}
 use Rattle.std.specs.Prelude.{◌⊎◌, ◌≢◌, Result, Ok, Err, IfSome, String, string_bytes}
 use Rattle.std.specs.Global.{Global}
 use Rattle.std.specs.Io.KnownBytes.{Appends, Consumes, Keeps}
 use Rattle.std.specs.Option.{option_or}
 use Rattle.std.proofs.KnownBytes.{Consumes-nil, Appends-trans}
-use Rattle.std.proofs.Common.{get_or, ◌&&◌, ◌||◌, not, slice_get}
+use Rattle.std.proofs.Common.{get_or, ◌&&◌, not, slice_get}
 use Rattle.std.specs.List.{cons_option, filter_map, list_any}
-use Rattle.std.proofs.lemmas.List.Folds.{list_any-append}
 use Rattle.std.proofs.lemmas.List.{append-nil, take-append-drop, take_more}
-use Rattle.std.proofs.lemmas.List.Elements.{All-cons, All-nil, All-push, filter_map-append}
+use Rattle.std.proofs.lemmas.List.Elements.{All-cons, All-head, All-nil, All-push, All-tail, filter_map-append}
 use Rattle.std.proofs.lemmas.Grind.{flat_map-append}
 use Rattle.std.proofs.lemmas.List.{map-append}
 use Rattle.std.proofs.lemmas.List.Sums.{fold_push}
 use Rattle.sixel_io.specs.Devices.{Change, ReadsToEnd, SinkState, SourceState, change, one_more}
 use Rattle.sixel_io.proofs.SinkLemmas.{Appends-keeps, Appends-none}
 use Rattle.sixel_io.proofs.DeviceLemmas.{Appends-then}
+use Rattle.sixel_grammar.specs.Faults.{NothingYet}
+use Rattle.sixel_grammar.specs.Reading.{NoFaultBefore}
+use Rattle.sixel_grammar.proofs.PrefixLemmas.{nothing as none_yet}
+use Rattle.sixel_grammar.proofs.ViableLemmas.{complete}
 use Rattle.sixel_model.specs.Profiles.{count_of}
 use Rattle.sixel_model.specs.declared.profile.Profile.{Profile}
 use Rattle.sixel_run.proofs.StringLemmas.{none_given}
@@ -39,23 +42,19 @@ use Rattle.sixel_program.specs.Files.{IsLine, file_text}
 use Rattle.sixel_program.specs.Findings.{task_of}
 use Rattle.sixel_program.specs.declared.findings.FilesTask.{FilesTask}
 use Rattle.sixel_program.specs.declared.findings.FilesTask.TheVariants as files
-use Rattle.sixel_program.specs.Files.{FileEnds, Tells, SaysOfCheck, is_dash, complaints_of}
-use Rattle.sixel_program.specs.Files.{SaysOfFile, exit_of_end, first_broken, failures_past, files_exit, files_text}
-use Rattle.sixel_program.specs.Files.{worst, left_after}
+use Rattle.sixel_program.specs.Files.{FileEnds, IsRead, SaysOfCheck, is_dash, complaints_of}
+use Rattle.sixel_program.specs.Files.{SaysOfFile, exit_of_end, first_broken, files_exit, files_text}
+use Rattle.sixel_program.specs.Files.{worst}
 use Rattle.sixel_program.specs.Files.{names_of, said_of, said_of_check, said_of_file}
-use Rattle.sixel_program.specs.Files.{text_of_end, told_of, worse}
+use Rattle.sixel_program.specs.Files.{text_of_end, worse}
 use Rattle.sixel_program.specs.Hints.{first_rule, hint_of, rule_of}
 use Rattle.sixel_program.specs.Names.{named_fault_line, unopened_line}
 use Rattle.sixel_program.specs.Openings.{CountsOf, FailsWith, FolderView, IsOpening, bytes_of}
 use Rattle.sixel_program.specs.declared.folder.Unopened.{Unopened}
 use Rattle.sixel_run.specs.Outputs.{TakesMemory, Wrote, failures_by}
 use Rattle.sixel_run.specs.Texts.{BeginsWith, Text, fault_line, fault_parts}
+use Rattle.sixel_program.proofs.DashLemmas.{or_false}
 use Rattle.sixel_program.proofs.EndLemmas.{kept}
-
--- neither of two is true
-or_false : (a b : Bool) → (a || b) ≡ false → (a ≡ false) × (b ≡ false)
-or_false true b is = let no : true ≡ false = is in cc
-or_false false b is = (refl, is)
 
 -- ---- what is said of one file
 
@@ -100,34 +99,17 @@ unfolding ArePut
 put_then [] more a b c none are = rw (sym none) are
 put_then (text ∷ texts) more a b c before are = (before.0, before.1, put_then texts more before.0 b c before.2 are)
 
--- ---- names
-
--- if no name is that of standard input, then none of the first ones is, and not the last one
-pub no_dash_before : (names more : List Text) → list_any is_dash (names ++ more) ≡ false
-    → list_any is_dash names ≡ false
-no_dash_before names more none =
-    (or_false (list_any is_dash names) (list_any is_dash more) (sym (list_any-append is_dash names more) ∙ none)).0
-
-pub no_dash_last : (names : List Text) (name : Text) → list_any is_dash (names ++ name ∷ []) ≡ false
-    → is_dash name ≡ false
-no_dash_last names name none =
-    let last = (or_false (list_any is_dash names) (list_any is_dash (name ∷ []))
-    (sym (list_any-append is_dash names (name ∷ [])) ∙ none)).1 in
-    (or_false (is_dash name) false last).0
-
 -- ---- one file more
 
 pub none_checked : (t : Task) (q : Bool) {O : Type 0} (folder : FolderView O) (i : SourceState)
     (o e : SinkState)
     → AreChecked t q folder [] [] exit.Done (change i i) (change o o) (change e e)
-unfolding Tells
 none_checked t q folder i o e = record {
   names_are = refl;
   each = λ i e short. let no : ⊥ = omega (arith, short) in absurd no;
   written = λ i e short. let no : ⊥ = omega (arith, short) in absurd no;
   openings = λ i e short. let no : ⊥ = omega (arith, short) in absurd no;
-  tells = refl;
-  counted = refl;
+  read = λ i e short. let no : ⊥ = omega (arith, short) in absurd no;
   exits = refl;
   lines = Appends-none o.taken;
   unfailed = refl;
@@ -153,16 +135,38 @@ all_names names i item name short is named =
     ∙ map-append string_bytes (take (i + 1) names) (drop (i + 1) names)
     ∙ ap (λ (ts : List Text). ts ++ map string_bytes (drop (i + 1) names)) (more_names names i item name short is named)
 
-pub tells_more : (contents : Text → Option (List ℕ)) (a b c : Option (List ℕ)) (ends : List FileEnd) (e : FileEnd)
-    → Tells contents a ends b → e.told ≡ told_of contents b e.name → c ≡ left_after b e.name e.left
-    → Tells contents a (ends ++ e ∷ []) c
-unfolding Tells
-tells_more contents a b c [] e tells told left = (
-  subst (λ (o : Option (List ℕ)). e.told ≡ told_of contents o e.name) tells told,
-  subst (λ (o : Option (List ℕ)). c ≡ left_after o e.name e.left) tells left,
-)
-tells_more contents a b c (x ∷ ends) e tells told left =
-    (tells.0, tells_more contents (left_after a x.name x.left) b c ends e tells.1 told left)
+-- files that aren't standard input were read so, whatever was done to it after them
+reads_kept : (contents : Text → Option (List ℕ)) (i₀ i₁ i₂ : SourceState) (ends : List FileEnd)
+    → list_any is_dash (names_of ends) ≡ false → All (IsRead contents (change i₀ i₁)) ends
+    → All (IsRead contents (change i₀ i₂)) ends
+reads_kept contents i₀ i₁ i₂ [] none read = All-nil (IsRead contents (change i₀ i₂))
+reads_kept contents i₀ i₁ i₂ (e ∷ ends) none read =
+    let both = or_false (is_dash e.name) (list_any is_dash (names_of ends)) none in
+    All-cons (IsRead contents (change i₀ i₂)) e ends (record {
+      told = (All-head (IsRead contents (change i₀ i₁)) e ends read).told;
+      left = λ is. let no : true ≡ false = sym is ∙ both.0 in cc;
+      counted = λ is. let no : true ≡ false = sym is ∙ both.0 in cc;
+    })
+    (reads_kept contents i₀ i₁ i₂ ends both.1 (All-tail (IsRead contents (change i₀ i₁)) e ends read))
+
+module _ (contents : Text → Option (List ℕ)) (i₀ i₁ i₂ : SourceState) (ends : List FileEnd) (e : FileEnd)
+    (read : All (IsRead contents (change i₀ i₁)) ends) (last : IsRead contents (change i₁ i₂) e) where
+  file_read : (dash : Bool) → is_dash e.name ≡ dash → (dash ≡ false → i₂ ≡ i₁)
+      → (dash ≡ true → list_any is_dash (names_of ends) ≡ false)
+      → (list_any is_dash (names_of ends) ≡ false → i₁ ≡ i₀)
+      → All (IsRead contents (change i₀ i₂)) (ends ++ e ∷ [])
+  file_read true dash stays first unread =
+      let none = first refl in
+      All-push (IsRead contents (change i₀ i₂)) ends e (reads_kept contents i₀ i₁ i₂ ends none read)
+      (subst (λ (i : SourceState). IsRead contents (change i i₂) e) (unread none) last)
+  file_read false other stays first unread =
+      let same = stays refl in
+      All-push (IsRead contents (change i₀ i₂)) ends e
+      (subst (λ (i : SourceState). All (IsRead contents (change i₀ i)) ends) (sym same) read) (record {
+        told = last.told ∙ rw other refl;
+        left = λ is. let no : true ≡ false = sym is ∙ other in cc;
+        counted = λ is. let no : true ≡ false = sym is ∙ other in cc;
+      })
 
 text_more : {X : Type 0} (f : FileEnd → List X) (ends : List FileEnd) (e : FileEnd)
     → flat_map f (ends ++ e ∷ []) ≡ flat_map f ends ++ f e
@@ -173,11 +177,6 @@ exits_more : (ends : List FileEnd) (e : FileEnd) → files_exit (ends ++ e ∷ [
 exits_more ends e =
     ap worst (map-append exit_of_end ends (e ∷ []))
     ∙ fold_push worse exit.Done (map exit_of_end ends) (exit_of_end e)
-
-counted_more : (ends : List FileEnd) (e : FileEnd) (a b c : ℕ) → b ≡ fold failures_past a ends
-    → c ≡ failures_past b e → c ≡ fold failures_past a (ends ++ e ∷ [])
-counted_more ends e a b c before is =
-    is ∙ ap (λ (n : ℕ). failures_past n e) before ∙ sym (fold_push failures_past a ends e)
 
 names_more : (ends : List FileEnd) (e : FileEnd) → names_of (ends ++ e ∷ []) ≡ names_of ends ++ e.name ∷ []
 names_more ends e = map-append (λ e. e.name) ends (e ∷ [])
@@ -196,7 +195,15 @@ first_rule_more answers last =
 
 module _ (t : Task) (q : Bool) {O : Type 0} (folder : FolderView O) (ends : List FileEnd) (names : List Text)
     (name : Text) (x : Exit) (i₀ i₁ i₂ : SourceState) (o₀ o₁ o₂ e₀ e₁ e₂ : SinkState)
-    (before : AreChecked t q folder ends names x (change i₀ i₁) (change o₀ o₁) (change e₀ e₁)) where
+    (before : AreChecked t q folder ends names x (change i₀ i₁) (change o₀ o₁) (change e₀ e₁))
+    (stays : is_dash name ≡ false → i₂ ≡ i₁) (first : is_dash name ≡ true → list_any is_dash names ≡ false)
+    (unread : list_any is_dash names ≡ false → i₁ ≡ i₀) where
+  all_read : (e : FileEnd) → e.name ≡ name → IsRead (bytes_of folder.opening) (change i₁ i₂) e
+      → All (IsRead (bytes_of folder.opening) (change i₀ i₂)) (ends ++ e ∷ [])
+  all_read e is read =
+      file_read (bytes_of folder.opening) i₀ i₁ i₂ ends e before.read read (is_dash name) (ap is_dash is) stays
+      (rw before.names_are at first) (rw before.names_are at unread)
+
   pub checked_more : {E : Type 0} (y : Result Status RunFault)
       → IsChecked {E = E} t q folder name (Ok y) (change i₁ i₂) (change o₁ o₂) (change e₁ e₂)
       → (all : List FileEnd) × AreChecked t q folder all (names ++ name ∷ [])
@@ -210,9 +217,7 @@ module _ (t : Task) (q : Bool) {O : Type 0} (folder : FolderView O) (ends : List
       each = All-push (IsFileEnd t) ends one.e before.each one.is_end;
       written = All-push (λ (e : FileEnd). e.answer ≢ Err run.Write) ends one.e before.written one.written;
       openings = All-push (IsFileOpening folder) ends one.e before.openings one.opening;
-      tells = tells_more (bytes_of folder.opening) i₀.remaining i₁.remaining i₂.remaining ends one.e before.tells
-          (rw one.name_is one.told) (rw one.name_is one.left);
-      counted = counted_more ends one.e i₀.failures i₁.failures i₂.failures before.counted one.counted;
+      read = all_read one.e one.name_is one.read;
       exits = ap₂ worse before.exits (ap exit_for_answer one.outcome.0) ∙ sym (exits_more ends one.e);
       lines = Appends-then o₀.taken o₁.taken o₂.taken (files_text q ends) (text_of_end q one.e) _ before.lines
           (rw one.name_is one.outcome.1) (text_more (text_of_end q) ends one.e);
@@ -246,9 +251,7 @@ module _ (t : Task) (q : Bool) {O : Type 0} (folder : FolderView O) (ends : List
         each = All-push (IsFileEnd t) ends one.e before.each one.is_end;
         written = before.written;
         openings = All-push (IsFileOpening folder) ends one.e before.openings one.opening;
-        tells = tells_more (bytes_of folder.opening) i₀.remaining i₁.remaining i₂.remaining ends one.e before.tells
-            (rw one.name_is one.told) (rw one.name_is one.left);
-        counted = counted_more ends one.e i₀.failures i₁.failures i₂.failures before.counted one.counted;
+        read = all_read one.e one.name_is one.read;
         exits = refl;
         lines = Appends-trans o₀.taken o₁.taken o₂.taken (files_text q ends) _ before.lines
             (rw (append-nil (text_of_end q one.e)) cut.1);
@@ -275,9 +278,9 @@ memory_kept (task.Survey profile) told has same takes = kept _ told has same tak
 memory_kept (task.Scan profile eight) told has same takes = kept _ told has same takes
 memory_kept (task.Render profile) told has same takes = kept _ told has same takes
 memory_kept (task.Encode profile) told has same takes = kept _ told has same takes
-memory_kept (task.Show profile showing fill selects width height) told has same takes = tt
-memory_kept (task.ShowBox profile showing fill selects) told has same takes = tt
-memory_kept (task.Mend profile background showing selects) told has same takes = tt
+memory_kept (task.Show profile showing fill selects width height) told has same takes = kept _ told has same takes
+memory_kept (task.ShowBox profile showing fill selects) told has same takes = kept _ told has same takes
+memory_kept (task.Mend profile background showing selects) told has same takes = kept _ told has same takes
 
 pub format_kept : (format : Option Format) (told has : Option (List ℕ)) → Keeps told has → IsFormat has format
     → IsFormat told format
@@ -332,12 +335,17 @@ no_text true name = refl
 no_text false name = refl
 
 -- a file was opened without a failure; if calls on an input over it failed, calls on it did
-pub fails_with : {O : Type 0} (folder : FolderView O) (answer : Result Status RunFault) (file : O) (old new : ℕ)
-    → old ≡ 0 → new ≡ failures_by run.Read answer old → (0 < new → 0 < (folder.state file).failures)
-    → FailsWith folder answer
-fails_with folder answer file old new none counts failed = λ read.
+pub fails_with : {O : Type 0} (folder : FolderView O) (name : Text) (answer : Result Status RunFault) (opened ended : O)
+    (old new : ℕ) → folder.state opened ≡ record { remaining = bytes_of folder.opening name; failures = 0 }
+    → old ≡ 0 → new ≡ failures_by run.Read answer old → (0 < new → 0 < (folder.state ended).failures)
+    → FailsWith folder name answer
+fails_with folder name answer opened ended old new fresh none counts failed = λ read.
     let one : new ≡ 1 = rw (read, none) at counts in
-    (file, failed (omega (arith, one)))
+    record { opened = opened; ended = ended; fresh = fresh; failed = failed (omega (arith, one)) }
+
+-- no bytes have no fault
+none_given_yet : (bytes : List ℕ) → NoFaultBefore (Some bytes) bytes
+none_given_yet bytes = ([], refl, omega arith, ([], complete NothingYet none_yet))
 
 -- a file that couldn't be opened
 pub unopened : (f : FilesTask) (name : Text) (reason : Unopened) (told : Option (List ℕ))
@@ -363,8 +371,8 @@ unopened f name reason told = record {
     nothing : (f : FilesTask) (told : Option (List ℕ))
         → IfSome told (λ bytes. Wrote (task_of f) bytes told (Err run.Read) (Some []) (Some []))
     nothing f None = tt
-    nothing (files.Check profile) (Some bytes) = refl
-    nothing (files.Survey profile) (Some bytes) = refl
+    nothing (files.Check profile) (Some bytes) = (none_given_yet bytes, refl)
+    nothing (files.Survey profile) (Some bytes) = (none_given_yet bytes, refl)
     nothing (files.Scan profile eight) (Some bytes) = ([], none_given eight (count_of profile) bytes, refl)
 
 -- behind the name
@@ -384,8 +392,7 @@ module _ (t : Task) (q : Bool) {O : Type 0} (folder : FolderView O) (ends : List
     each = before.each;
     written = before.written;
     openings = before.openings;
-    tells = before.tells;
-    counted = before.counted;
+    read = before.read;
     exits = before.exits;
     lines = Appends-keeps o₀.taken o₁.taken o₂.taken (files_text q ends) before.lines kept;
     unfailed = same ∙ before.unfailed;
@@ -419,8 +426,7 @@ module _ (t : Task) (q : Bool) {O : Type 0} (folder : FolderView O) (ends : List
         each = rw none before.each;
         written = before.written;
         openings = rw none before.openings;
-        tells = rw none before.tells;
-        counted = rw none before.counted;
+        read = rw none before.read;
         exits = refl;
         lines = rw (append-nil (files_text q ends))
             (Appends-keeps o₀.taken o₁.taken o₂.taken (files_text q ends) before.lines kept);
@@ -451,7 +457,7 @@ module _ (t : Task) (h : Bool) {O : Type 0} (folder : FolderView O) (name : Text
 
   pub file_ends : (x : Exit) (i : SourceState) (file : Change SourceState) → is_dash name ≡ false
       → file.old.remaining ≡ bytes_of folder.opening name → IsOpening (folder.opening name) name None
-      → CountsOf folder file → RunEnds t h (Some name) x file o e → FileEnds t h folder name x (change i i) o e
+      → CountsOf folder name file → RunEnds t h (Some name) x file o e → FileEnds t h folder name x (change i i) o e
   file_ends x i file other told opens counts ended = record {
     file = file;
     told = rw other told;

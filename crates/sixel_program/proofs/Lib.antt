@@ -2,6 +2,7 @@ pub mod OpeningLemmas
 pub mod PeekedLemmas
 pub mod PutLemmas
 pub mod EndLemmas
+pub mod DashLemmas
 pub mod FilesLemmas
 pub mod FindingLemmas
 pub mod ScanLemmas

@@ -1,8 +1,8 @@
 -- The exit statuses of several files, and the line of each.
 use Rattle.std.proofs.Common.{ap, append_assoc, Err, ◌++◌}
-use Rattle.std.proofs.Common.{◌≡◌, ◌≤◌, ◌∷◌, ℕ, Bool, true, false, List, [], Some, arith, refl, sym, fold, length, map}
+use Rattle.std.proofs.Common.{◌≡◌, ◌≤◌, ◌∷◌, ℕ, Bool, true, false, List, [], Option, Some, arith, refl, sym, fold, length, map}
 use Rattle.std.proofs.Common.{slice_index_or, subst, suc, zero, inl, inr, ◌<◌, ◌+◌, ◌-◌, ◌^◌, ◌∙◌}
-use Rattle.std.specs.Prelude.{◌⊎◌, All, Contains, Ok, nat_lt, if◌then◌else◌}
+use Rattle.std.specs.Prelude.{◌⊎◌, ◌≢◌, All, Contains, Ok, nat_lt, if◌then◌else◌}
 use Rattle.std.specs.List.{concat}
 use Rattle.std.proofs.lemmas.List.{append-nil}
 use Rattle.std.proofs.lemmas.Bool.{cases_lt, ltb-false, ltb-true}
@@ -16,7 +16,7 @@ use Rattle.sixel_grammar.specs.declared.fault.Fault.{Fault}
 use Rattle.sixel_run.specs.declared.fault.RunFault.{RunFault}
 use Rattle.sixel_run.specs.declared.fault.RunFault.TheVariants as run
 use Rattle.sixel_run.specs.declared.task.Status.{Status}
-use Rattle.sixel_program.specs.Exits.{IsPut, exit_code}
+use Rattle.sixel_program.specs.Exits.{IsPut, exit_code, exit_for_answer}
 use Rattle.sixel_program.specs.Files.{ArePut, FileEnd, IsFileEnd, IsSaid, exit_of_end, file_text, files_exit}
 use Rattle.sixel_program.proofs.FilesLemmas.{no_text}
 use Rattle.sixel_program.specs.Files.{files_text, scans, worse}
@@ -24,7 +24,12 @@ use Rattle.sixel_program.specs.Findings.{task_of}
 use Rattle.sixel_program.specs.declared.findings.FilesTask.{FilesTask}
 use Rattle.sixel_program.specs.declared.findings.FilesTask.TheVariants as files
 use Rattle.sixel_run.proofs.StringLemmas.{not_a_fault}
-use Rattle.sixel_run.specs.Outputs.{Gives, Wrote}
+use Rattle.sixel_run.specs.Outputs.{Gives, ScanGives, ScansBefore, ScansUnread, Wrote, WroteWith}
+use Rattle.sixel_run.specs.Scanned.{Finds, scan_text}
+use Rattle.sixel_run.specs.declared.task.Task.TheVariants.{Scan}
+use Rattle.sixel_scan.specs.declared.answer.Scanned.{Scanned}
+use Rattle.sixel_model.specs.Profiles.{count_of}
+use Rattle.sixel_model.specs.declared.profile.Profile.{Profile}
 use Rattle.sixel_run.specs.Texts.{Text}
 
 -- ---- the greatest
@@ -171,3 +176,24 @@ alone f e bytes status is told answer =
     let wrote : Wrote (task_of f) bytes e.left (Ok status) (Some []) (Some (concat e.lines)) = rw
     (told, answer) at is.wrote in
     subst (λ (text : Text). Gives (task_of f) bytes text (Ok status)) (sym wrote.2) wrote.1
+
+-- the lines of a scan that wasn't done are those of the strings that it found
+scan_found : (eight : Bool) (registers : ℕ) (bytes : List ℕ) (left : Option (List ℕ)) (fault : RunFault) (lines : Text)
+    → fault ≢ run.Write
+    → WroteWith (ScanGives eight registers bytes) (ScansUnread eight registers bytes left)
+    (ScansBefore eight registers bytes) (Err fault) (Some []) (Some lines)
+    → (reports : List Scanned) × Finds eight registers bytes left (Err fault) reports × (lines ≡ scan_text reports)
+scan_found eight registers bytes left run.Read lines other wrote = (wrote.0, wrote.1, wrote.2)
+scan_found eight registers bytes left run.OutOfMemory lines other wrote = (wrote.0, wrote.1, wrote.2)
+scan_found eight registers bytes left run.Write lines other wrote = absurd (other refl)
+scan_found eight registers bytes left fault lines other wrote =
+    (wrote.1.0, (wrote.1.1, wrote.1.3), wrote.2 ∙ wrote.1.2)
+
+pub unended : (profile : Profile) (eight : Bool) (e : FileEnd) (bytes : List ℕ) (fault : RunFault)
+    → IsFileEnd (Scan profile eight) e → e.told ≡ Some bytes → e.answer ≡ Err fault → fault ≢ run.Write
+    → (reports : List Scanned) × Finds eight (count_of profile) bytes e.left (Err fault) reports
+    × (concat e.lines ≡ scan_text reports) × (exit_of_end e ≡ exit.Refused)
+unended profile eight e bytes fault is told answer other =
+    let found = scan_found eight (count_of profile) bytes e.left fault (concat e.lines) other
+    (rw (told, answer) at is.wrote) in
+    (found.0, found.1, found.2, ap exit_for_answer answer)

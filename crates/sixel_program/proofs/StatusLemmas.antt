@@ -1,10 +1,9 @@
 -- What an exit status says of each file that was read.
-use Rattle.std.proofs.Common.{◌≡◌, ◌∙◌, ◌≤◌, ◌∷◌, ℕ, Bool, true, false, List, [], Option, Some, None, arith, inl, inr}
-use Rattle.std.proofs.Common.{ap, length, map, refl, subst, suc, sym, zero}
-use Rattle.std.proofs.lemmas.List.{length-append, nil_from_length}
+use Rattle.std.proofs.Common.{◌≡◌, ◌∙◌, ◌≤◌, ◌∷◌, ℕ, Bool, List, [], Option, Some, None, arith, inl, inr}
+use Rattle.std.proofs.Common.{map, refl, subst, suc, sym, zero}
 use Rattle.std.specs.List.{concat}
-use Rattle.std.specs.Prelude.{All, Contains, Err, IfSome, Ok, Result, if◌then◌else◌, slice_index_or}
-use Rattle.std.proofs.lemmas.List.Elements.{All-cons, All-head, All-nil, All-tail, All-weaker}
+use Rattle.std.specs.Prelude.{All, Contains, Err, IfSome, Ok, Result, slice_index_or}
+use Rattle.std.proofs.lemmas.List.Elements.{All-cons, All-head, All-nil, All-tail}
 use Rattle.sixel_io.specs.Devices.{Change, SinkState, SourceState}
 use Rattle.sixel_program.specs.declared.exit.Exit.{Exit}
 use Rattle.sixel_program.specs.declared.exit.Exit.TheVariants as exit
@@ -13,47 +12,30 @@ use Rattle.sixel_run.specs.declared.task.Status.{Status}
 use Rattle.sixel_run.specs.declared.task.Status.TheVariants as status
 use Rattle.sixel_run.specs.declared.task.Task.{Task}
 use Rattle.sixel_program.specs.Exits.{exit_code, exit_for_answer}
-use Rattle.sixel_run.specs.Outputs.{Gives, Wrote}
-use Rattle.sixel_run.proofs.CheckLemmas.{nothing_unjudged}
-use Rattle.sixel_run.proofs.StringLemmas.{nothing_scanned}
-use Rattle.sixel_model.specs.Profiles.{count_of}
+use Rattle.sixel_run.specs.Outputs.{Wrote}
 use Rattle.sixel_program.specs.Files.{FileEnd, FilesEnd, IsBrokenOver, IsDoneOver, IsFileEnd, IsJudgedOver}
-use Rattle.sixel_program.specs.Files.{RequestEnds, Tells, exit_of_end, files_exit, is_dash}
-use Rattle.sixel_program.specs.Files.{left_after, names_of, names_read}
-use Rattle.sixel_program.specs.Files.{ReadsOver, TakesAll, told_of}
+use Rattle.sixel_program.specs.Files.{IsRead, RequestEnds, exit_of_end, files_exit}
+use Rattle.sixel_program.specs.Files.{names_of, names_read}
+use Rattle.sixel_program.specs.Files.{told_of}
 use Rattle.sixel_program.specs.Findings.{task_of}
 use Rattle.sixel_program.specs.Openings.{FolderView, bytes_of}
 use Rattle.sixel_program.specs.declared.findings.FilesTask.{FilesTask}
-use Rattle.sixel_program.specs.declared.findings.FilesTask.TheVariants as files
-use Rattle.sixel_run.specs.Texts.{Text, verdict_line}
+use Rattle.sixel_run.specs.Texts.{Text}
 use Rattle.sixel_program.proofs.EndLemmas.{broken_gives, done_gives}
 use Rattle.sixel_program.proofs.RequestLemmas.{request_read}
 use Rattle.sixel_program.proofs.SeveralLemmas.{contains_later, greatest_of, reached}
 
 -- ---- checks of several files
 
--- what holds of a name when it is read after a file holds of it before that, since standard input is then the same, or
--- was that file
-earlier : (P : Option (List ℕ) → Type 0) (a b : Bool) (had left first later : Option (List ℕ))
-    → P (if a then had else first) → P (if b then (if a then left else had) else later) → P (if b then had else later)
-earlier P true true had left first later p q = p
-earlier P false true had left first later p q = q
-earlier P a false had left first later p q = q
-
 -- what holds of the bytes of each file holds of each name
-told_each : (P : Option (List ℕ) → Type 0) (contents : Text → Option (List ℕ)) (had has : Option (List ℕ))
-    (ends : List FileEnd) → Tells contents had ends has → All (λ e. P e.told) ends
-    → All (λ name. P (told_of contents had name)) (names_of ends)
-unfolding Tells
-told_each P contents had has [] tells each = All-nil (λ name. P (told_of contents had name))
-told_each P contents had has (e ∷ rest) tells each =
-    let first : P (told_of contents had e.name) = subst P tells.0 (All-head (λ e. P e.told) e rest each) in
-    All-cons (λ name. P (told_of contents had name)) e.name (names_of rest) first
-    (All-weaker (λ name. P (told_of contents (left_after had e.name e.left) name))
-    (λ name. P (told_of contents had name))
-    (λ name later. earlier P (is_dash e.name) (is_dash name) had e.left (contents e.name) (contents name) first later)
-    (names_of rest)
-    (told_each P contents (left_after had e.name e.left) has rest tells.1 (All-tail (λ e. P e.told) e rest each)))
+told_each : (P : Option (List ℕ) → Type 0) (contents : Text → Option (List ℕ)) (i : Change SourceState)
+    (ends : List FileEnd) → All (IsRead contents i) ends → All (λ e. P e.told) ends
+    → All (λ name. P (told_of contents i.old.remaining name)) (names_of ends)
+told_each P contents i [] read each = All-nil (λ name. P (told_of contents i.old.remaining name))
+told_each P contents i (e ∷ rest) read each =
+    All-cons (λ name. P (told_of contents i.old.remaining name)) e.name (names_of rest)
+    (subst P (All-head (IsRead contents i) e rest read).told (All-head (λ e. P e.told) e rest each))
+    (told_each P contents i rest (All-tail (IsRead contents i) e rest read) (All-tail (λ e. P e.told) e rest each))
 
 least : (x : Exit) → exit_code x ≤ exit_code exit.Done → x ≡ exit.Done
 least exit.Done below = refl
@@ -90,84 +72,22 @@ module _ (t : Task) (ends : List FileEnd) (each : All (IsFileEnd t) ends) where
       judged_gives t e.told e.left e.answer (Some []) (Some (concat e.lines)) (each k d short).wrote
       (each_below is k d short)
 
--- no bytes are no document, and have no string, so nothing is found in them
-unfound : (f : FilesTask) (text : Text) (s : Status) → Gives (task_of f) [] text (Ok s) → ⊥
-unfound (files.Check profile) text s gives = nothing_unjudged (count_of profile) text s gives
-unfound (files.Survey profile) text s gives =
-    let verdict = gives.3 in
-    nothing_unjudged (count_of profile) (verdict_line verdict.0) s
-    (gives.0, gives.1, (verdict.0, verdict.1, refl, verdict.2))
-unfound (files.Scan profile eight) text s gives = nothing_scanned eight (count_of profile) text s gives
-
--- a task that takes all of its input, and found something, has left nothing of it
-nothing_left : (f : FilesTask) (bytes rest : List ℕ) (s : Status)
-    → ReadsOver (task_of f) (Ok s) (Some bytes) (Some rest) → TakesAll (task_of f) bytes → rest ≡ []
-nothing_left (files.Check profile) bytes rest s reads all = reads.ended
-nothing_left (files.Survey profile) bytes rest s reads all = reads.ended
-nothing_left (files.Scan profile eight) bytes rest s reads all = elim reads.ended [
-  | inl none ↦ none
-  | inr full ↦
-      nil_from_length rest (omega (arith, ap length reads.read, length-append reads.bytes rest, full, all))
-]
-
--- of nothing, each task takes all
-none_taken : (f : FilesTask) (rest : List ℕ) → rest ≡ [] → TakesAll (task_of f) rest
-none_taken (files.Check profile) rest none = tt
-none_taken (files.Survey profile) rest none = tt
-none_taken (files.Scan profile eight) rest none = omega (arith, ap length none)
-
--- so it finds nothing in what it left
-rest_unbroken : (f : FilesTask) (told left : Option (List ℕ)) (a : Result Status RunFault)
-    → ReadsOver (task_of f) a told left
-    → exit_code (exit_for_answer a) ≤ exit_code exit.Broken
-    → IsBrokenOver (task_of f) left → IsBrokenOver (task_of f) told
-rest_unbroken f None left a reads below broken = tt
-rest_unbroken f (Some bytes) None a reads below broken = absurd reads.read
-rest_unbroken f (Some bytes) (Some rest) (Err fault) reads below broken = absurd (omega (arith, below))
-rest_unbroken f (Some bytes) (Some rest) (Ok s) reads below broken = λ all.
-    let none : rest ≡ [] = nothing_left f bytes rest s reads all in
-    let found = broken (none_taken f rest none) in
-    absurd (unfound f found.0 found.1
-    (subst (λ (t : List ℕ). Gives (task_of f) t found.0 (Ok found.1)) none found.3))
-
--- what holds of a name when it is read after a file holds of it before that, if what holds of the rest of standard
--- input holds of all of it
-earlier_read : (P : Option (List ℕ) → Type 0) (a b : Bool) (had left later : Option (List ℕ))
-    → (a ≡ true → P left → P had) → P (if b then (if a then left else had) else later) → P (if b then had else later)
-earlier_read P true true had left later back q = back refl q
-earlier_read P false true had left later back q = q
-earlier_read P a false had left later back q = q
-
-module _ (f : FilesTask) (contents : Text → Option (List ℕ)) where
-  told_broken : (had has : Option (List ℕ)) (ends : List FileEnd) → Tells contents had ends has
-      → All (IsFileEnd (task_of f)) ends → All (λ e. exit_code (exit_of_end e) ≤ exit_code exit.Broken) ends
-      → Contains (map exit_of_end ends) exit.Broken
-      → (name : Text) × Contains (names_of ends) name × IsBrokenOver (task_of f) (told_of contents had name)
-  unfolding Tells
-  told_broken had has [] tells each below (k, short, is) = absurd (omega (arith, short))
-  told_broken had has (e ∷ rest) tells each below (zero, short, is) =
-      let end = All-head (IsFileEnd (task_of f)) e rest each in (
-        e.name,
-        (0, omega arith, refl),
-        subst (IsBrokenOver (task_of f)) tells.0
-            (broken_gives (task_of f) e.told e.left e.answer (Some []) (Some (concat e.lines)) end.wrote is),
-      )
-  told_broken had has (e ∷ rest) tells each below (suc k, short, is) =
-      let end = All-head (IsFileEnd (task_of f)) e rest each in
-      let low = All-head (λ e. exit_code (exit_of_end e) ≤ exit_code exit.Broken) e rest below in
-      let back : is_dash e.name ≡ true → IsBrokenOver (task_of f) e.left → IsBrokenOver (task_of f) had =
-      λ dash broken.
-      let same : e.told ≡ had = (rw dash at tells.0) in
-      subst (IsBrokenOver (task_of f)) same (rest_unbroken f e.told e.left e.answer end.reads low broken) in
-      let found = told_broken (left_after had e.name e.left) has rest tells.1
-      (All-tail (IsFileEnd (task_of f)) e rest each)
-      (All-tail (λ e. exit_code (exit_of_end e) ≤ exit_code exit.Broken) e rest below)
-      (k, omega (arith, short), is) in (
-        found.0,
-        contains_later e.name found.0 (names_of rest) found.1,
-        earlier_read (IsBrokenOver (task_of f)) (is_dash e.name) (is_dash found.0) had e.left (contents found.0)
-            back found.2,
-      )
+-- of the files, one that is broken has a name
+told_broken : (t : Task) (contents : Text → Option (List ℕ)) (i : Change SourceState) (ends : List FileEnd)
+    → All (IsRead contents i) ends → All (IsFileEnd t) ends → Contains (map exit_of_end ends) exit.Broken
+    → (name : Text) × Contains (names_of ends) name × IsBrokenOver t (told_of contents i.old.remaining name)
+told_broken t contents i [] read each (k, short, is) = absurd (omega (arith, short))
+told_broken t contents i (e ∷ rest) read each (zero, short, is) = (
+  e.name,
+  (0, omega arith, refl),
+  subst (IsBrokenOver t) (All-head (IsRead contents i) e rest read).told
+      (broken_gives t e.told e.left e.answer (Some []) (Some (concat e.lines))
+      (All-head (IsFileEnd t) e rest each).wrote is),
+)
+told_broken t contents i (e ∷ rest) read each (suc k, short, is) =
+    let found = told_broken t contents i rest (All-tail (IsRead contents i) e rest read)
+    (All-tail (IsFileEnd t) e rest each) (k, omega (arith, short), is) in
+    (found.0, contains_later e.name found.0 (names_of rest) found.1, found.2)
 
 one_broken : (ends : List FileEnd) → files_exit ends ≡ exit.Broken → Contains (map exit_of_end ends) exit.Broken
 one_broken [] is = let no : exit.Done ≡ exit.Broken = is in cc
@@ -181,8 +101,7 @@ module _ (f : FilesTask) (q h : Bool) {O : Type 0} (folder : FolderView O) (name
       let are = done.checked in
       subst (All (λ name. IsDoneOver (task_of f) (told_of (bytes_of folder.opening) i.old.remaining name)))
       (sym are.names_are)
-      (told_each (IsDoneOver (task_of f)) (bytes_of folder.opening) i.old.remaining i.new.remaining done.ends
-      are.tells (each_done (task_of f) done.ends are.each (sym are.exits ∙ is)))
+      (told_each (IsDoneOver (task_of f)) (bytes_of folder.opening) i done.ends are.read (each_done (task_of f) done.ends are.each (sym are.exits ∙ is)))
   files_done (inr cut) is = let no : exit.Refused ≡ exit.Done = sym cut.exits ∙ is in cc
 
   files_judged : FilesEnd (task_of f) q h folder names x i o e → x ≡ exit.Broken
@@ -191,8 +110,7 @@ module _ (f : FilesTask) (q h : Bool) {O : Type 0} (folder : FolderView O) (name
       let are = done.checked in
       subst (All (λ name. IsJudgedOver (task_of f) (told_of (bytes_of folder.opening) i.old.remaining name)))
       (sym are.names_are)
-      (told_each (IsJudgedOver (task_of f)) (bytes_of folder.opening) i.old.remaining i.new.remaining done.ends
-      are.tells (each_judged (task_of f) done.ends are.each (sym are.exits ∙ is)))
+      (told_each (IsJudgedOver (task_of f)) (bytes_of folder.opening) i done.ends are.read (each_judged (task_of f) done.ends are.each (sym are.exits ∙ is)))
   files_judged (inr cut) is = let no : exit.Refused ≡ exit.Broken = sym cut.exits ∙ is in cc
 
   files_broken : FilesEnd (task_of f) q h folder names x i o e → x ≡ exit.Broken
@@ -202,8 +120,8 @@ module _ (f : FilesTask) (q h : Bool) {O : Type 0} (folder : FolderView O) (name
       let are = done.checked in
       subst (λ (ns : List Text). (name : Text) × Contains ns name
       × IsBrokenOver (task_of f) (told_of (bytes_of folder.opening) i.old.remaining name)) (sym are.names_are)
-      (told_broken f (bytes_of folder.opening) i.old.remaining i.new.remaining done.ends are.tells are.each
-      (each_below (task_of f) done.ends are.each (sym are.exits ∙ is)) (one_broken done.ends (sym are.exits ∙ is)))
+      (told_broken (task_of f) (bytes_of folder.opening) i done.ends are.read are.each
+      (one_broken done.ends (sym are.exits ∙ is)))
   files_broken (inr cut) is = let no : exit.Refused ≡ exit.Broken = sym cut.exits ∙ is in cc
 
 -- ---- what is asked for

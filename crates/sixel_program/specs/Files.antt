@@ -1,7 +1,7 @@
 -- How requests end: over standard input or files, quiet or not.
-use Rattle.std.specs.Prelude.{◌≡◌, ◌≢◌, ◌⊎◌, ◌-◌, ◌^◌, ◌<◌, ◌&&◌, ◌∷◌, ◌++◌, ℕ, Bool, not, true, false, List, []}
+use Rattle.std.specs.Prelude.{◌≡◌, ◌≢◌, ◌⊎◌, ◌-◌, ◌^◌, ◌<◌, ◌&&◌, ◌||◌, ◌∷◌, ◌++◌, ℕ, Bool, not, true, false, List, []}
 use Rattle.std.specs.Prelude.{Option, Some, None, IfSome, Result, Ok, Err, codes, flat_map, fold, map, take, nat_lt}
-use Rattle.std.specs.Prelude.{◌≤◌, OnOk, length, nat_eq, option_to_list, if◌then◌else◌, ⊤}
+use Rattle.std.specs.Prelude.{◌≤◌, OnOk, count_by, length, nat_eq, option_to_list, if◌then◌else◌, ⊤}
 use Rattle.std.specs.Io.KnownBytes.{Appends, Consumes, IsAtEnd}
 use Rattle.std.specs.List.{All, concat, list_any}
 use Rattle.std.specs.Str.{bytes_eq}
@@ -51,6 +51,10 @@ names_read t (name ∷ more) = name ∷ []
 abbrev pub reads_input : Task → List Text → Bool
 reads_input t names = list_any is_dash (names_read t names)
 
+-- whether more than one of the names that are read is that of standard input
+abbrev pub names_input_twice : Task → List Text → Bool
+names_input_twice t names = nat_lt 1 (count_by is_dash (names_read t names))
+
 -- for these bytes, if they are known, the task is done
 abbrev pub IsDoneOver : Task → Option (List ℕ) → Type 0
 IsDoneOver t told = IfSome told (λ bytes. (text : Text) × Gives t bytes text (Ok status.Done))
@@ -95,11 +99,22 @@ is_misdirected terminals t = terminals.output && writes_ppm t
 abbrev pub redirection : Text
 redirection = codes "sixel: a terminal can't show a PPM; redirect the output, as in `> picture.ppm`" ++ 10 ∷ []
 
--- ---- one file
+-- ---- usage errors
 
--- what standard input has left after the file with this name, which left `left`
-abbrev pub left_after : Option (List ℕ) → Text → Option (List ℕ) → Option (List ℕ)
-left_after input name left = if is_dash name then left else input
+-- what is said if standard input is named twice; the last line is that of each usage error
+abbrev pub named_twice : Text
+named_twice =
+    codes "sixel: standard input is named twice" ++ 10 ∷ 10 ∷ codes "For more information, try '--help'." ++ 10 ∷ []
+
+-- whether the request is a usage error: it would write a PPM to a terminal, or it names standard input twice
+abbrev pub is_misasked : Terminals → Task → List Text → Bool
+is_misasked terminals t names = is_misdirected terminals t || names_input_twice t names
+
+-- what is said of it
+abbrev pub mistake : Terminals → Task → Text
+mistake terminals t = if is_misdirected terminals t then redirection else named_twice
+
+-- ---- one file
 
 -- the file with this name, which isn't that of standard input, couldn't be opened for this reason: the output is
 -- unchanged, and the errors got the line of that reason
@@ -114,7 +129,7 @@ pub record IsUnopened (told : Told) (name : Text) (exit : Exit) (output errors :
 -- an input with another name than that of standard input is the file with this name, which was opened
 pub record IsOpened {O : Type 0} (folder : FolderView O) (name : Text) (input : Change SourceState) : Type 0 where
   pub opening : is_dash name ≡ false → IsOpening (folder.opening name) name None
-  pub counted : is_dash name ≡ false → CountsOf folder input
+  pub counted : is_dash name ≡ false → CountsOf folder name input
 
 -- how a task over the file with this name ended. If the name is that of standard input, the file is `input`. Otherwise
 -- `input` is unchanged, and the file was read or couldn't be opened
@@ -177,7 +192,7 @@ pub record IsFileOpening {O : Type 0} (folder : FolderView O) (e : FileEnd) : Ty
   pub input : is_dash e.name ≡ true → e.unopened ≡ None
   pub opening : is_dash e.name ≡ false → IsOpening (folder.opening e.name) e.name e.unopened
   pub unread : (reason : Unopened) → e.unopened ≡ Some reason → e.answer ≡ Err run.Read
-  pub counted : is_dash e.name ≡ false → e.unopened ≡ None → FailsWith folder e.answer
+  pub counted : is_dash e.name ≡ false → e.unopened ≡ None → FailsWith folder e.name e.answer
 
 -- the output for a file: each line after the file's name; nothing if the task is quiet
 abbrev pub file_text : Bool → Text → List Text → Text
@@ -260,16 +275,12 @@ IsOutcome is_quiet name unopened format lines answer (Err fault) output errors =
     × (is_quiet ≡ false) × (output.new.failures ≡ one_more output.old.failures)
     × ((said_of_file name unopened format answer ≡ []) ⊎ (answer ≡ Err run.Write)) × (errors.new ≡ errors.old)
 
--- the bytes of each file in turn, if they are known; standard input had `had` before them and has `has` after them
-unfoldable pub Tells : (Text → Option (List ℕ)) → Option (List ℕ) → List FileEnd → Option (List ℕ) → Type 0
-Tells contents had [] has = has ≡ had
-Tells contents had (e ∷ rest) has =
-    (e.told ≡ told_of contents had e.name) × Tells contents (left_after had e.name e.left) rest has
-
--- how many calls on standard input have failed after the check of a file: one more if that file was standard input and
--- a read of it failed
-abbrev pub failures_past : ℕ → FileEnd → ℕ
-failures_past count e = if is_dash e.name then failures_by run.Read e.answer count else count
+-- the file is what has its name: standard input with the bytes that it had, or the file's bytes, if they are known. If
+-- it is standard input, then what that has left, and how many calls on it have failed, is as after this file
+pub record IsRead (contents : Text → Option (List ℕ)) (input : Change SourceState) (e : FileEnd) : Type 0 where
+  pub told : e.told ≡ told_of contents input.old.remaining e.name
+  pub left : is_dash e.name ≡ true → input.new.remaining ≡ e.left
+  pub counted : is_dash e.name ≡ true → input.new.failures ≡ failures_by run.Read e.answer input.old.failures
 
 -- how the task over an open file, or over standard input by its name, ended, and what it did to the two sinks
 pub record IsNamedEnd {E : Type 0} (t : Task) (is_quiet : Bool) (name : Text)
@@ -297,11 +308,9 @@ pub record IsChecked {O E : Type 0} (t : Task) (is_quiet : Bool) (folder : Folde
     (output errors : Change SinkState) : Type 0 where
   pub e : FileEnd
   pub name_is : e.name ≡ name
-  pub told : e.told ≡ told_of (bytes_of folder.opening) input.old.remaining name
-  pub left : input.new.remaining ≡ left_after input.old.remaining name e.left
+  pub read : IsRead (bytes_of folder.opening) input e
   pub is_end : IsFileEnd t e
   pub opening : IsFileOpening folder e
-  pub counted : input.new.failures ≡ failures_past input.old.failures e
   pub written : OnOk result (e.answer ≢ Err run.Write)
   pub outcome : IsOutcome is_quiet name e.unopened e.format e.lines e.answer result output errors
 
@@ -321,8 +330,7 @@ pub record AreChecked {O : Type 0} (t : Task) (is_quiet : Bool) (folder : Folder
   pub each : All (IsFileEnd t) ends
   pub written : All (λ e. e.answer ≢ Err run.Write) ends
   pub openings : All (IsFileOpening folder) ends
-  pub tells : Tells (bytes_of folder.opening) input.old.remaining ends input.new.remaining
-  pub counted : input.new.failures ≡ fold failures_past input.old.failures ends
+  pub read : All (IsRead (bytes_of folder.opening) input) ends
   pub exits : exit ≡ files_exit ends
   pub lines : Appends output.old.taken output.new.taken (files_text is_quiet ends)
   pub unfailed : output.new.failures ≡ output.old.failures
@@ -343,8 +351,7 @@ pub record AreCut {O : Type 0} (t : Task) (is_quiet : Bool) (folder : FolderView
   pub each : All (IsFileEnd t) (whole ++ option_to_list last)
   pub written : All (λ e. e.answer ≢ Err run.Write) whole
   pub openings : All (IsFileOpening folder) (whole ++ option_to_list last)
-  pub tells : Tells (bytes_of folder.opening) input.old.remaining (whole ++ option_to_list last) input.new.remaining
-  pub counted : input.new.failures ≡ fold failures_past input.old.failures (whole ++ option_to_list last)
+  pub read : All (IsRead (bytes_of folder.opening) input) (whole ++ option_to_list last)
   pub exits : exit ≡ Refused
   pub lines : Appends output.old.taken output.new.taken
       (files_text is_quiet whole ++ take count (files_text is_quiet (option_to_list last)))

@@ -90,7 +90,7 @@ IsFormat told format =
 
 -- how to make a PPM of a file of this format
 abbrev pub ppm_advice : Format → Text
-ppm_advice Png = codes "sixel: this is a PNG; `pngtopnm | ppmtoppm` makes a PPM (P6) of it" ++ 10 ∷ []
+ppm_advice Png = codes "sixel: this is a PNG; `pngtopnm -mix | pnmdepth 255 | ppmtoppm` makes a PPM (P6) of it" ++ 10 ∷ []
 ppm_advice Jpeg = codes "sixel: this is a JPEG; `jpegtopnm | ppmtoppm` makes a PPM (P6) of it" ++ 10 ∷ []
 ppm_advice Gif = codes "sixel: this is a GIF; `giftopnm | ppmtoppm` makes a PPM (P6) of it" ++ 10 ∷ []
 ppm_advice WebP = codes "sixel: this is a WebP; `dwebp -ppm - -o -` makes a PPM (P6) of it" ++ 10 ∷ []
@@ -106,7 +106,7 @@ makes_sixel programs = codes "`" ++ programs ++ codes "pnmquant 16 | sixel encod
 
 -- how to make sixel text of a file of this format
 abbrev pub sixel_advice : Format → Text
-sixel_advice Png = codes "sixel: this is a PNG; " ++ makes_sixel (codes "pngtopnm | ppmtoppm | ")
+sixel_advice Png = codes "sixel: this is a PNG; " ++ makes_sixel (codes "pngtopnm -mix | pnmdepth 255 | ppmtoppm | ")
 sixel_advice Jpeg = codes "sixel: this is a JPEG; " ++ makes_sixel (codes "jpegtopnm | ppmtoppm | ")
 sixel_advice Gif = codes "sixel: this is a GIF; " ++ makes_sixel (codes "giftopnm | ppmtoppm | ")
 sixel_advice WebP = codes "sixel: this is a WebP; " ++ makes_sixel (codes "dwebp -ppm - -o - | ")

@@ -67,14 +67,18 @@ pub record IsOpening (told : Told) (name : Text) (end : Option Unopened) : Type 
   -- for any other name it ends as the folder tells
   pub as_told : (IsNotText name → ⊥) → OpensAs told end
 
--- a call on some file of the folder's own type has failed; none has on a file that was just opened
-abbrev pub HasFailedFile : {O : Type 0} → FolderView O → Type 0
-HasFailedFile {O} folder = (file : O) × (0 < (folder.state file).failures)
+-- a call on the file that was opened under this name failed. As it was opened, it had the bytes that are told of it, and
+-- no call on it had failed; as it ended, one had
+pub record HasFailedFile {O : Type 0} (folder : FolderView O) (name : Text) : Type 0 where
+  pub opened : O
+  pub ended : O
+  pub fresh : folder.state opened ≡ record { remaining = bytes_of folder.opening name; failures = 0 }
+  pub failed : 0 < (folder.state ended).failures
 
--- no call on an input had failed, and then one did only if a call on some file of the folder failed
-abbrev pub CountsOf : {O : Type 0} → FolderView O → Change SourceState → Type 0
-CountsOf folder input = (input.old.failures ≡ 0) × (0 < input.new.failures → HasFailedFile folder)
+-- no call on an input had failed, and then one did only if one on the file that was opened under this name failed
+abbrev pub CountsOf : {O : Type 0} → FolderView O → Text → Change SourceState → Type 0
+CountsOf folder name input = (input.old.failures ≡ 0) × (0 < input.new.failures → HasFailedFile folder name)
 
--- the answer is that a read failed only if a call on some file of the folder failed
-abbrev pub FailsWith : {O A : Type 0} → FolderView O → Result A RunFault → Type 0
-FailsWith folder answer = answer ≡ Err Read → HasFailedFile folder
+-- the answer is that a read failed only if a call on the file that was opened under this name failed
+abbrev pub FailsWith : {O A : Type 0} → FolderView O → Text → Result A RunFault → Type 0
+FailsWith folder name answer = answer ≡ Err Read → HasFailedFile folder name

@@ -1,6 +1,6 @@
 //! Checks, surveys and scans of files, and quiet checks of standard input.
 
-ghost use Rattle.std.specs.Prelude.{◌≡◌, ◌≢◌, ◌&&◌, Err, IfErr, None, OnOk, false, map, not, option_copied, true};
+ghost use Rattle.std.specs.Prelude.{◌≡◌, ◌≢◌, ◌&&◌, Err, IfErr, None, OnOk, count_by, false, map, nat_lt, not, option_copied, true};
 ghost use Rattle.std.specs.Io.KnownBytes.{Keeps};
 ghost use Rattle.std.specs.List.{list_any};
 ghost use Rattle.std.specs.String.{string_bytes};
@@ -261,9 +261,9 @@ fn has_hint(is_quiet: bool, is_shown: bool) -> bool
     !is_quiet && is_shown
 }
 
-/// Checks, surveys or scans the files with these names in turn. A refused file doesn't end this, but a failed write
-/// does. The exit status is the greatest of theirs. If hints are shown (`is_shown`), one on the first broken file's rule
-/// comes last, but not after a quiet check or a scan.
+/// Checks, surveys or scans the files with these names in turn; one `-` at most is among them. A refused file doesn't end
+/// this, but a failed write does. The exit status is the greatest of theirs. If hints are shown (`is_shown`), one on the
+/// first broken file's rule comes last, but not after a quiet check or a scan.
 ///
 /// It isn't inlined, or its room would be on the stack of every task.
 #[inline(never)]
@@ -278,7 +278,8 @@ pub fn check_files<F: Folder, S: Source, K: Sink, E: Sink>(
     output: &mut K,
     errors: &mut E,
 ) -> Exit
-    requires { scans (task_of task) ≡ true → is_quiet ≡ false }
+    requires loud { scans (task_of task) ≡ true → is_quiet ≡ false }
+    requires once { nat_lt 1 (count_by is_dash (map string_bytes names.now)) ≡ false }
     ensures checked { FilesEnd (task_of task) is_quiet is_shown (folder_view (F.opening folder.now) F.Opened.state)
         (map string_bytes names.now) result
         (change (⟦<Peeked<S> as Source>⟧.state input.old) (⟦<Peeked<S> as Source>⟧.state input.new))

@@ -4,12 +4,14 @@ ghost use Rattle.std.specs.Prelude.{◌≡◌, All, Contains, false, map, true};
 ghost use Rattle.std.specs.String.{string_bytes};
 ghost use Rattle.sixel_io.specs.Devices.{change};
 ghost use Rattle.sixel_program.specs.Exits.{IsPut};
-ghost use Rattle.sixel_program.specs.Files.{IsBrokenOver, IsDoneOver, IsJudgedOver, NoticedEnds, names_read};
-ghost use Rattle.sixel_program.specs.Files.{is_misdirected, notice, reads_input, redirection, told_of};
+ghost use Rattle.sixel_program.specs.Files.{IsBrokenOver, IsDoneOver, IsJudgedOver, NoticedEnds, is_misasked};
+ghost use Rattle.sixel_program.specs.Files.{is_misdirected, mistake, names_input_twice, names_read, notice, reads_input};
+ghost use Rattle.sixel_program.specs.Files.{told_of};
 ghost use Rattle.sixel_program.specs.Openings.{bytes_of, folder_view};
 ghost use Rattle.sixel_run.specs.Outputs.{HasSides};
 ghost use Rattle.sixel_run.specs.Texts.{Text};
 
+use crate::dashes::{names_input_twice, put_named_twice};
 use crate::exit::Exit;
 use crate::files::answer;
 use crate::folder::Folder;
@@ -21,7 +23,8 @@ use std::alloc::Global;
 
 /// Carries out a request over `input` and the files of `folder`. Results go to `output`, messages to `errors`. A task
 /// that is to read a terminal says first that it waits. If `errors` is a terminal, a check or a survey ends with a hint
-/// on the first broken rule, unless it is quiet. A PPM isn't written to a terminal; only this is `Usage`.
+/// on the first broken rule, unless it is quiet. `Usage`: a PPM would be written to a terminal, or a check, a survey or a
+/// scan names standard input twice. Nothing is read then.
 pub fn execute<F: Folder, S: Source, K: Sink, E: Sink>(
     alloc: Global,
     request: &Request,
@@ -32,15 +35,19 @@ pub fn execute<F: Folder, S: Source, K: Sink, E: Sink>(
     errors: &mut E,
 ) -> Exit
     requires { HasSides request.now.task }
-    ensures ends { is_misdirected terminals request.now.task ≡ false →
+    ensures ends { is_misasked terminals request.now.task (map string_bytes request.now.files.items) ≡ false →
         NoticedEnds (notice terminals request.now.task request.now.is_quiet (map string_bytes request.now.files.items))
         request.now.task request.now.is_quiet terminals.errors (map string_bytes request.now.files.items)
         (folder_view (F.opening folder.now) F.Opened.state) result
         (change (⟦<Peeked<S> as Source>⟧.state input.old) (⟦<Peeked<S> as Source>⟧.state input.new))
         (change (K.state output.old) (K.state output.new)) (change (E.state errors.old) (E.state errors.new)) }
     ensures misdirected { is_misdirected terminals request.now.task ≡ true → result ≡ Exit.Usage }
-    ensures redirected { result ≡ Exit.Usage → IsPut redirection (change (E.state errors.old) (E.state errors.new)) }
-    ensures usage { result ≡ Exit.Usage → is_misdirected terminals request.now.task ≡ true }
+    ensures twice { names_input_twice request.now.task (map string_bytes request.now.files.items) ≡ true →
+        result ≡ Exit.Usage }
+    ensures redirected { result ≡ Exit.Usage →
+        IsPut (mistake terminals request.now.task) (change (E.state errors.old) (E.state errors.new)) }
+    ensures usage { result ≡ Exit.Usage →
+        is_misasked terminals request.now.task (map string_bytes request.now.files.items) ≡ true }
     ensures untouched { result ≡ Exit.Usage → input.new ≡ input.old }
     ensures unwritten { result ≡ Exit.Usage → output.new ≡ output.old }
     ensures unread { reads_input request.now.task (map string_bytes request.now.files.items) ≡ false →
@@ -60,6 +67,10 @@ pub fn execute<F: Folder, S: Source, K: Sink, E: Sink>(
 {
     if is_misdirected(terminals, request.task) {
         put_redirection(errors);
+        return Exit::Usage;
+    }
+    if names_input_twice(request) {
+        put_named_twice(errors);
         return Exit::Usage;
     }
     announce(terminals, request, errors);

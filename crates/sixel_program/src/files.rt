@@ -2,11 +2,10 @@
 
 ghost use Rattle.std.specs.Prelude.{◌≡◌, false, map, option_copied, true};
 ghost use Rattle.std.specs.Io.KnownBytes.{Keeps};
-ghost use Rattle.std.specs.List.{list_any};
 ghost use Rattle.std.specs.String.{string_bytes};
 ghost use Rattle.sixel_io.specs.Devices.{change};
 ghost use Rattle.sixel_program.specs.Exits.{RunEnds};
-ghost use Rattle.sixel_program.specs.Files.{FileEnds, RequestEnds, is_dash, reads_input, scans};
+ghost use Rattle.sixel_program.specs.Files.{FileEnds, RequestEnds, is_dash, names_input_twice, reads_input, scans};
 ghost use Rattle.sixel_program.specs.Formats.{IsFormat};
 ghost use Rattle.sixel_program.specs.Openings.{folder_view};
 ghost use Rattle.sixel_run.specs.Outputs.{HasSides};
@@ -24,29 +23,6 @@ use crate::terminals::Terminals;
 use sixel_io::{Sink, Source};
 use sixel_run::{Task, run};
 use std::alloc::Global;
-
-/// Whether one of the names is `-`.
-fn names_input(names: &[String]) -> bool
-    ensures { result ≡ list_any is_dash (map string_bytes names.now) }
-{
-    for name in names {
-        if name.as_str() == "-" {
-            return true;
-        }
-    }
-    false
-}
-
-/// Whether the request reads standard input.
-pub fn reads_input(request: &Request) -> bool
-    ensures { result ≡ reads_input request.now.task (map string_bytes request.now.files.items) }
-{
-    match (request.task, request.files.as_slice()) {
-        (_, []) => true,
-        (Task::Check { .. } | Task::Survey { .. } | Task::Scan { .. }, names) => names_input(names),
-        (_, [name, ..]) => name.as_str() == "-",
-    }
-}
 
 /// Whether the task writes while it reads.
 fn scans(task: &Task) -> bool
@@ -125,8 +101,8 @@ fn report_file<F: Folder, S: Source, K: Sink, E: Sink>(
     }
 }
 
-/// Carries out a request. A check, a survey and a scan read all files that are named; any other task reads the first. A
-/// check and a survey end with a hint on the first broken rule if `errors` is a terminal and the check isn't quiet.
+/// Carries out a request that names standard input once at most. A check, a survey and a scan read all files that are
+/// named; any other task reads the first. A check and a survey end with a hint on the first broken rule if `errors` is a terminal and the check isn't quiet.
 pub fn answer<F: Folder, S: Source, K: Sink, E: Sink>(
     alloc: Global,
     request: &Request,
@@ -136,7 +112,8 @@ pub fn answer<F: Folder, S: Source, K: Sink, E: Sink>(
     output: &mut K,
     errors: &mut E,
 ) -> Exit
-    requires { HasSides request.now.task }
+    requires sides { HasSides request.now.task }
+    requires once { names_input_twice request.now.task (map string_bytes request.now.files.items) ≡ false }
     ensures ends { RequestEnds request.now.task request.now.is_quiet terminals.errors
         (map string_bytes request.now.files.items) (folder_view (F.opening folder.now) F.Opened.state) result
         (change (⟦<Peeked<S> as Source>⟧.state input.old) (⟦<Peeked<S> as Source>⟧.state input.new))

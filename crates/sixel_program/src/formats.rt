@@ -76,10 +76,11 @@ pub fn is_undecided(prefix: &[u8]) -> bool
 /// The line that names the format and the programs that make a PPM of such a file, for `encode`.
 pub fn ppm_advice(format: Format) -> &'static str
     ensures text { result.now ≡ ppm_advice format }
-    ensures short { length result.now ≤ 112 }
+    ensures short { length result.now ≤ 116 }
 {
     match format {
-        Format::Png => "sixel: this is a PNG; `pngtopnm | ppmtoppm` makes a PPM (P6) of it\n",
+        Format::Png =>
+            "sixel: this is a PNG; `pngtopnm -mix | pnmdepth 255 | ppmtoppm` makes a PPM (P6) of it\n",
         Format::Jpeg => "sixel: this is a JPEG; `jpegtopnm | ppmtoppm` makes a PPM (P6) of it\n",
         Format::Gif => "sixel: this is a GIF; `giftopnm | ppmtoppm` makes a PPM (P6) of it\n",
         Format::WebP => "sixel: this is a WebP; `dwebp -ppm - -o -` makes a PPM (P6) of it\n",
@@ -96,11 +97,11 @@ pub fn ppm_advice(format: Format) -> &'static str
 /// The line that names the format and the programs that make sixel text of such a file, for all other tasks.
 pub fn sixel_advice(format: Format) -> &'static str
     ensures text { result.now ≡ sixel_advice format }
-    ensures short { length result.now ≤ 112 }
+    ensures short { length result.now ≤ 116 }
 {
     match format {
         Format::Png => {
-            "sixel: this is a PNG; `pngtopnm | ppmtoppm | pnmquant 16 | sixel encode` makes sixel text of it\n"
+            "sixel: this is a PNG; `pngtopnm -mix | pnmdepth 255 | ppmtoppm | pnmquant 16 | sixel encode` makes sixel text of it\n"
         }
         Format::Jpeg => {
             "sixel: this is a JPEG; `jpegtopnm | ppmtoppm | pnmquant 16 | sixel encode` makes sixel text of it\n"

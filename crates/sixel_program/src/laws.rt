@@ -1,16 +1,22 @@
 //! Laws about the definitions. Each function's contract is the law.
 
-ghost use Rattle.std.specs.Prelude.{◌≡◌, ◌<◌, ◌≤◌, ◌∷◌, ◌++◌, [], ℕ, All, Bool, Contains, List, Err, Ok, Some};
+ghost use Rattle.std.specs.Prelude.{◌≡◌, ◌≢◌, ◌<◌, ◌≤◌, ◌∷◌, ◌++◌, [], ℕ, All, Bool, Contains, List, Err, Ok, Some};
 ghost use Rattle.std.specs.Prelude.{Option, codes, false, flat_map, map, true};
 ghost use Rattle.std.specs.List.{concat};
 ghost use Rattle.sixel_io.specs.Devices.{Change, SinkState};
 ghost use Rattle.sixel_grammar.specs.declared.fault.Fault.{Fault};
 ghost use Rattle.sixel_run.specs.declared.fault.RunFault.{RunFault};
-ghost use Rattle.sixel_run.specs.declared.fault.RunFault.TheVariants.{Grammar};
+ghost use Rattle.sixel_run.specs.declared.fault.RunFault.TheVariants.{Grammar, Write};
+ghost use Rattle.sixel_run.specs.declared.task.Task.TheVariants.{Scan};
+ghost use Rattle.sixel_run.specs.Scanned.{Finds, scan_text};
+ghost use Rattle.sixel_scan.specs.declared.answer.Scanned.{Scanned};
+ghost use Rattle.sixel_model.specs.Profiles.{count_of};
+ghost use Rattle.sixel_model.specs.declared.profile.Profile.{Profile};
 ghost use Rattle.sixel_run.specs.declared.task.Status.{Status};
 ghost use Rattle.sixel_judge.specs.declared.verdict.Finding.{Finding};
 ghost use Rattle.sixel_explain.specs.Explanations.{ArePasted, Asks, topic_name, topic_of};
 ghost use Rattle.sixel_explain.specs.declared.explanations.Topic.TheVariants.{Read};
+ghost use Rattle.sixel_program.specs.declared.exit.Exit.TheVariants.{Refused as RefusedExit};
 ghost use Rattle.sixel_program.specs.declared.folder.Unopened.{Unopened};
 ghost use Rattle.sixel_program.specs.Exits.{exit_code, fault_said, labelled};
 ghost use Rattle.sixel_program.specs.Files.{ArePut, FileEnd, IsFileEnd, IsLine, IsSaid, exit_of_end, files_exit};
@@ -25,9 +31,10 @@ ghost use Rattle.sixel_survey.specs.declared.entry.Entry.{Entry};
 
 /// The output of a check, a survey or a scan of several files is their lines joined. Each line begins with the file's
 /// name, and without it they are the lines that the task writes over only this file's bytes. A file that a check or a
-/// survey refuses has no line, and a grammar fault is the one that the task finds in only this file's bytes. A quiet
-/// check writes no lines. The exit status is the greatest: it is that of one of the files, and no file has a greater
-/// one. Texts that were put to a sink in turn are appended to it joined, unless a call on the sink failed.
+/// survey refuses has no line, and a grammar fault is the one that the task finds in only this file's bytes. A scan that
+/// wasn't done has the lines of the strings that it found, and the status of a refusal. A quiet check writes no lines.
+/// The exit status is the greatest: it is that of one of the files, and no file has a greater one. Texts that were put
+/// to a sink in turn are appended to it joined, unless a call on the sink failed.
 pub fn several_files_are_checked_one_by_one()
     ensures joined { (is_quiet : Bool) (prefix rest : List FileEnd) →
         files_text is_quiet (prefix ++ rest) ≡ files_text is_quiet prefix ++ files_text is_quiet rest }
@@ -43,6 +50,10 @@ pub fn several_files_are_checked_one_by_one()
     ensures faulty { (task : FilesTask) (e : FileEnd) (bytes : List ℕ) (fault : Fault) → IsFileEnd (task_of task) e →
         e.told ≡ Some bytes → e.answer ≡ Err (Grammar fault) →
         Gives (task_of task) bytes [] (Err (Grammar fault)) }
+    ensures unended { (profile : Profile) (eight : Bool) (e : FileEnd) (bytes : List ℕ) (fault : RunFault) →
+        IsFileEnd (Scan profile eight) e → e.told ≡ Some bytes → e.answer ≡ Err fault → fault ≢ Write →
+        (reports : List Scanned) × Finds eight (count_of profile) bytes e.left (Err fault) reports
+        × (concat e.lines ≡ scan_text reports) × (exit_of_end e ≡ RefusedExit) }
     ensures greatest { (ends : List FileEnd) → All (λ e. exit_code (exit_of_end e) ≤ exit_code (files_exit ends)) ends }
     ensures reached { (e : FileEnd) (more : List FileEnd) →
         Contains (map exit_of_end (e ∷ more)) (files_exit (e ∷ more)) }

@@ -2,6 +2,7 @@
 #![tactic(auto)]
 
 mod checks;
+mod dashes;
 mod execution;
 mod exit;
 mod files;

@@ -20,7 +20,7 @@ const MARK: usize = 6;
 /// How to convert an input of this format, if it was refused within the magic number; otherwise nothing.
 fn advice(format: Option<Format>, fault: &RunFault) -> &'static str
     ensures text { result.now ≡ advice_on format fault.now }
-    ensures short { length result.now ≤ 112 }
+    ensures short { length result.now ≤ 116 }
 {
     match (format, fault) {
         (

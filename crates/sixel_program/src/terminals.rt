@@ -6,7 +6,7 @@ ghost use Rattle.sixel_io.specs.Devices.{change};
 ghost use Rattle.sixel_program.specs.Exits.{IsPut};
 ghost use Rattle.sixel_program.specs.Files.{is_misdirected, notice, redirection, waiting_line};
 
-use crate::files::reads_input;
+use crate::dashes::reads_input;
 use crate::request::Request;
 use sixel_io::{Sink, put_all};
 use sixel_run::Task;

@@ -58,7 +58,7 @@ fn ends_slowly(
 #[test]
 fn one_byte_a_read(rt: HostRuntime) {
     let png =
-        b"sixel: Header at 0\nsixel: this is a PNG; `pngtopnm | ppmtoppm` makes a PPM (P6) of it\n";
+        b"sixel: Header at 0\nsixel: this is a PNG; `pngtopnm -mix | pnmdepth 255 | ppmtoppm` makes a PPM (P6) of it\n";
     assert!(rt;
         ends_slowly(
             rt.alloc(),

@@ -17,7 +17,7 @@ fn files_of_other_formats(rt: HostRuntime) {
         refuses(
             &rt,
             b"\x89PNG\r\n\x1a\n\0\0\0\rIHDR",
-            b"sixel: Header at 0\nsixel: this is a PNG; `pngtopnm | ppmtoppm` makes a PPM (P6) of it\n",
+            b"sixel: Header at 0\nsixel: this is a PNG; `pngtopnm -mix | pnmdepth 255 | ppmtoppm` makes a PPM (P6) of it\n",
         )
     );
     assert!(rt;
@@ -116,7 +116,7 @@ fn files_that_are_no_text(rt: HostRuntime) {
             &rt,
             b"\x89PNG\r\n\x1a\n",
             b"sixel: NotSixel at 0\n\
-            sixel: this is a PNG; `pngtopnm | ppmtoppm | pnmquant 16 | sixel encode` makes sixel text of it\n",
+            sixel: this is a PNG; `pngtopnm -mix | pnmdepth 255 | ppmtoppm | pnmquant 16 | sixel encode` makes sixel text of it\n",
         )
     );
     assert!(rt;

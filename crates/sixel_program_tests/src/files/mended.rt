@@ -92,10 +92,10 @@ fn files_that_are_not_mended(rt: HostRuntime) -> Result<(), Fail> {
     assert!(rt; refuses(rt.alloc(), "cut", black, b"sixel: cut: read failed\n")?);
     assert!(rt; refuses(rt.alloc(), "none", black, b"sixel: none: no such file\n")?);
     let png = b"sixel: png: NotSixel at 0\n\
-        sixel: this is a PNG; `pngtopnm | ppmtoppm | pnmquant 16 | sixel encode` makes sixel text of it\n";
+        sixel: this is a PNG; `pngtopnm -mix | pnmdepth 255 | ppmtoppm | pnmquant 16 | sixel encode` makes sixel text of it\n";
     assert!(rt; refuses(rt.alloc(), "png", black, png)?);
     let bare = b"sixel: NotSixel at 0\n\
-        sixel: this is a PNG; `pngtopnm | ppmtoppm | pnmquant 16 | sixel encode` makes sixel text of it\n";
+        sixel: this is a PNG; `pngtopnm -mix | pnmdepth 255 | ppmtoppm | pnmquant 16 | sixel encode` makes sixel text of it\n";
     assert!(rt; ends(rt.alloc(), mend_on(black), PNG, Exit::Refused, b"", bare));
     Ok(())
 }

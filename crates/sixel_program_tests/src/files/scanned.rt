@@ -56,7 +56,7 @@ fn files_of_each_kind(rt: HostRuntime) -> Result<(), Fail> {
     Ok(())
 }
 
-/// Standard input has no name, and as `-` has that. It is at its end when it is read again.
+/// Standard input has no name, and as `-` has that.
 #[test]
 fn standard_input(rt: HostRuntime) -> Result<(), Fail> {
     let plain = Ended {
@@ -67,12 +67,10 @@ fn standard_input(rt: HostRuntime) -> Result<(), Fail> {
     };
     assert!(rt; scans(rt.alloc(), &[], RATIO, plain)?);
     let named = Ended {
-        exit: Exit::Refused,
         written: b"pixel: 0 portable 1 1\n-: 0 broken Ratio 3\n",
-        said: b"sixel: -: NoString\n",
         ..plain
     };
-    assert!(rt; scans(rt.alloc(), &["pixel", "-", "-"], RATIO, named)?);
+    assert!(rt; scans(rt.alloc(), &["pixel", "-"], RATIO, named)?);
     Ok(())
 }
 

@@ -111,18 +111,18 @@ fn a_file_that_is_refused(rt: HostRuntime) -> Result<(), Fail> {
 #[test]
 fn files_of_other_formats(rt: HostRuntime) -> Result<(), Fail> {
     let png =
-        b"sixel: png: Header at 0\nsixel: this is a PNG; `pngtopnm | ppmtoppm` makes a PPM (P6) of it\n";
+        b"sixel: png: Header at 0\nsixel: this is a PNG; `pngtopnm -mix | pnmdepth 255 | ppmtoppm` makes a PPM (P6) of it\n";
     assert!(rt; ends_so(rt.alloc(), ENCODE, "png", Exit::Refused, b"", png)?);
     let bitmap =
         b"sixel: bitmap: Header at 0\nsixel: this is a BMP; `bmptopnm | ppmtoppm` makes a PPM (P6) of it\n";
     assert!(rt; ends_so(rt.alloc(), ENCODE, "bitmap", Exit::Refused, b"", bitmap)?);
     let other = b"sixel: png: NotSixel at 0\n\
-        sixel: this is a PNG; `pngtopnm | ppmtoppm | pnmquant 16 | sixel encode` makes sixel text of it\n";
+        sixel: this is a PNG; `pngtopnm -mix | pnmdepth 255 | ppmtoppm | pnmquant 16 | sixel encode` makes sixel text of it\n";
     assert!(rt; ends_so(rt.alloc(), RENDER, "png", Exit::Refused, b"", other)?);
     let input = Ended {
         exit: Exit::Refused,
         written: b"",
-        said: b"sixel: -: Header at 0\nsixel: this is a PNG; `pngtopnm | ppmtoppm` makes a PPM (P6) of it\n",
+        said: b"sixel: -: Header at 0\nsixel: this is a PNG; `pngtopnm -mix | pnmdepth 255 | ppmtoppm` makes a PPM (P6) of it\n",
         is_read: true,
     };
     assert!(rt; ends_with(rt.alloc(), ENCODE, "-", PNG, STREAMS, input)?);

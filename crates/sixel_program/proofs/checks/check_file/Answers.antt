@@ -24,8 +24,11 @@ returns-in-Err-clause-checked g c =
         answer = Err Read;
       };
       name_is = refl;
-      told = rw file refl;
-      left = rw file refl;
+      read = record {
+        told = rw file refl;
+        left = λ is. let no : true ≡ false = sym is ∙ file in cc;
+        counted = λ is. let no : true ≡ false = sym is ∙ file in cc;
+      };
       is_end = unopened c.args.task _ _ _;
       opening = record {
         input = λ is. let no : true ≡ false = sym is ∙ file in cc;
@@ -33,7 +36,6 @@ returns-in-Err-clause-checked g c =
         unread = λ reason is. refl;
         counted = λ is none. cc;
       };
-      counted = rw file refl;
       written = λ is. cc;
       outcome = (refl, rw (no_text c.args.is_quiet c.args.name.now) (Appends-none _), refl, is_put c.put_unopened.result _ _ _ c.put_unopened.ensures);
     }
@@ -53,21 +55,24 @@ returns-in-Ok-clause-checked g c =
         answer = checked.answer;
       };
       name_is = refl;
-      told = rw file
-          (ap (λ (s : SourceState). s.remaining) c.new-file.ensures
-          ∙ ap (λ (s : SourceState). s.remaining) c.in-Ok.ensures.bytes);
-      left = rw file refl;
+      read = record {
+        told = rw file
+            (ap (λ (s : SourceState). s.remaining) c.new-file.ensures
+            ∙ ap (λ (s : SourceState). s.remaining) c.in-Ok.ensures.bytes);
+        left = λ is. let no : true ≡ false = sym is ∙ file in cc;
+        counted = λ is. let no : true ≡ false = sym is ∙ file in cc;
+      };
       is_end = checked.is_end;
       opening = record {
         input = λ is. refl;
         opening = λ is. c.in-Ok.ensures.ended;
         unread = λ reason is. cc;
         counted = λ is none.
-            fails_with (folder_view (g.F.Folder.opening c.args.folder.now) g.F.Opened.Source.state) checked.answer _ _ _
+            fails_with (folder_view (g.F.Folder.opening c.args.folder.now) g.F.Opened.Source.state) c.args.name.now
+            checked.answer c.in-Ok.file c.answer_named-in-Ok.new.input.rest _ _ c.in-Ok.ensures.bytes
             (ap (λ (s : SourceState). s.failures) (c.new-file.ensures ∙ c.in-Ok.ensures.bytes)) checked.counted
             (source_failed _ _ _ c.answer_named-in-Ok.new.input.counted);
       };
-      counted = rw file refl;
       written = checked.written;
       outcome = checked.outcome;
     }
@@ -87,8 +92,7 @@ returns-then-eq-clause-checked g c =
         answer = checked.answer;
       };
       name_is = refl;
-      told = rw dash refl;
-      left = rw dash refl;
+      read = record { told = rw dash refl; left = λ is. refl; counted = λ is. checked.counted };
       is_end = checked.is_end;
       opening = record {
         input = λ is. refl;
@@ -96,7 +100,6 @@ returns-then-eq-clause-checked g c =
         unread = λ reason is. cc;
         counted = λ is none. let no : true ≡ false = sym dash ∙ is in cc;
       };
-      counted = rw dash checked.counted;
       written = checked.written;
       outcome = checked.outcome;
     }

@@ -3,7 +3,9 @@ use Rattle.std.specs.Option.{option_or}
 use Rattle.std.specs.String.{string_bytes}
 use Rattle.std.proofs.lemmas.List.{take_all}
 use Rattle.sixel_program.proofs.FilesLemmas.{all_names, checked_more, cut_after, cut_at_flush, done_hinted}
-use Rattle.sixel_program.proofs.FilesLemmas.{more_names, no_dash_before, no_dash_last, none_checked}
+use Rattle.sixel_program.proofs.FilesLemmas.{more_names, none_checked}
+use Rattle.sixel_program.proofs.DashLemmas.{first_dash, no_dash_before, no_dash_last}
+use Rattle.sixel_program.specs.Peeked.{peeked_state}
 use Rattle.sixel_program.proofs.checks.check_files.Goals as goal
 
 pub loop-name-init : goal.loop-name-init
@@ -11,11 +13,19 @@ loop-name-init g c = (([], none_checked _ _ _ _ _ _, refl), λ none. refl)
 
 pub loop-name-preserved : goal.loop-name-preserved
 loop-name-preserved g c =
+    let all_of = all_names c.args.names.now c.loop-name.name-index c.name-item.result c.as_str.result.now
+    c.loop-name-test.true c.name-item.is c.as_str.ensures.value in
     let more = more_names c.args.names.now c.loop-name.name-index c.name-item.result c.as_str.result.now
     c.loop-name-test.true c.name-item.is c.as_str.ensures.value in
     let names = map string_bytes (take c.loop-name.name-index c.args.names.now) in
     let name = c.as_str.result.now in
-    let all = checked_more _ _ _ _ _ _ _ _ _ _ _ _ _ _ _ _ c.loop-name.invariant.0.1 _ c.in-Ok.ensures.checked in (
+    let rest = map string_bytes (drop (c.loop-name.name-index + 1) c.args.names.now) in
+    let all = checked_more _ _ _ _ _ _ _ _ _
+    (peeked_state (drop c.check_file.new.input.given c.check_file.new.input.prefix.items)
+    c.check_file.new.input.after (g.S.Source.state c.check_file.new.input.rest) c.check_file.new.input.failures)
+    _ _ _ _ _ _ c.loop-name.invariant.0.1
+    (λ other. let same = c.in-Ok.ensures.unread other in cc same) (first_dash names name rest (rw all_of at c.requires.once))
+    (λ none. rw (c.loop-name.invariant.1 none) refl) _ c.in-Ok.ensures.checked in (
       (
         all.0,
         rw (more, c.worse-exit.ensures, c.exit_of.ensures) all.1,
@@ -29,9 +39,17 @@ pub returns-in-Err-clause-checked : goal.returns-in-Err-clause-checked
 returns-in-Err-clause-checked g c =
     let all = all_names c.args.names.now c.loop-name.name-index c.name-item.result c.as_str.result.now
     c.loop-name-test.true c.name-item.is c.as_str.ensures.value in
+    let names = map string_bytes (take c.loop-name.name-index c.args.names.now) in
+    let rest = map string_bytes (drop (c.loop-name.name-index + 1) c.args.names.now) in
     rw c.unwritten.ensures.exit
-    (inr (cut_after _ _ _ _ _ _ _ _ _ _ _ _ _ _ _ _ c.loop-name.invariant.0.1 c.in-Err.field-0 _ _ _ all
-    c.in-Err.ensures.checked c.unwritten.ensures.said))
+    (inr (cut_after _ _ _ _ _ _ _ _ _
+    (peeked_state (drop c.check_file.new.input.given c.check_file.new.input.prefix.items)
+    c.check_file.new.input.after (g.S.Source.state c.check_file.new.input.rest) c.check_file.new.input.failures)
+    _ _ _ _ _ _ c.loop-name.invariant.0.1
+    (λ other. let same = c.in-Err.ensures.unread other in cc same)
+    (first_dash names c.as_str.result.now rest (rw all at c.requires.once))
+    (λ none. rw (c.loop-name.invariant.1 none) refl) c.in-Err.field-0 _ _ _ all c.in-Err.ensures.checked
+    c.unwritten.ensures.said))
 
 pub returns-in-Err-clause-unread : goal.returns-in-Err-clause-unread
 returns-in-Err-clause-unread g c = λ none.

@@ -1,4 +1,3 @@
-use Rattle.std.proofs.Common.{None}
 use Rattle.std.specs.List.{concat}
 use Rattle.sixel_run.specs.declared.task.Task.TheVariants.{Check}
 use Rattle.sixel_program.specs.Findings.{answer_of, lines_of}
@@ -14,7 +13,7 @@ returns g c =
       format = c.format-format.result;
       is_format = c.format-format.ensures.format;
       line = concat (lines_of c.find_verdict-judged.result);
-      wrote = wrote_kept (Check c.args.profile) _ _ None answer _ _ told c.find_verdict-judged.ensures.found;
+      wrote = wrote_kept (Check c.args.profile) _ _ _ answer _ _ told c.find_verdict-judged.ensures.found;
       memory = λ is. memory_kept (Check c.args.profile) _ _ told (c.find_verdict-judged.ensures.memory is);
       reads = read_kept answer _ _ _ told c.find_verdict-judged.ensures.left;
       read = rw c.format-format.ensures.failures at c.find_verdict-judged.ensures.reads;

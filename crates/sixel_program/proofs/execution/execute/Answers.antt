@@ -1,4 +1,4 @@
-use Rattle.std.proofs.Common.{refl, rules}
+use Rattle.std.proofs.Common.{◌∙◌, refl, rules, sym}
 use Rattle.sixel_program.proofs.RequestLemmas.{request_no_usage}
 use Rattle.sixel_program.proofs.StatusLemmas.{all_read_done, all_read_judged, one_read_broken}
 use Rattle.sixel_program.proofs.execution.execute.Goals as goal
@@ -31,7 +31,8 @@ pub returns-clause-unwritten : goal.returns-clause-unwritten
 returns-clause-unwritten g c = λ is. absurd (request_no_usage _ _ _ _ _ _ _ _ _ c.answer.ensures.ends (search rules))
 
 pub returns-then-is_misdirected-clause-redirected : goal.returns-then-is_misdirected-clause-redirected
-returns-then-is_misdirected-clause-redirected g c = λ is. c.put_redirection.ensures
+returns-then-is_misdirected-clause-redirected g c = λ is.
+    rw (sym c.is_misdirected.ensures ∙ c.if-is_misdirected.true) c.put_redirection.ensures
 
 pub returns-then-is_misdirected-clause-untouched : goal.returns-then-is_misdirected-clause-untouched
 returns-then-is_misdirected-clause-untouched g c = λ is. refl

@@ -15,7 +15,12 @@ returns-in-Ok-clause-ends g c =
     c.in-Ok.ensures.ended (
       ap (λ (s : SourceState). s.failures) opened,
       λ some.
-          (_, source_failed _ _ _ c.report-in-Ok.new.input.counted some),
+          record {
+            opened = c.in-Ok.file;
+            ended = c.report-in-Ok.new.input.rest;
+            fresh = c.in-Ok.ensures.bytes;
+            failed = source_failed _ _ _ c.report-in-Ok.new.input.counted some;
+          },
     )
     c.report-in-Ok.ensures
 

@@ -4,6 +4,7 @@ use Rattle.std.proofs.lemmas.List.{append-nil}
 use Rattle.sixel_program.specs.Files.{text_of_end}
 use Rattle.sixel_program.specs.Names.{named}
 use Rattle.sixel_program.proofs.SeveralLemmas.{alone, faulty, greatest_of, quiet, reached, refused, said_whole}
+use Rattle.sixel_program.proofs.SeveralLemmas.{unended}
 use Rattle.sixel_program.proofs.laws.several_files_are_checked_one_by_one.Goals as goal
 
 pub returns : goal.returns
@@ -15,6 +16,7 @@ returns c = record {
   refused = refused;
   quiet = quiet;
   faulty = faulty;
+  unended = unended;
   greatest = greatest_of;
   reached = reached;
   said = said_whole;

@@ -3,7 +3,7 @@ use Rattle.std.specs.List.{list_any}
 use Rattle.std.specs.String.{string_bytes}
 use Rattle.std.proofs.lemmas.List.Folds.{list_any_at}
 use Rattle.sixel_program.specs.Files.{is_dash}
-use Rattle.sixel_program.proofs.files.names_input.Goals as goal
+use Rattle.sixel_program.proofs.dashes.names_input.Goals as goal
 
 -- a test of a list that was mapped
 any_of_mapped : {X Y : Type 0} (test : Y → Bool) (f : X → Y) (xs : List X)
