@@ -10,8 +10,8 @@ use Rattle.sixel_model.specs.Profiles.{count_of}
 use Rattle.sixel_scan.specs.declared.answer.Scanned.{Scanned}
 use Rattle.sixel_scan.specs.declared.scan.Scan.{Scan}
 use Rattle.sixel_scan.specs.Prefixes.{AreBeforeGrowth, AreGiven}
-use Rattle.sixel_scan.specs.Scans.{AfterTaking, GoesOn, GrowsWithin, HasTold, IsOver, IsReading, IsReady, IsThrough}
-use Rattle.sixel_scan.specs.Scans.{Tells, TellsAll, TellsNext, longest_stream, steps_left}
+use Rattle.sixel_scan.specs.Scans.{AfterTaking, AreFirst, GoesOn, GrowsWithin, HasTold, IsOver, IsReading, IsReady}
+use Rattle.sixel_scan.specs.Scans.{IsThrough, Tells, TellsAll, TellsNext, longest_stream, steps_left}
 use Rattle.sixel_scan.specs.Standing.{AreReported, Reports, ReportsAll}
 use Rattle.sixel_scan.specs.Strings.{AreStrings, StringAt}
 use Rattle.sixel_scan.proofs.GivenLemmas.{ended_of, given}
@@ -147,6 +147,24 @@ goes_taken s t u old mid new piece goes same ended consumes more = λ eight regi
 
 -- ---- what a call answers
 
+-- the strings told are the first of the stream
+told_are_first : (eight : Bool) (registers : ℕ) (s : Scan) (remaining : Option (List ℕ)) (told : List StringAt)
+    (bytes : List ℕ) → HasTold eight registers s remaining told bytes → AreFirst eight remaining told bytes
+told_are_first eight registers s remaining told bytes h = elim h [
+  | inl g ↦
+      let k = g.reading in
+      let ended = ended_of s.scanner.eight told k.read (length k.stands.before) k.stands.held k.stands.resumes in
+      inl (λ more.
+      let all = ended (s.unread ++ more) in
+      let whole : k.read ++ (s.unread ++ more) ≡ bytes ++ more =
+      sym (append_assoc k.read s.unread more) ∙ ap (λ (t : List ℕ). t ++ more) (sym k.bytes_are) in (
+        all.0,
+        subst (λ (e : Bool). AreStrings e (told ++ all.0) (bytes ++ more)) g.eight_is
+            (subst (AreStrings s.scanner.eight (told ++ all.0)) whole all.1),
+      ))
+  | inr t ↦ inr (t.strings, t.over)
+]
+
 -- a string was told, or none
 pub next_told : (s t u : Scan) (old mid : Option (List ℕ)) (reports : List Scanned) → s.ended ≡ false → Goes s old t mid
     → u.scanner.profile ≡ t.scanner.profile → u.scanner.eight ≡ t.scanner.eight → u.ended ≡ t.ended
@@ -154,15 +172,18 @@ pub next_told : (s t u : Scan) (old mid : Option (List ℕ)) (reports : List Sca
     → AfterTaking s old mid (λ eight registers told bytes. TellsNext eight registers u mid told bytes reports)
 next_told s t u old mid reports off goes profile eight_same ended tells = λ eight registers told bytes h.
     let r = goes eight registers told bytes (still_goes eight registers s old told bytes off h) in
-    let k = tells told (bytes ++ r.0) r.2.reading in (
+    let k = tells told (bytes ++ r.0) r.2.reading in
+    let has : HasTold eight registers u mid (told ++ k.found) (bytes ++ r.0) =
+    inl (goes_with eight registers t u told (told ++ k.found) (bytes ++ r.0) (bytes ++ r.0) profile eight_same ended
+    r.2 k.reading) in (
       r.0,
       r.1,
       record {
         found = k.found;
         reported = subst (λ (n : ℕ). AreReported n k.found reports) (ap count_of profile ∙ r.2.registers_are)
             k.reported;
-        has_told = inl (goes_with eight registers t u told (told ++ k.found) (bytes ++ r.0) (bytes ++ r.0) profile
-            eight_same ended r.2 k.reading);
+        first = told_are_first eight registers u mid (told ++ k.found) (bytes ++ r.0) has;
+        has_told = has;
       },
     )
 
@@ -210,18 +231,20 @@ pub next_last : (s t u : Scan) (old new : Option (List ℕ)) (reports : List Sca
     → AfterTaking s old new (λ eight registers told bytes. TellsNext eight registers u new told bytes reports)
 next_last s t u old new reports off goes ended over all = λ eight registers told bytes h.
     let r = goes eight registers told bytes (still_goes eight registers s old told bytes off h) in
-    let k = all told (bytes ++ r.0) r.2.reading in (
+    let k = all told (bytes ++ r.0) r.2.reading in
+    let through : IsThrough eight u new (told ++ k.found) (bytes ++ r.0) = record {
+      ended = ended;
+      within = r.2.reading.within;
+      strings = subst (λ (e : Bool). AreStrings e (told ++ k.found) (bytes ++ r.0)) r.2.eight_is k.strings;
+      over = over told (bytes ++ r.0) r.2.reading;
+    } in (
       r.0,
       r.1,
       record {
         found = k.found;
         reported = subst (λ (n : ℕ). AreReported n k.found reports) r.2.registers_are k.reported;
-        has_told = inr (record {
-          ended = ended;
-          within = r.2.reading.within;
-          strings = subst (λ (e : Bool). AreStrings e (told ++ k.found) (bytes ++ r.0)) r.2.eight_is k.strings;
-          over = over told (bytes ++ r.0) r.2.reading;
-        });
+        first = inr (through.strings, through.over);
+        has_told = inr through;
       },
     )
 
@@ -251,17 +274,19 @@ next_all s u old new on next = λ eight registers told bytes h.
 pub next_none : (s : Scan) (remaining : Option (List ℕ)) → s.ended ≡ true
     → AfterTaking s remaining remaining
     (λ eight registers told bytes. TellsNext eight registers s remaining told bytes [])
-next_none s remaining on = λ eight registers told bytes h. (
-  [],
-  Consumes-nil remaining,
-  record {
-    found = [];
-    reported = tt;
-    has_told = subst (λ (x : List StringAt). HasTold eight registers s remaining x (bytes ++ []))
-        (sym (append-nil told))
-        (subst (HasTold eight registers s remaining told) (sym (append-nil bytes)) h);
-  },
-)
+next_none s remaining on = λ eight registers told bytes h.
+    let has : HasTold eight registers s remaining (told ++ []) (bytes ++ []) =
+    subst (λ (x : List StringAt). HasTold eight registers s remaining x (bytes ++ [])) (sym (append-nil told))
+    (subst (HasTold eight registers s remaining told) (sym (append-nil bytes)) h) in (
+      [],
+      Consumes-nil remaining,
+      record {
+        found = [];
+        reported = tt;
+        first = told_are_first eight registers s remaining (told ++ []) (bytes ++ []) has;
+        has_told = has;
+      },
+    )
 
 -- ---- before and after a call
 

@@ -1,4 +1,4 @@
--- What a check of a string has read. Only contracts of private functions cite these.
+-- What a check of a string has read. It is part of where a scan stands (Standing).
 use Rattle.std.specs.Prelude.{◌≡◌, ◌++◌, ◌⊎◌, ℕ, List, None, Some}
 use Rattle.sixel_grammar.specs.Faults.{IsFaultOf}
 use Rattle.sixel_grammar.specs.declared.fault.Fault.{Fault}

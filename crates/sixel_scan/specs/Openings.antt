@@ -1,4 +1,4 @@
--- Which bytes of a text may become an opening. Only contracts of private functions cite these.
+-- Which bytes of a text may become an opening. It is part of where a scan stands (Standing).
 use Rattle.std.specs.Prelude.{◌≡◌, ℕ, ◌<◌, ◌==◌, Bool, true, false, IsTrue, List, [], ◌∷◌, ◌++◌, length, Option, None}
 use Rattle.std.specs.Prelude.{Some, if◌then◌else◌}
 use Rattle.sixel_grammar.specs.Bytes.{escape, introducer}

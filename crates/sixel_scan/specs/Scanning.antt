@@ -1,4 +1,4 @@
--- Bytes at which nothing ends or begins. Only contracts of private functions cite these.
+-- Bytes at which nothing ends or begins. They are part of where a scan stands (Standing).
 use Rattle.std.specs.Prelude.{◌≢◌, ℕ, ◌<◌, Bool, IsTrue, List, ◌++◌, length}
 use Rattle.std.specs.List.{AllByRecursion}
 use Rattle.sixel_grammar.specs.Bytes.{escape}

@@ -9,7 +9,7 @@ use Rattle.sixel_scan.specs.declared.answer.Scanned.{Scanned}
 use Rattle.sixel_scan.specs.declared.fault.ScanFault.{ScanFault}
 use Rattle.sixel_scan.specs.declared.fault.ScanFault.TheVariants.{OutOfMemory, Read}
 use Rattle.sixel_scan.specs.declared.scan.Scan.{Scan}
-use Rattle.sixel_scan.specs.Prefixes.{AreBeforeGrowth}
+use Rattle.sixel_scan.specs.Prefixes.{AreBeforeGrowth, AreEnded}
 use Rattle.sixel_scan.specs.Standing.{AreReported, Stands}
 use Rattle.sixel_scan.specs.Strings.{AreStrings, StringAt}
 
@@ -62,11 +62,17 @@ AfterTaking s old new P =
     (eight : Bool) (registers : ℕ) (told : List StringAt) (bytes : List ℕ) → HasTold eight registers s old told bytes
     → (taken : List ℕ) × Consumes old new taken × P eight registers told (bytes ++ taken)
 
--- the scan reports these strings besides those told
+-- the strings are the first of the stream of which these bytes are taken: whatever follows, or, if it is over, all
+abbrev pub AreFirst : Bool → Option (List ℕ) → List StringAt → List ℕ → Type 0
+AreFirst eight remaining strings bytes =
+    AreEnded eight strings bytes ⊎ (AreStrings eight strings bytes × IsOver remaining bytes)
+
+-- the scan reports these strings besides those told, and they all are the first of the stream
 pub record TellsNext (eight : Bool) (registers : ℕ) (s : Scan) (remaining : Option (List ℕ)) (told : List StringAt)
     (bytes : List ℕ) (reports : List Scanned) : Type 0 where
   pub found : List StringAt
   pub reported : AreReported registers found reports
+  pub first : AreFirst eight remaining (told ++ found) bytes
   pub has_told : HasTold eight registers s remaining (told ++ found) bytes
 
 -- the strings told are those before one in which a check with this many registers may allocate, within the bytes, which

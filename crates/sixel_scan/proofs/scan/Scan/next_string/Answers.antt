@@ -3,7 +3,7 @@ use Rattle.std.specs.Option.{option_to_list}
 use Rattle.sixel_scan.specs.declared.answer.Scanned.{Scanned}
 use Rattle.sixel_scan.specs.declared.scan.Scan.{Scan}
 use Rattle.sixel_scan.specs.Scans.{AfterTaking, TellsNext}
-use Rattle.sixel_scan.proofs.TellLemmas.{next_all, next_failed, next_grows, next_last, next_told}
+use Rattle.sixel_scan.proofs.TellLemmas.{next_all, next_failed, next_grows, next_last, next_none, next_told}
 use Rattle.sixel_scan.proofs.TellLemmas.{no_string, read_past, ready_failed, ready_told, reads_later, still_on}
 use Rattle.sixel_scan.proofs.TellLemmas.{still_reading, taken_past, takes_more, tells_fewer, tells_nothing, told_none}
 use Rattle.sixel_scan.proofs.scan.Scan.next_string.Goals as goal
@@ -15,6 +15,12 @@ read_unread-requires g c =
     let old = (g.S.Source.state c.args.input.now).remaining in
     let mid = (g.S.Source.state c.loop-scanned.input).remaining in
     record { reads = still_reading s l old mid c.if-self.false c.loop-scanned.invariant.goes c.requires }
+
+-- ---- the stream was over before
+
+pub returns-then-self-clause-told : goal.returns-then-self-clause-told
+returns-then-self-clause-told g c =
+    next_none c.args.self.now (g.S.Source.state c.args.input.now).remaining c.if-self.true
 
 -- ---- a string has ended
 
