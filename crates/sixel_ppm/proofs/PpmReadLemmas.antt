@@ -1,19 +1,22 @@
 -- Reading a picture file in the pieces that a source gives.
-use Rattle.std.proofs.Common.{◌≡◌, ◌+◌, ◌-◌, ◌<◌, ◌≤◌, ℕ, Bool, true, ◌&&◌, Option, Some, None, Result, Ok, Err, List}
-use Rattle.std.proofs.Common.{[], ◌∷◌, ◌++◌, length, take, drop, get_or, refl, sym, ap, ap₂, subst, ◌∙◌, append_assoc}
+use Rattle.std.proofs.Common.{◌≡◌, ◌+◌, ◌-◌, ◌<◌, ◌≤◌, ℕ, zero, suc, Bool, true, ◌&&◌, Option, Some, None, Result, Ok}
+use Rattle.std.proofs.Common.{Err, List}
+use Rattle.std.proofs.Common.{false, [], ◌∷◌, ◌++◌, length, take, drop, get_or, refl, sym, ap, ap₂, subst, ◌∙◌}
+use Rattle.std.proofs.Common.{append_assoc}
 use Rattle.std.proofs.Common.{arith, length-take-le}
 use Rattle.std.specs.Prelude.{IfErr, IfOk, IfSome, IsErrAnd, IsOk, MatchResult}
 use Rattle.std.proofs.lemmas.Bool.Decides.{nat_tests}
-use Rattle.std.specs.Io.KnownBytes.{Consumes, IsAtEnd}
+use Rattle.std.specs.Io.KnownBytes.{Consumes, IsAtEnd, Keeps}
 use Rattle.std.proofs.lemmas.List.{append-nil, drop-take, take_more, take-append-drop}
-use Rattle.sixel_grammar.proofs.SourceLemmas.{all_read, consumes-then}
+use Rattle.sixel_grammar.proofs.SourceLemmas.{all_read, consumes-kept, consumes-then}
 use Rattle.sixel_model.specs.Pictures.{PictureValue, is_side}
-use Rattle.sixel_ppm.specs.PpmFeeding.{Completes, HasStarted, IsInHeader, IsInSamples, MovesOn, ReadsRest}
+use Rattle.sixel_ppm.specs.PpmFeeding.{Completes, HasStarted, IsInHeader, IsInSamples, MovesOn, ReadsHeader, ReadsRest}
 use Rattle.sixel_ppm.specs.PpmFeeding.{RefusesHeader, head_with}
-use Rattle.sixel_ppm.specs.PpmHeader.{header_after, header_on, is_within, step}
-use Rattle.sixel_ppm.specs.PpmReading.{◌>>=◌, CountsReadFault, HasWholeHeader, Head, ReadsPpm, at_fault, head_of}
-use Rattle.sixel_ppm.specs.PpmReading.{picture_after, ppm_read}
-use Rattle.sixel_ppm.specs.PpmSamples.{Begins, FailsOn, LeadsOn, Holds, Refuses, samples_on}
+use Rattle.sixel_ppm.specs.PpmHeader.{header_after, header_in, header_on, is_within, step}
+use Rattle.sixel_ppm.specs.PpmPartialPixel.{is_good, partial_samples}
+use Rattle.sixel_ppm.specs.PpmReading.{◌>>=◌, CountsReadFault, HasWholeHeader, Head, MayGoOn, NoPpmFaultBefore}
+use Rattle.sixel_ppm.specs.PpmReading.{ReadsPpm, at_fault, head_of, picture_after, picture_of, pixels, ppm_read}
+use Rattle.sixel_ppm.specs.PpmSamples.{Begins, FailsOn, LeadsOn, Holds, Refuses, registers_in, samples_on}
 use Rattle.sixel_model.specs.declared.colour.Parts.{Parts}
 use Rattle.sixel_ppm.specs.declared.ppm.PpmFault.{PpmFault}
 use Rattle.sixel_ppm.specs.declared.ppm.PpmFault.TheVariants.{Format, NotRgb, OutOfMemory, Read, Write}
@@ -21,11 +24,16 @@ use Rattle.sixel_ppm.specs.declared.ppm.PpmReason.{PpmReason}
 use Rattle.sixel_ppm.specs.declared.ppm.header.Header.{Header}
 use Rattle.sixel_ppm.specs.declared.ppm.header.Next.{Next}
 use Rattle.sixel_ppm.specs.declared.ppm.header.Next.TheVariants.{More, Whole, Refused}
+use Rattle.sixel_ppm.specs.declared.ppm.header.Part.{Part}
+use Rattle.sixel_ppm.specs.declared.ppm.header.Part.TheVariants.{Letter, Version, AfterVersion, Filler, Comment}
+use Rattle.sixel_ppm.specs.declared.ppm.header.Part.TheVariants.{Digits}
 use Rattle.sixel_ppm.specs.declared.ppm.header.Progress.{Progress}
 use Rattle.sixel_ppm.specs.declared.ppm.read.Started.{Started}
+use Rattle.sixel_ppm.specs.declared.ppm.samples.PartialPixel.{PartialPixel}
+use Rattle.sixel_ppm.specs.declared.ppm.samples.PartialPixel.TheVariants.{Nothing, Red, RedGreen}
 use Rattle.sixel_ppm.specs.declared.ppm.samples.Samples.{Samples}
 use Rattle.sixel_ppm.proofs.PpmHeaderLemmas.{IsInRange, MovesWithin, head_in_range, header_read, step_moves}
-use Rattle.sixel_ppm.proofs.PpmSampleLemmas.{fails_then, leads_none, leads_then}
+use Rattle.sixel_ppm.proofs.PpmSampleLemmas.{fails_then, leads_none, leads_then, short_pixel}
 
 -- ---- the header in a piece
 
@@ -90,6 +98,13 @@ answered (Err e) told count R is named = absurd (subst (λ t. IsErrAnd t (R e)) 
 
 -- ---- the header, piece by piece
 
+-- what holds for the consumed bytes with any rest holds for all of the source's bytes
+all_of : (a b : Option (List ℕ)) (xs : List ℕ) (P : List ℕ → Type 0) → Consumes a b xs → ((rest : List ℕ)
+    → P (xs ++ rest)) → IfSome a P
+all_of None b xs P c h = tt
+all_of (Some a) None xs P c h = absurd c
+all_of (Some a) (Some b) xs P c h = subst P (sym c) (h b)
+
 pub header_goes_on : (old mid new : Option (List ℕ)) (progress next : Progress) (taken : List ℕ)
     → IsInHeader old mid progress
     → Consumes mid new taken → MovesOn progress next taken → IsInHeader old new next
@@ -115,6 +130,21 @@ header_started old mid new progress header piece start count i c w inside =
       ordered = omega (arith, w.inside, short);
       inside = inside;
     }
+
+refuses_header : (fault : PpmFault) (bytes : List ℕ) → RefusesHeader fault (head_of bytes) → ReadsHeader fault bytes
+refuses_header Read bytes h = tt
+refuses_header _ bytes h = h
+
+pub header_refused : (old mid new : Option (List ℕ)) (progress : Progress) (fault : PpmFault) (taken : List ℕ)
+    → IsInHeader old mid progress
+    → Consumes mid new taken → ((rest : List ℕ) → RefusesHeader fault (header_on progress (taken ++ rest)))
+    → IfSome old (ReadsHeader fault)
+header_refused old mid new progress fault taken i c r =
+    all_of old new (i.prefix ++ taken) (ReadsHeader fault) (consumes-then old mid new i.prefix taken i.consumed c)
+    (λ rest.
+    refuses_header fault ((i.prefix ++ taken) ++ rest)
+    (subst (RefusesHeader fault) (sym (ap head_of (append_assoc i.prefix taken rest) ∙ i.reads (taken ++ rest)))
+    (r rest)))
 
 pub header_fault_counts : (A : Type 0) (fault : PpmFault) (result : Result Head PpmFault) (a b : ℕ)
     → RefusesHeader fault result → b ≡ a
@@ -147,13 +177,6 @@ refuses_rest : (fault : PpmFault) (result : Result PictureValue PpmFault) → Re
     → ReadsRest (Err fault) result
 refuses_rest Read result h = tt
 refuses_rest _ result h = h
-
--- what holds for the consumed bytes with any rest holds for all of the source's bytes
-all_of : (a b : Option (List ℕ)) (xs : List ℕ) (P : List ℕ → Type 0) → Consumes a b xs → ((rest : List ℕ)
-    → P (xs ++ rest)) → IfSome a P
-all_of None b xs P c h = tt
-all_of (Some a) None xs P c h = absurd c
-all_of (Some a) (Some b) xs P c h = subst P (sym c) (h b)
 
 pub samples_refused : (old mid new : Option (List ℕ)) (s t : Samples) (fault : PpmFault) (taken : List ℕ)
     → IsInSamples old mid s t
@@ -294,3 +317,86 @@ pub between : (start end : ℕ) (xs : List ℕ) → start ≤ end
     → take (end - start) (drop start xs) ≡ drop start (take end xs)
 between start end xs le =
     sym (drop-take start (end - start) xs) ∙ ap (λ (n : ℕ). drop start (take n xs)) (omega arith)
+
+-- ---- a read that fails
+
+-- where a result that renames the error of `r` is an error, what holds at an error of `r` does
+pub kept_by : {E F : Type 0} (r : Result ℕ E) (told : Result ℕ F) (fault : F) (R : E → F → Type 0) (P : ℕ → Type 0)
+    (K : Type 0) → told ≡ Err fault
+    → MatchResult r (λ n. told ≡ Ok n) (λ e. IsErrAnd told (R e)) → MatchResult r P (λ e. K) → K
+kept_by (Ok n) told fault R P K is same kept = absurd (cc (is, same))
+kept_by (Err e) told fault R P K is named kept = kept
+
+-- no fault of the samples is a failed read
+pub never_read : {A : Type 0} (s : Samples) (fault : PpmFault) (taken : List ℕ)
+    → ((colours : List Parts) × Holds s colours) → FailsOn s fault taken → fault ≡ Read → A
+never_read s fault taken held f is =
+    absurd (subst (λ (x : PpmFault). FailsOn s x taken) is f held.0 held.1 [])
+
+header_in_goes_on : (part : Part) (p : Progress) (k : Head → Result PictureValue PpmFault)
+    → MayGoOn (header_in part p [] >>= k)
+header_in_goes_on Letter p k = tt
+header_in_goes_on Version p k = tt
+header_in_goes_on AfterVersion p k = tt
+header_in_goes_on (Filler field) p k = tt
+header_in_goes_on (Comment field) p k = tt
+header_in_goes_on (Digits field) p k = tt
+
+-- the read failed within the header
+pub header_unread : (old mid new : Option (List ℕ)) (progress : Progress) → IsInHeader old mid progress
+    → Keeps mid new
+    → (registers : ℕ) → IfSome old (NoPpmFaultBefore (ppm_read registers) new)
+header_unread None mid new progress i kept registers = tt
+header_unread (Some a) mid new progress i kept registers = (
+  i.prefix,
+  consumes-kept (Some a) mid new i.prefix i.consumed kept,
+  subst MayGoOn
+      (sym (ap (λ (x : Result Head PpmFault). x >>= picture_after registers)
+      (ap head_of (sym (append-nil i.prefix)) ∙ i.reads [])))
+      (header_in_goes_on progress.part progress (picture_after registers)),
+)
+
+pixels_go_on : (count maxval n at : ℕ) (colours : List Parts) (partial : PartialPixel)
+    (k : List Parts → PictureValue)
+    → is_good partial maxval n ≡ true
+    → MayGoOn (pixels count maxval n colours at (partial_samples partial ++ []) >>= (λ all. Ok (k all)))
+pixels_go_on count maxval zero at colours Nothing k good = tt
+pixels_go_on count maxval zero at colours (Red red) k good = let none : false ≡ true = good in absurd (cc)
+pixels_go_on count maxval zero at colours (RedGreen red green) k good = let none : false ≡ true = good in absurd (cc)
+pixels_go_on count maxval (suc n) at colours partial k good =
+    rw (short_pixel count maxval (suc n) at colours partial (omega arith) good) tt
+
+-- the read failed within the samples
+pub samples_unread : (old mid new : Option (List ℕ)) (s t : Samples) → IsInSamples old mid s t
+    → is_good t.partial t.maxval t.left ≡ true
+    → Keeps mid new → (colours : List Parts) → Holds s colours
+    → IfSome old (NoPpmFaultBefore (samples_on s colours) new)
+samples_unread None mid new s t i good kept colours holds = tt
+samples_unread (Some a) mid new s t i good kept colours holds =
+    let p = i.leads colours holds in (
+      i.prefix,
+      consumes-kept (Some a) mid new i.prefix i.consumed kept,
+      subst MayGoOn (sym (ap (samples_on s colours) (sym (append-nil i.prefix)) ∙ p.2 []))
+          (pixels_go_on (registers_in t) t.maxval t.left t.place p.0 t.partial
+          (picture_of (registers_in t) t.width t.height) good),
+    )
+
+-- the read failed after the piece with the end of the header
+pub ppm_unread : (count : ℕ) (old mid new : Option (List ℕ)) (piece : List ℕ) (s : Started) (t u : Samples)
+    (samples : List ℕ) → samples ≡ drop s.start (take s.end piece) → HasStarted old mid piece s
+    → Begins count s.header t
+    → LeadsOn t u samples
+    → ((colours : List Parts) → Holds u colours → IfSome mid (NoPpmFaultBefore (samples_on u colours) new))
+    → IfSome old (NoPpmFaultBefore (ppm_read count) new)
+ppm_unread count None mid new piece s t u samples e h b f r = tt
+ppm_unread count (Some a) None new piece s t u samples e h b f r = absurd h.consumed
+ppm_unread count (Some a) (Some m) new piece s t u samples e h b f r =
+    let p = f [] b.holds in
+    let n = r p.0 p.1 in (
+      h.prefix ++ n.0,
+      consumes-then (Some a) (Some m) new h.prefix n.0 h.consumed n.1,
+      subst MayGoOn
+          (sym (said count (Some a) (Some m) piece s t n.0 h b
+          ∙ ap (λ (xs : List ℕ). samples_on t [] (xs ++ n.0)) (sym e) ∙ p.2 n.0))
+          n.2,
+    )

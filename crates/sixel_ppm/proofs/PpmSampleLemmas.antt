@@ -323,7 +323,7 @@ one_prefix (x ∷ xs) le = ap (λ (t : List ℕ). x ∷ t) (sym (take_past (leng
 
 -- ---- missing samples
 
-short_pixel : (count maxval n at : ℕ) (colours : List Parts) (partial : PartialPixel) → 0 < n
+pub short_pixel : (count maxval n at : ℕ) (colours : List Parts) (partial : PartialPixel) → 0 < n
     → is_good partial maxval n ≡ true
     → pixels count maxval n colours at (partial_samples partial ++ [])
     ≡ at_fault Short (at + length (partial_samples partial))

@@ -5,6 +5,7 @@
 use Rattle.std.specs.Prelude.{◌≡◌, ℕ, zero, suc, ◌+◌, ◌-◌, ◌*◌, ◌/◌, ◌==◌, Bool, true, false, ◌&&◌, ◌||◌, not, nat_le}
 use Rattle.std.specs.Prelude.{nat_lt, if◌then◌else◌, List, [], ◌∷◌, ◌++◌, length, map, fold, Option, Some, None}
 use Rattle.std.specs.Prelude.{unwrap_or, Result, Ok, Err, IsOk}
+use Rattle.std.specs.Io.KnownBytes.{Consumes}
 use Rattle.std.specs.List.{list_any, position_from}
 use Rattle.sixel_grammar.specs.Bytes.{is_digit}
 use Rattle.sixel_io.specs.Devices.{one_more}
@@ -189,7 +190,7 @@ abbrev pub HasWholeHeader : List ℕ → Type 0
 HasWholeHeader bytes = IsOk (head_of bytes)
 
 -- the result of a call is correct: a picture or a format fault is what the bytes say. `OutOfMemory` comes only after a
--- header without a fault, and `Read` says nothing about the bytes
+-- header without a fault; what `Read` says of the bytes given by then is NoPpmFaultBefore
 abbrev pub ReadsPpm : ℕ → Result PictureValue PpmFault → List ℕ → Type 0
 ReadsPpm registers (Ok picture) bytes = ppm_read registers bytes ≡ Ok picture
 ReadsPpm registers (Err (Format reason place)) bytes = ppm_read registers bytes ≡ at_fault reason place
@@ -206,3 +207,13 @@ CountsReadFault (Err OutOfMemory) old new = new ≡ old
 CountsReadFault (Err Read) old new = new ≡ one_more old
 CountsReadFault (Err NotRgb) old new = ⊥
 CountsReadFault (Err Write) old new = ⊥
+
+-- a picture, or the one fault that bytes to come may mend: the end comes too early
+abbrev pub MayGoOn : Result PictureValue PpmFault → Type 0
+MayGoOn (Ok picture) = Unit {0}
+MayGoOn (Err (Format Short place)) = Unit {0}
+MayGoOn (Err fault) = ⊥
+
+-- the source gave bytes up to what is `left`; if they were all, reading them would find no fault but an early end
+abbrev pub NoPpmFaultBefore : (List ℕ → Result PictureValue PpmFault) → Option (List ℕ) → List ℕ → Type 0
+NoPpmFaultBefore read left bytes = (given : List ℕ) × Consumes (Some bytes) left given × MayGoOn (read given)

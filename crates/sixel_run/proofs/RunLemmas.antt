@@ -15,9 +15,11 @@ use Rattle.sixel_scan.specs.declared.answer.Scanned.{Scanned}
 use Rattle.sixel_run.specs.declared.task.Status.{Status}
 use Rattle.sixel_run.specs.declared.task.Status.TheVariants.{Done}
 use Rattle.sixel_run.specs.declared.task.Task.{Task}
-use Rattle.sixel_run.specs.declared.task.Task.TheVariants.{List as Listing, Check, Survey, Render, Show, ShowBox, Encode}
+use Rattle.sixel_run.specs.declared.task.Task.TheVariants.{List as Listing, Check, Survey, Render, Show, ShowBox}
+use Rattle.sixel_run.specs.declared.task.Task.TheVariants.{Encode}
 use Rattle.sixel_run.specs.declared.task.Task.TheVariants.{Mend, Scan}
-use Rattle.sixel_run.specs.Outputs.{FoundNoFault, Gives, ListGives, ListsUnread, Wrote, WroteBefore, WroteBy, WroteNothing}
+use Rattle.sixel_run.specs.Outputs.{FoundNoFault, Gives, ListGives, ListsUnread, Wrote, WroteBefore, WroteBy}
+use Rattle.sixel_run.specs.Outputs.{WroteNothing}
 use Rattle.sixel_run.specs.Outputs.{WroteUnread, mending}
 use Rattle.sixel_grammar.specs.Reading.{NoFaultBefore}
 use Rattle.sixel_run.specs.Scanned.{AreOfFirst, scan_text}
@@ -144,8 +146,6 @@ unflushed-unread Listing bytes left had mid has w kept = unflushed-list bytes le
 unflushed-unread (Scan profile eight) bytes left had mid has w kept =
     unflushed-scan profile eight bytes left had mid has w.0
     (given_first eight (count_of profile) bytes left w.0 w.1) w.2 kept
-unflushed-unread (Encode profile) bytes left had mid has w kept =
-    ([], Appends-keeps had mid has [] w kept, λ text answer g. (text, refl))
 unflushed-unread _ bytes left had mid has w kept =
     ([], Appends-keeps had mid has [] w.1 kept, λ text answer g. (text, refl))
 
@@ -183,7 +183,6 @@ flushed-unread Listing bytes left had mid has w kept =
     (w.0, w.1, w.2, w.3, Appends-keeps had mid has w.1 w.4 kept)
 flushed-unread (Scan profile eight) bytes left had mid has w kept =
     (w.0, w.1, Appends-keeps had mid has (scan_text w.0) w.2 kept)
-flushed-unread (Encode profile) bytes left had mid has w kept = Appends-keeps had mid has [] w kept
 flushed-unread _ bytes left had mid has w kept = (w.0, Appends-keeps had mid has [] w.1 kept)
 
 flushed-before : (task : Task) (bytes : List ℕ) (had mid has : Option (List ℕ))
@@ -213,19 +212,27 @@ unflushed task (Some bytes) left had mid has answer w kept = unflushed-run task 
 
 -- ---- a read that fails
 
-unread-run : (gives : Text → Result Status RunFault → Type 0) (bytes : List ℕ) (left had has : Option (List ℕ))
-    (answer : Result Status RunFault) → WroteBy gives WroteNothing answer had has
-    → (answer ≡ Err Read → NoFaultBefore left bytes) → WroteBy gives (FoundNoFault bytes left) answer had has
-unread-run gives bytes left had has (Err Read) wrote none = (none refl, wrote)
-unread-run gives bytes left had has (Err OutOfMemory) wrote none = wrote
-unread-run gives bytes left had has (Err Write) wrote none = wrote
-unread-run gives bytes left had has answer wrote none = wrote
+unread-run : (none : Type 0) (gives : Text → Result Status RunFault → Type 0) (had has : Option (List ℕ))
+    (answer : Result Status RunFault) → WroteBy gives WroteNothing answer had has → (answer ≡ Err Read → none)
+    → WroteBy gives (λ had has. none × WroteNothing had has) answer had has
+unread-run none gives had has (Err Read) wrote is = (is refl, wrote)
+unread-run none gives had has (Err OutOfMemory) wrote is = wrote
+unread-run none gives had has (Err Write) wrote is = wrote
+unread-run none gives had has answer wrote is = wrote
 
 -- a run that has written nothing when a read fails, and has found no fault by then
+pub unread_by : (none : List ℕ → Type 0) (gives : List ℕ → Text → Result Status RunFault → Type 0)
+    (a had has : Option (List ℕ)) (answer : Result Status RunFault)
+    → IfSome a (λ (bytes : List ℕ). WroteBy (gives bytes) WroteNothing answer had has)
+    → (answer ≡ Err Read → IfSome a none)
+    → IfSome a (λ (bytes : List ℕ). WroteBy (gives bytes) (λ had has. none bytes × WroteNothing had has) answer had has)
+unread_by none gives None had has answer wrote is = tt
+unread_by none gives (Some bytes) had has answer wrote is =
+    unread-run (none bytes) (gives bytes) had has answer wrote is
+
+-- the same in the words of a sixel string
 pub unread : (gives : List ℕ → Text → Result Status RunFault → Type 0) (a left had has : Option (List ℕ))
     (answer : Result Status RunFault) → IfSome a (λ (bytes : List ℕ). WroteBy (gives bytes) WroteNothing answer had has)
     → (answer ≡ Err Read → IfSome a (NoFaultBefore left))
     → IfSome a (λ (bytes : List ℕ). WroteBy (gives bytes) (FoundNoFault bytes left) answer had has)
-unread gives None left had has answer wrote none = tt
-unread gives (Some bytes) left had has answer wrote none =
-    unread-run (gives bytes) bytes left had has answer wrote none
+unread gives a left had has answer wrote none = unread_by (NoFaultBefore left) gives a had has answer wrote none

@@ -1,5 +1,6 @@
 -- What a run writes and answers.
-use Rattle.std.specs.Prelude.{◌≡◌, ◌⊎◌, ℕ, Bool, List, [], ◌≤◌, length, take, Option, Some, None, IfSome, IsTrue, IsFalse}
+use Rattle.std.specs.Prelude.{◌≡◌, ◌⊎◌, ℕ, Bool, List, [], ◌≤◌, length, take, Option, Some, None, IfSome, IsTrue}
+use Rattle.std.specs.Prelude.{IsFalse}
 use Rattle.std.specs.Prelude.{Result, Ok, Err, if◌then◌else◌}
 use Rattle.std.specs.Io.KnownBytes.{Appends, Consumes}
 use Rattle.sixel_grammar.specs.declared.command.Placed.{Placed}
@@ -13,7 +14,7 @@ use Rattle.sixel_model.specs.Pictures.{PictureValue}
 use Rattle.sixel_model.specs.Profiles.{count_of}
 use Rattle.sixel_model.specs.declared.colour.Parts.{Parts}
 use Rattle.sixel_ppm.specs.Ppm.{are_rgb, colours_of, is_file_side, ppm_text}
-use Rattle.sixel_ppm.specs.PpmReading.{HasWholeHeader, ppm_read}
+use Rattle.sixel_ppm.specs.PpmReading.{HasWholeHeader, NoPpmFaultBefore, ppm_read}
 use Rattle.sixel_terminal.specs.Displays.{Display}
 use Rattle.sixel_terminal.specs.Drawing.{screen_on}
 use Rattle.sixel_judge.specs.declared.verdict.Verdict.{Verdict}
@@ -37,11 +38,13 @@ use Rattle.sixel_run.specs.declared.task.Status.{Status}
 use Rattle.sixel_run.specs.declared.task.Status.TheVariants as status
 use Rattle.sixel_run.specs.declared.task.Status.TheVariants.{Done}
 use Rattle.sixel_run.specs.declared.task.Task.{Task}
-use Rattle.sixel_run.specs.declared.task.Task.TheVariants.{List as Listing, Check, Survey, Render, Show, ShowBox, Encode}
+use Rattle.sixel_run.specs.declared.task.Task.TheVariants.{List as Listing, Check, Survey, Render, Show, ShowBox}
+use Rattle.sixel_run.specs.declared.task.Task.TheVariants.{Encode}
 use Rattle.sixel_run.specs.declared.task.Task.TheVariants.{Mend, Scan}
 use Rattle.sixel_run.specs.Scanned.{AreBeforeAllocation, AreOfGiven, AreOfStream, MayGrowInString, answer_of_strings}
 use Rattle.sixel_run.specs.Scanned.{scan_text}
-use Rattle.sixel_run.specs.Screens.{DeclareScreenIn, declared_screen, screen_terminal, screen_text, show_choices, show_terminal}
+use Rattle.sixel_run.specs.Screens.{DeclareScreenIn, declared_screen, screen_terminal, screen_text, show_choices}
+use Rattle.sixel_run.specs.Screens.{show_terminal}
 use Rattle.sixel_run.specs.Texts.{Text, BeginsWith, list_text, outcome_line, survey_text, verdict_line}
 
 -- ---- lists
@@ -229,12 +232,16 @@ WroteNothing had has = Appends had has []
 abbrev pub FoundNoFault : List ℕ → Option (List ℕ) → Option (List ℕ) → Option (List ℕ) → Type 0
 FoundNoFault bytes left had has = NoFaultBefore left bytes × WroteNothing had has
 
+-- the same where the bytes are read as a picture file
+abbrev pub FoundNoPpmFault : ℕ → List ℕ → Option (List ℕ) → Option (List ℕ) → Option (List ℕ) → Type 0
+FoundNoPpmFault registers bytes left had has = NoPpmFaultBefore (ppm_read registers) left bytes × WroteNothing had has
+
 -- what a task has appended to what the sink `had` when reading these bytes fails before `left`. A fault in the bytes
 -- given before that would have been answered
 abbrev pub WroteUnread : Task → List ℕ → Option (List ℕ) → Option (List ℕ) → Option (List ℕ) → Type 0
 WroteUnread Listing bytes left had has = ListsUnread bytes left had has
 WroteUnread (Scan profile eight) bytes left had has = ScansUnread eight (count_of profile) bytes left had has
-WroteUnread (Encode profile) bytes left had has = WroteNothing had has
+WroteUnread (Encode profile) bytes left had has = FoundNoPpmFault (count_of profile) bytes left had has
 WroteUnread t bytes left had has = FoundNoFault bytes left had has
 
 -- what a task over these bytes has appended to what the sink `had` when an allocation fails

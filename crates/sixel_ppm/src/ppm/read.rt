@@ -1,11 +1,12 @@
 //! Reads pictures from PPM files.
 
-ghost use Rattle.std.specs.Prelude.{List, IfErr, IfOk, IfSome};
+ghost use Rattle.std.specs.Prelude.{◌≡◌, ℕ, List, Err, IfErr, IfOk, IfSome};
 ghost use Rattle.sixel_ppm.specs.PpmFeeding.{FeedsHeader, HasStarted, ReadsHeader, ReadsRest};
-ghost use Rattle.sixel_ppm.specs.PpmReading.{CountsReadFault, ReadsPpm};
+ghost use Rattle.sixel_ppm.specs.PpmReading.{CountsReadFault, NoPpmFaultBefore, ReadsPpm, ppm_read};
 ghost use Rattle.sixel_ppm.specs.PpmSamples.{Holds, samples_on};
 ghost use Rattle.sixel_model.specs.Profiles.{count_of};
 ghost use Rattle.sixel_model.specs.declared.colour.Parts.{Parts};
+ghost use Rattle.sixel_ppm.specs.declared.ppm.PpmFault.TheVariants.{Read};
 
 use crate::ppm::header::{Header, Next, Progress};
 use crate::ppm::samples::Samples;
@@ -43,6 +44,8 @@ pub fn read_ppm<S: Source>(
     input: &mut S,
 ) -> Result<Picture, PpmFault>
     ensures bytes { IfSome (S.state input.old).remaining (ReadsPpm (count_of profile) result) }
+    ensures unread { result ≡ Err Read → IfSome (S.state input.old).remaining
+        (NoPpmFaultBefore (ppm_read (count_of profile)) (S.state input.new).remaining) }
     ensures failures { CountsReadFault result (S.state input.old).failures (S.state input.new).failures }
 {
     let mut piece = [0u8; PIECE];
@@ -74,6 +77,8 @@ fn read_header<S: Source>(input: &mut S, piece: &mut [u8; PIECE]) -> Result<Star
     ensures started { IfOk result (λ s.
         HasStarted (S.state input.old).remaining (S.state input.new).remaining piece.new s) }
     ensures failed { IfErr result (λ fault. IfSome (S.state input.old).remaining (ReadsHeader fault)) }
+    ensures unread { result ≡ Err Read → (registers : ℕ) → IfSome (S.state input.old).remaining
+        (NoPpmFaultBefore (ppm_read registers) (S.state input.new).remaining) }
     ensures failures { CountsReadFault result (S.state input.old).failures (S.state input.new).failures }
 {
     let mut progress = Progress::new();
@@ -108,6 +113,9 @@ fn read_samples<S: Source>(
     requires { (colours : List Parts) × Holds begun colours }
     ensures bytes { (colours : List Parts) → Holds begun colours →
         IfSome (S.state input.old).remaining (λ rest. ReadsRest result (samples_on begun colours rest)) }
+    ensures unread { result ≡ Err Read → (colours : List Parts) → Holds begun colours →
+        IfSome (S.state input.old).remaining
+        (NoPpmFaultBefore (samples_on begun colours) (S.state input.new).remaining) }
     ensures failures { CountsReadFault result (S.state input.old).failures (S.state input.new).failures }
 {
     let mut samples = begun;

@@ -1,7 +1,7 @@
 //! Writes a picture from a PPM as sixel text.
 
 ghost use Rattle.std.specs.Prelude.{◌≡◌, Err, IfSome};
-ghost use Rattle.sixel_ppm.specs.PpmReading.{HasWholeHeader};
+ghost use Rattle.sixel_ppm.specs.PpmReading.{HasWholeHeader, NoPpmFaultBefore, ppm_read};
 ghost use Rattle.sixel_model.specs.Profiles.{count_of};
 ghost use Rattle.sixel_run.specs.declared.fault.RunFault.TheVariants.{Read};
 ghost use Rattle.sixel_run.specs.Outputs.{CountsWrites, EncodeGives, WroteBy, WroteNothing, failures_by};
@@ -25,6 +25,8 @@ pub fn encode<S: Source, K: Sink>(
         (K.state output.old).taken (K.state output.new).taken) }
     ensures memory { result ≡ Err RunFault.OutOfMemory → IfSome (S.state input.old).remaining HasWholeHeader }
     ensures reads { (S.state input.new).failures ≡ failures_by Read result (S.state input.old).failures }
+    ensures unread { result ≡ Err Read → IfSome (S.state input.old).remaining
+        (NoPpmFaultBefore (ppm_read (count_of profile)) (S.state input.new).remaining) }
     ensures writes { CountsWrites result (K.state output.old).failures (K.state output.new).failures }
 {
     let picture = read_ppm(alloc, profile, input)?;

@@ -1,14 +1,22 @@
 use Rattle.sixel_model.specs.Profiles.{count_of}
-use Rattle.sixel_run.specs.Outputs.{CheckGives, MendGives, RenderGives, ShowBoxGives, ShowGives, SurveyGives, mending}
+use Rattle.sixel_ppm.specs.PpmReading.{NoPpmFaultBefore, ppm_read}
+use Rattle.sixel_run.specs.Outputs.{CheckGives, EncodeGives, MendGives, RenderGives, ShowBoxGives, ShowGives}
+use Rattle.sixel_run.specs.Outputs.{SurveyGives, mending}
 use Rattle.sixel_run.specs.Screens.{screen_terminal, show_choices, show_terminal}
-use Rattle.sixel_run.proofs.RunLemmas.{unread}
+use Rattle.sixel_run.proofs.RunLemmas.{unread, unread_by}
 use Rattle.sixel_run.proofs.running.perform.Goals as goal
 
 pub returns-in-Scan-clause-wrote : goal.returns-in-Scan-clause-wrote
 returns-in-Scan-clause-wrote g c = rw c.in-Scan.is c.scan.ensures.wrote
 
 pub returns-in-Encode-clause-wrote : goal.returns-in-Encode-clause-wrote
-returns-in-Encode-clause-wrote g c = rw c.in-Encode.is c.encode.ensures.wrote
+returns-in-Encode-clause-wrote g c =
+    rw c.in-Encode.is
+    (unread_by
+    (NoPpmFaultBefore (ppm_read (count_of c.in-Encode.profile)) (g.S.Source.state c.encode.new.input).remaining)
+    (λ bytes. EncodeGives (count_of c.in-Encode.profile) bytes) (g.S.Source.state c.args.input.now).remaining
+    (g.K.Sink.state c.args.output.now).taken (g.K.Sink.state c.encode.new.output).taken c.encode.result
+    c.encode.ensures.wrote c.encode.ensures.unread)
 
 pub returns-in-Check-clause-memory : goal.returns-in-Check-clause-memory
 returns-in-Check-clause-memory g c = rw c.in-Check.is c.check.ensures.memory
@@ -49,7 +57,9 @@ returns-in-Render-clause-wrote g c =
 pub returns-in-Mend-clause-wrote : goal.returns-in-Mend-clause-wrote
 returns-in-Mend-clause-wrote g c =
     rw c.in-Mend.is
-    (unread (λ bytes. MendGives (count_of c.in-Mend.profile) (mending c.in-Mend.background c.in-Mend.showing c.in-Mend.selects) bytes)
+    (unread
+    (λ bytes. MendGives (count_of c.in-Mend.profile)
+    (mending c.in-Mend.background c.in-Mend.showing c.in-Mend.selects) bytes)
     (g.S.Source.state c.args.input.now).remaining (g.S.Source.state c.mend.new.input).remaining
     (g.K.Sink.state c.args.output.now).taken (g.K.Sink.state c.mend.new.output).taken c.mend.result
     c.mend.ensures.wrote c.mend.ensures.unread)
@@ -57,7 +67,9 @@ returns-in-Mend-clause-wrote g c =
 pub returns-in-Show-clause-wrote : goal.returns-in-Show-clause-wrote
 returns-in-Show-clause-wrote g c =
     rw c.in-Show.is
-    (unread (λ bytes. ShowGives (show_terminal c.in-Show.profile (show_choices c.in-Show.showing c.in-Show.fill c.in-Show.selects c.in-Show.width c.in-Show.height)) bytes)
+    (unread
+    (λ bytes. ShowGives (show_terminal c.in-Show.profile
+    (show_choices c.in-Show.showing c.in-Show.fill c.in-Show.selects c.in-Show.width c.in-Show.height)) bytes)
     (g.S.Source.state c.args.input.now).remaining (g.S.Source.state c.show.new.input).remaining
     (g.K.Sink.state c.args.output.now).taken (g.K.Sink.state c.show.new.output).taken c.show.result
     (rw c.show_choices-choices.ensures at c.show.ensures.wrote) c.show.ensures.unread)
@@ -65,7 +77,9 @@ returns-in-Show-clause-wrote g c =
 pub returns-in-ShowBox-clause-wrote : goal.returns-in-ShowBox-clause-wrote
 returns-in-ShowBox-clause-wrote g c =
     rw c.in-ShowBox.is
-    (unread (λ bytes. ShowBoxGives (screen_terminal c.in-ShowBox.profile c.in-ShowBox.showing c.in-ShowBox.fill c.in-ShowBox.selects) bytes)
+    (unread
+    (λ bytes. ShowBoxGives
+    (screen_terminal c.in-ShowBox.profile c.in-ShowBox.showing c.in-ShowBox.fill c.in-ShowBox.selects) bytes)
     (g.S.Source.state c.args.input.now).remaining (g.S.Source.state c.show_box.new.input).remaining
     (g.K.Sink.state c.args.output.now).taken (g.K.Sink.state c.show_box.new.output).taken c.show_box.result
     c.show_box.ensures.wrote c.show_box.ensures.unread)

@@ -1,7 +1,7 @@
 use Rattle.std.proofs.Common.{ℕ, []}
 use Rattle.std.proofs.lemmas.Result.{err_from_is_err_and}
-use Rattle.sixel_ppm.proofs.PpmReadLemmas.{between, ppm_finished, ppm_refused, samples_fault_counts, started_scaled}
-use Rattle.sixel_ppm.proofs.PpmReadLemmas.{started_sides, started_within}
+use Rattle.sixel_ppm.proofs.PpmReadLemmas.{between, ppm_finished, ppm_refused, ppm_unread, samples_fault_counts}
+use Rattle.sixel_ppm.proofs.PpmReadLemmas.{started_scaled, started_sides, started_within}
 use Rattle.sixel_ppm.proofs.ppm.read.read_ppm.Goals as goal
 
 pub new-requires-clause-sides : goal.new-requires-clause-sides
@@ -49,3 +49,11 @@ returns-clause-bytes g c =
 
 pub returns-clause-failures : goal.returns-clause-failures
 returns-clause-failures g c = rw c.in_ok-started.ensures.failures at c.read_samples.ensures.failures
+
+pub returns-clause-unread : goal.returns-clause-unread
+returns-clause-unread g c = λ is.
+    ppm_unread _ _ _ _ c.read_header.new.piece c.in_ok-started.started c.in_ok-samples.samples c.feed.new.self _
+    (between c.in_ok-started.started.start c.in_ok-started.started.end c.read_header.new.piece
+    c.in_ok-started.ensures.started.ordered)
+    c.in_ok-started.ensures.started
+    c.in_ok-samples.ensures c.in_ok-feed.ensures.read (c.read_samples.ensures.unread is)

@@ -1,8 +1,9 @@
 use Rattle.std.proofs.Common.{ℕ, ◌≡◌, ◌<◌, ◌∙◌, length, refl, take, arith}
 use Rattle.std.proofs.lemmas.Result.{err_from_is_err_and}
 use Rattle.sixel_grammar.proofs.SourceLemmas.{take_none}
-use Rattle.sixel_ppm.proofs.PpmReadLemmas.{answered, holds_on, in_samples_still, samples_begin}
-use Rattle.sixel_ppm.proofs.PpmReadLemmas.{samples_fault_counts, samples_finished, samples_go_on, samples_refused}
+use Rattle.sixel_ppm.proofs.PpmReadLemmas.{answered, holds_on, in_samples_still, kept_by, never_read}
+use Rattle.sixel_ppm.proofs.PpmReadLemmas.{samples_begin, samples_fault_counts, samples_finished, samples_go_on}
+use Rattle.sixel_ppm.proofs.PpmReadLemmas.{samples_refused, samples_unread}
 use Rattle.sixel_ppm.proofs.ppm.read.read_samples.Goals as goal
 
 pub loop-samples-init : goal.loop-samples-init
@@ -53,3 +54,17 @@ loop-samples-preserved g c =
           bytes.0 c.in_ok-feed.ensures.read,
       failures ∙ c.loop-samples.invariant.1,
     )
+
+pub returns-in_err-count-clause-unread : goal.returns-in_err-count-clause-unread
+returns-in_err-count-clause-unread g c = λ is.
+    samples_unread _ _ _ c.args.begun c.loop-samples.samples c.loop-samples.invariant.0
+    c.loop-samples.samples.partial_is_good
+    (kept_by _ _ _ _ _ _ c.in_err-count.was c.map_err.ensures.cases c.fill.ensures.bytes)
+
+pub returns-in_err-feed-clause-unread : goal.returns-in_err-feed-clause-unread
+returns-in_err-feed-clause-unread g c = λ is.
+    let exit = c.from_residual-in_err-feed in
+    let failed = err_from_is_err_and exit.result exit.ensures.1 in
+    never_read c.loop-samples.samples c.in_err-feed.field-0.0 (take c.in_ok-count.count c.fill.new.piece)
+    (holds_on _ _ c.args.begun c.loop-samples.samples c.loop-samples.invariant.0 c.requires)
+    c.in_err-feed.ensures.failed (cc (is, failed.1, failed.2))
