@@ -13,6 +13,7 @@ mod scanned;
 mod surveyed;
 mod system;
 mod tasks;
+mod told;
 mod twice;
 
 use crate::ends::{CHECK, NO_TERMINALS};

@@ -1,6 +1,6 @@
 //! How the arguments of the process are read.
 
-ghost use Rattle.std.specs.Prelude.{None};
+ghost use Rattle.std.specs.Prelude.{◌≡◌, ◌≤◌, Some, length, map, take};
 
 use crate::words::answered;
 use sixel_words::{Arguments, arguments_of, task_in};
@@ -8,26 +8,32 @@ use std::alloc::{AllocError, Global};
 use std::env::FillError;
 use std::test::Fail;
 
-/// Arguments in memory.
+/// Arguments in memory, which are told.
 #[derive(Clone, Copy)]
 struct Given<'a> {
     arguments: &'a [&'a [u8]],
 }
 
+/// Writes the bytes over the first of the room.
+fn put_front(room: &mut [u8], bytes: &[u8])
+    requires { length bytes.now ≤ length room.old }
+    ensures { take (length bytes.now) room.new ≡ bytes.now }
+{
+    room[..bytes.len()].copy_from_slice(bytes);
+}
+
 impl Arguments for Given<'_> {
-    ghost given = { λ g. None };
+    ghost given = { λ g. Some (map (λ a. a.now) g.arguments.now) };
 
     fn copy(&self, index: usize, room: &mut [u8]) -> Result<usize, FillError> {
         let Some(argument) = self.arguments.get(index) else {
             return Err(FillError::NotPresent);
         };
-        match room.get_mut(..argument.len()) {
-            Some(front) => {
-                front.copy_from_slice(argument);
-                Ok(argument.len())
-            }
-            None => Err(FillError::TooLong),
+        if room.len() < argument.len() {
+            return Err(FillError::TooLong);
         }
+        put_front(room, argument);
+        Ok(argument.len())
     }
 }
 
@@ -55,6 +61,18 @@ fn reads_the_arguments(rt: HostRuntime) -> Result<(), Fail> {
     for (arguments, words) in rows {
         assert!(rt; read(rt.alloc(), arguments)?.as_str() == words, "{words}");
     }
+    Ok(())
+}
+
+/// However many there are.
+#[test]
+fn reads_many_arguments(rt: HostRuntime) -> Result<(), Fail> {
+    let arguments = vec![in rt.alloc(); b"a".as_slice(); 70_000]?;
+    let given = Given {
+        arguments: arguments.as_slice(),
+    };
+    let words = arguments_of(rt.alloc(), &given)?;
+    assert!(rt; words.len() == 70_000 && words[69_999].as_str() == "a");
     Ok(())
 }
 

@@ -1,0 +1,51 @@
+use Rattle.std.proofs.Common.{◌≡◌, ◌∙◌, ℕ, Bool, false, if◌then◌else◌, List, [], ◌∷◌, ◌++◌, Option, Some, Ok, Err}
+use Rattle.std.proofs.Common.{ap, refl, subst}
+use Rattle.std.specs.Prelude.{map}
+use Rattle.std.specs.List.{All}
+use Rattle.std.specs.Str.{bytes_eq}
+use Rattle.std.specs.String.{string_bytes}
+use Rattle.std.proofs.lemmas.List.Elements.{All-head}
+use Rattle.std.proofs.lemmas.Slice.Eq.{bytes_eq-Decides}
+use Rattle.sixel_model.specs.declared.profile.Profile.TheVariants.{Registers16}
+use Rattle.sixel_program.specs.Files.{IsDoneOver, is_dash, names_read, told_of}
+use Rattle.sixel_program.specs.Openings.{Told, bytes_told}
+use Rattle.sixel_program.specs.declared.folder.Unopened.TheVariants.{NotFound}
+use Rattle.sixel_run.specs.Outputs.{Gives}
+use Rattle.sixel_run.specs.Texts.{Text}
+use Rattle.sixel_run.specs.declared.task.Status.TheVariants.{Done}
+use Rattle.sixel_run.specs.declared.task.Task.TheVariants.{Check}
+use Rattle.sixel_program_tests.proofs.files.told.checked.Goals as goal
+
+-- a check of one file that a folder tells is done over what it tells
+done_alone : (contents : Text → Option (List ℕ)) (input : Option (List ℕ)) (names : List Text) (name : Text)
+    (bytes : List ℕ) → names ≡ name ∷ [] → is_dash name ≡ false → contents name ≡ Some bytes
+    → All (λ n. IsDoneOver (Check Registers16) (told_of contents input n)) (names_read (Check Registers16) names)
+    → (text : Text) × Gives (Check Registers16) bytes text (Ok Done)
+done_alone contents input names name bytes one file tells all =
+    let told : told_of contents input name ≡ Some bytes =
+    ap (λ (b : Bool). if b then input else contents name) file ∙ tells in
+    let here = All-head (λ n. IsDoneOver (Check Registers16) (told_of contents input n)) name []
+    (subst (λ (ns : List Text).
+    All (λ n. IsDoneOver (Check Registers16) (told_of contents input n)) (names_read (Check Registers16) ns)) one
+    all) in
+    subst (IsDoneOver (Check Registers16)) told here
+
+tells_it : (name : Text) (bytes : List ℕ)
+    → bytes_told (if bytes_eq name name then Some (Ok bytes) else Some (Err NotFound)) ≡ Some bytes
+tells_it name bytes =
+    let told = λ (b : Bool). let t : Told = if b then Some (Ok bytes) else Some (Err NotFound) in bytes_told t in
+    ap told ((bytes_eq-Decides name name).1 refl)
+
+pub returns : goal.returns
+returns c = λ is.
+    let name = c.args.file.name.now in
+    let bytes = c.args.file.bytes.now in
+    let text = c.in_ok-from_str.field-0 in
+    let pushed : c.push.new.self.items ≡ c.new-files.result.items ++ text ∷ [] =
+    rw c.in_ok-push.was at c.push.ensures.items in
+    done_alone
+    (λ other. bytes_told (if bytes_eq other name then Some (Ok bytes) else Some (Err NotFound)))
+    _ (map string_bytes c.push.new.self.items) name bytes
+    (ap (map string_bytes) (pushed ∙ ap (λ items. items ++ text ∷ []) c.new-files.ensures.items)
+    ∙ ap (λ (t : Text). t ∷ []) c.in_ok-from_str.ensures.ok)
+    c.requires (tells_it name bytes) (c.execute.ensures.done is)
