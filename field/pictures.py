@@ -1,4 +1,4 @@
-"""What `field/producers` and `field/terminals` share: the program, the versions of packages, and pictures."""
+"""What the scripts of this folder share: the program, the versions of packages, and pictures."""
 import os
 import pathlib
 import re
@@ -36,6 +36,21 @@ def unlike(one, other, tolerance=0):
     """How many pixels differ by more than that in one of their samples."""
     red, green, blue = ImageChops.difference(one, other).split()
     return sum(ImageChops.lighter(ImageChops.lighter(red, green), blue).histogram()[tolerance + 1:])
+
+
+# A picture of one colour, 24 by 12.
+MARK = b'\x1bPq"1;1;24;12#1;2;100;0;100#1!24~-!24~\x1b\\'
+
+
+def find_mark(name, picture):
+    """Where the top left of MARK is on a terminal's screen."""
+    same = ImageChops.difference(picture, Image.new("RGB", picture.size, (255, 0, 255))).convert("L").point(
+        lambda sample: 255 if sample < 3 else 0)
+    box = same.getbbox()
+    # Each pixel is counted: what lies over some of these, as a pointer, would lie over each picture.
+    if not box or (box[2] - box[0], box[3] - box[1]) != (24, 12) or same.histogram()[255] != 24 * 12:
+        raise RuntimeError(f"{name} shows no whole sixel picture: {box}")
+    return box[:2]
 
 
 def cells(*words):

@@ -149,13 +149,16 @@ def wait_for(test, seconds):
 
 
 def xterm(screen, program, background, options):
-    return ["xterm", "-ti", "vt340", "-geometry", "166x169+0+0", "-fn", "fixed", "-b", "0", "-bw", "0", "+sb", "-fg",
-            "white", "-bg", f"#{background}", "-xrm", "XTerm*cursorBlink: false", *options, "-e", *program]
+    # A cell of this font has 6 by 13 pixels.
+    cells = f"{screen.width // 6}x{screen.height // 13}+0+0"
+    return ["xterm", "-ti", "vt340", "-geometry", cells, "-fn", "fixed", "-b", "0", "-bw", "0", "+sb", "-fg", "white",
+            "-bg", f"#{background}", "-xrm", "XTerm*cursorBlink: false", *options, "-e", *program]
 
 
 def mlterm(screen, program, background, options):
     # A cell of this font has 10 by 22 pixels.
-    return ["mlterm", "--type=xcore", "--fontsize=16", "--geometry=100x100+0+0", "--sbmod=none", "--borderless=true",
+    cells = f"{screen.width // 10}x{screen.height // 22}+0+0"
+    return ["mlterm", "--type=xcore", "--fontsize=16", f"--geometry={cells}", "--sbmod=none", "--borderless=true",
             "--fg=white", f"--bg=#{background}", *options, "-e", *program]
 
 
