@@ -90,40 +90,45 @@ def nearest(define):
 
 # xterm 379, as a VT340.
 
+XTERM_LARGEST = 1000
 XTERM_START = """000000 3333cc cc2121 33cc33 cc33cc 33cccc cccc33 878787 424242 545499 994242 549954 995499 549999 999954
 cccccc""".split()
 
 
 def xterm(events):
-    """A definition doesn't select. A number out of range, an unknown colour system or a ratio with 0 ends the string; the
-    rest of it isn't drawn. A hue is taken down to a multiple of 60."""
-    given, box, begun = [], None, False
+    """A definition doesn't select. A number out of range, an unknown colour system, a ratio with 0, or a side that is 0 or
+    above 1,000 ends the string: what was drawn before stays, and the rest isn't drawn. A hue is taken down to a multiple
+    of 60."""
+    given, box, begun, x, band = [], (0, 0), False, 0, 0
     filled = second(events) != 1
     for number, event in enumerate(events):
         kind, *numbers = event
         if kind in ("start", "end") and numbers[0]:
             raise Unsaid(number, "an 8-bit control")
         if kind == "raster":
-            pan, pad, *sides = numbers
-            if not pan or not pad:
+            pan, pad, width, height = numbers
+            if 0 in (pan, pad) or max(numbers) > XTERM_LARGEST or height and not width:
                 break
-            if max(sides) > 1000:
-                given = []
-                break
-            box = sides
+            if not height:
+                raise Unsaid(number, "raster attributes with a height of 0: they end the string if it is written")
+            box = max(box[0], width), max(box[1], height)
         elif kind == "define":
-            plain = nearest(event)
-            if plain != event:
+            if max(numbers) > 32767:
+                raise Unsaid(number, "a number above 32,767")
+            if nearest(event) != event:
                 break
             hue = numbers[2] // 60 * 60 if numbers[1] == HUE else numbers[2]
             given.append((kind, numbers[0] % 1024, numbers[1], hue, *numbers[3:]))
         elif kind == "select":
+            if numbers[0] > 32767:
+                raise Unsaid(number, "a number above 32,767")
             given.append((kind, numbers[0] % 1024))
         elif kind == "sixel":
-            if not numbers[0]:
+            count, bits = numbers
+            if not count:
                 raise Unsaid(number, "a repeat of 0")
-            # The last raster attributes before the first sixel declare the box that is filled.
-            if not begun and box and filled:
+            # All raster attributes before the first sixel declare the box that is filled, the largest width and height.
+            if not begun and filled:
                 given.append(("box", *box))
             begun = True
             given.append(event)
@@ -180,15 +185,21 @@ FOOT_PEN, FOOT_UNDEFINED = 1024, 1025
 
 def foot(events):
     """A select takes the register's colour as it is then: the pen. The box is filled with the background, which on a
-    screen of one colour is kept."""
-    given, colours, band = [], {}, 0
-    box = next((event[3:] for event in events if event[0] == "raster"), None)
-    past = box and is_past(events, box[0])
+    screen of one colour is kept. The picture has a size; of a band that ends below its height, the rows below it are
+    lost."""
+    given, colours, wide, high, x, y, painted = [], {}, 0, 0, 0, 0, False
     for number, event in enumerate(events):
         kind, *numbers = event
         if kind == "start" and numbers[0]:
             raise Unsaid(number, "an 8-bit introducer")
-        if kind == "define":
+        if kind == "raster":
+            width, height = numbers[2:]
+            # This is how it compares: the width with the height. At the end they don't count.
+            if width >= max(1, high) and height >= max(1, wide) and events[number + 1][0] != "end":
+                if (width < wide or height < high) and (painted or y):
+                    raise Unsaid(number, "raster attributes that cut off what is painted")
+                wide, high = width, height
+        elif kind == "define":
             plain = nearest(event)
             if plain:
                 colours[min(numbers[0], 1023)] = plain[2:]
@@ -198,29 +209,18 @@ def foot(events):
                 given.append(("define", FOOT_PEN, *colour))
             given.append((kind, FOOT_PEN if colour else FOOT_UNDEFINED))
         elif kind == "sixel":
-            count, bits = numbers
-            # The band in which the box ends is cut there.
-            rows = box[1] - 6 * band if box and not past else 6
-            kept = bits & (1 << rows) - 1 if 0 < rows < 6 else bits
-            given.append((kind, count or 1, kept))
+            count, bits = numbers[0] or 1, numbers[1]
+            x += count
+            wide, high, painted = max(wide, x), high or 6, painted or bits > 0
+            given.append((kind, count, bits & (1 << max(0, min(6, high - y))) - 1))
         elif kind in MOVING:
-            band += kind == "newline"
+            x = 0
+            if kind == "newline":
+                y += 6
+                high = y + 6 if y >= high else high
             given.append(event)
     undefined = BACKGROUND if second(events) == 1 else BLACK
     return Setting(lambda _: undefined, at_end=False, selected=FOOT_UNDEFINED), given
-
-
-def is_past(events, width):
-    """Whether a sixel ends past that width."""
-    x = 0
-    for kind, *numbers in events:
-        if kind == "sixel":
-            x += numbers[0] or 1
-        elif kind in MOVING:
-            x = 0
-        if x > width:
-            return True
-    return False
 
 
 # konsole 22.12.3.
@@ -231,52 +231,53 @@ cccccc""".split()
 
 def konsole(events):
     """A definition selects. The picture is one rectangle from the origin, filled with register 0: as wide and as high as
-    the box and as all that is touched, zero bits too, down to a whole band."""
-    given, box, tall, begun, named, painted = [], None, 1, False, False, False
+    the box and as all that is touched, zero bits too, down to a whole band. It is 30 by 6 if no raster attributes
+    counted. A register above 255 is ignored."""
+    given, box, tall, begun, named, touched, stuck = [], None, 1, False, False, False, False
     x, band, wide, high = 0, 0, 0, 0
     for number, event in enumerate(events):
         kind, *numbers = event
         if kind in ("start", "end") and numbers[0]:
             raise Unsaid(number, "an 8-bit control")
-        following = events[number + 1][0] if kind != "end" else None
-        if kind in NAMING and numbers[0] > 255:
-            raise Unsaid(number, "a register above 255")
-        if kind in (*NAMING, "raster") and following in (*MOVING, "end"):
-            # It waits for the next command, and a move or the end isn't one.
-            begun = begun or kind != "raster"
-            continue
-        if kind in MOVING and not begun:
-            continue
-        begun = begun or kind not in ("start", "end")
-        if kind == "raster":
-            if named or painted:
+        # A select, a definition or raster attributes wait for the next command. A move drops them, and so does the end.
+        waits = kind in (*NAMING, "raster") and events[number + 1][0] in (*MOVING, "end")
+        if kind in MOVING:
+            stuck = False
+            if begun:
+                x, band = 0, band + (kind == "newline")
+                given.append(event)
+        elif kind in NAMING:
+            begun = named = True
+            if waits or stuck:
                 continue
-            pan, pad, *sides = numbers
-            if not all(numbers) or pan % pad:
-                raise Unsaid(number, "raster attributes with a 0, or a ratio that isn't whole")
-            tall, box = pan // pad, box or sides
-        elif kind == "define":
-            named = True
-            if numbers[1] not in (HUE, RGB):
-                raise Unsaid(number, "another colour system")
-            if numbers[1] == RGB and nearest(event) != event:
-                raise Unsaid(number, "a percentage above 100")
-            given += [nearest(event), ("select", numbers[0])]
-        elif kind == "select":
-            named = True
-            given.append(event)
-        elif kind == "sixel":
+            if kind == "select":
+                given += [event] * (numbers[0] < 256)
+                continue
+            # After an unknown colour system all is dropped, up to the next move.
+            stuck = numbers[1] not in (HUE, RGB)
+            if not stuck and numbers[0] < 256:
+                if numbers[1] == RGB and nearest(event) != event:
+                    raise Unsaid(number, "a percentage above 100")
+                given += [nearest(event), ("select", numbers[0])]
+        elif kind == "raster" and not stuck:
+            pan, pad, width, height = numbers
+            if not height:
+                raise Unsaid(number, "raster attributes with a height of 0, or with fewer than four numbers")
+            if not waits and width and not (box or named or touched):
+                if pan and pad and pan % pad:
+                    raise Unsaid(number, "a ratio that isn't whole")
+                tall = pan // pad if pan and pad else 1
+                box = width, height
+            begun = begun or not waits
+        elif kind == "sixel" and not stuck:
             count, bits = numbers[0] or 1, numbers[1]
-            painted = painted or bits > 0
+            begun = touched = True
             x += count
-            wide, high = max(wide, x), max(high, 6 * (band + 1) * tall)
+            wide, high = max(wide, x), max(high, 6 * (band + 1))
             given.append((kind, count, bits))
-        elif kind in MOVING:
-            x, band = 0, band + (kind == "newline")
-            given.append(event)
-    size = max(wide, box[0] if box else 30), max(high, box[1] if box else 0)
     setting = Setting(palette(KONSOLE_START), at_end=True, selected=3, ground=0, tall=tall)
-    return setting, [("box", *size), *given]
+    width, height = box or (30, 6)
+    return setting, [("box", max(wide, width), max(high, height) * tall)] * begun + given
 
 
 READINGS = {"xterm": xterm, "mlterm": mlterm, "foot": foot, "konsole": konsole}
