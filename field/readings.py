@@ -131,8 +131,12 @@ def xterm(events):
             if not begun and filled:
                 given.append(("box", *box))
             begun = True
-            given.append(event)
+            # It paints the first 1,000 columns and rows.
+            rows, columns = max(0, min(6, XTERM_LARGEST - 6 * band)), max(0, min(count, XTERM_LARGEST - x))
+            given.append((kind, columns, bits & (1 << rows) - 1))
+            x += count
         elif kind in MOVING:
+            x, band = 0, band + (kind == "newline")
             given.append(event)
     return Setting(palette(XTERM_START), at_end=True, selected=3, ground=0), given
 
@@ -147,13 +151,13 @@ def palette(words):
 def mlterm(events):
     """A definition selects. The box is never filled. Register 0 starts as the text's colour, others as the
     background."""
-    given, x, box = [], 0, None
+    given, x, band, box = [], 0, 0, (0, 0)
     if second(events) == 5:
         raise Unsaid(0, "it mixes")
     for number, event in enumerate(events):
         kind, *numbers = event
         if kind == "raster":
-            box = box or numbers[2:]
+            box = box if any(box) else numbers[2:]
         elif kind == "define":
             if numbers[1] == 3:
                 raise Unsaid(number, "colour system 3")
@@ -169,11 +173,11 @@ def mlterm(events):
             x += count
             if x > 32767:
                 raise Unsaid(number, "past column 32,767")
-            if bits and x > (box[0] if box else 0) + 512:
-                raise Unsaid(number, "painted far past the box")
+            if bits and (x > box[0] + 512 or 6 * (band + 1) > box[1] + 512):
+                raise Unsaid(number, "painted more than 512 columns or rows past the box")
             given.append(event)
         elif kind in MOVING:
-            x = 0
+            x, band = 0, band + (kind == "newline")
             given.append(event)
     return Setting(lambda register: BACKGROUND if register else TEXT, at_end=False), given
 
@@ -187,7 +191,7 @@ def foot(events):
     """A select takes the register's colour as it is then: the pen. The box is filled with the background, which on a
     screen of one colour is kept. The picture has a size; of a band that ends below its height, the rows below it are
     lost."""
-    given, colours, wide, high, x, y, painted = [], {}, 0, 0, 0, 0, False
+    given, colours, wide, high, x, y, painted = [], {}, 0, 6, 0, 0, False
     for number, event in enumerate(events):
         kind, *numbers = event
         if kind == "start" and numbers[0]:
@@ -195,7 +199,7 @@ def foot(events):
         if kind == "raster":
             width, height = numbers[2:]
             # This is how it compares: the width with the height. At the end they don't count.
-            if width >= max(1, high) and height >= max(1, wide) and events[number + 1][0] != "end":
+            if width >= high and height >= max(1, wide) and events[number + 1][0] != "end":
                 if (width < wide or height < high) and (painted or y):
                     raise Unsaid(number, "raster attributes that cut off what is painted")
                 wide, high = width, height
@@ -211,7 +215,7 @@ def foot(events):
         elif kind == "sixel":
             count, bits = numbers[0] or 1, numbers[1]
             x += count
-            wide, high, painted = max(wide, x), high or 6, painted or bits > 0
+            wide, painted = max(wide, x), painted or bits > 0
             given.append((kind, count, bits & (1 << max(0, min(6, high - y))) - 1))
         elif kind in MOVING:
             x = 0

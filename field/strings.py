@@ -7,11 +7,11 @@ that a piece can be left out.
 import random
 
 # Around the counts of registers that terminals have.
-REGISTERS = [0, 1, 2, 3, 14, 15, 16, 17, 254, 255, 256, 257, 1022, 1023, 1024, 1025, 1279, 1280, 65535]
+REGISTERS = [0, 1, 2, 3, 14, 15, 16, 17, 254, 255, 256, 257, 1022, 1023, 1024, 1025, 1279, 1280]
 FEW = [number for number in REGISTERS if number < 256]
 RATIOS = [(1, 1), (2, 1), (3, 1), (2, 2), (1, 2), (3, 2), (0, 1), (1, 0), (0, 0)]
-WIDTHS = [0, 1, 2, 6, 8, 12, 29, 30, 31, 60, 100, 290]
-HEIGHTS = [0, 1, 5, 6, 7, 12, 13, 18, 40, 190]
+WIDTHS = [1, 2, 5, 6, 7, 8, 12, 13, 29, 30, 31, 60, 100, 290]
+HEIGHTS = [1, 2, 5, 6, 7, 8, 12, 13, 18, 19, 31, 40, 60, 190]
 FILLERS = [b"\n", b"\r\n", b" ", b"\t"]
 WIDEST, BANDS = 280, 14
 ESCAPE_P, ESCAPE_END = b"\x1bP", b"\x1b\\"
@@ -29,9 +29,11 @@ class Writer:
         self.chance, self.missing, self.pieces, self.x, self.band = chance, missing, [], 0, 0
         # What the whole string has is chosen once, so that many strings have none of it.
         self.registers = chance.sample(FEW if self.one_in(2 / 3) else REGISTERS, chance.choice([1, 2, 2, 3, 4]))
+        self.registers += [chance.choice([32768, 65535])] * self.one_in(1 / 60)
         self.odd_colours = self.one_in(1 / 6)
         self.odd_repeats = self.one_in(1 / 20)
         self.odd_ratios = self.one_in(1 / 6)
+        self.odd_sides = self.one_in(1 / 12)
         self.hues = self.one_in(1 / 6)
         self.fillers = self.one_in(1 / 5)
 
@@ -85,11 +87,13 @@ class Writer:
         return b";".join(words)
 
     def raster(self):
-        ratio = self.chance.choice(RATIOS) if self.odd_ratios else (1, 1)
-        width = 1001 if self.one_in(1 / 100) else self.chance.choice(WIDTHS)
-        numbers = [*ratio, width, self.chance.choice(HEIGHTS)]
-        few = [0, 1, 2, 3] if self.missing else [2]
-        self.add(b'"' + self.spelled(numbers[:self.chance.choice([4] * 15 + few)]))
+        numbers = [*(self.chance.choice(RATIOS) if self.odd_ratios else (1, 1)), self.chance.choice(WIDTHS),
+                   self.chance.choice(HEIGHTS)]
+        if self.odd_sides:
+            numbers[self.chance.choice([2, 3])] = 0
+            numbers[2] = self.chance.choice([numbers[2], 1001])
+            numbers = numbers[:self.chance.choice([0, 1, 2, 3, 4] if self.missing else [2, 4, 4, 4])]
+        self.add(b'"' + self.spelled(numbers))
 
     def define(self, register=None):
         if register is None:
