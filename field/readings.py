@@ -149,32 +149,36 @@ def palette(words):
 # mlterm 3.9.0.
 
 def mlterm(events):
-    """A definition selects. The box is never filled. Register 0 starts as the text's colour, others as the
-    background."""
-    given, x, band, box = [], 0, 0, (0, 0)
+    """A definition selects. The box is never filled. Register 0 starts as the text's colour, others as the background; but
+    from about register 450 on those that aren't defined have colours of chance."""
+    given, defined, register, x, band, box = [], set(), 0, 0, 0, (0, 0)
     if second(events) == 5:
         raise Unsaid(0, "it mixes")
     for number, event in enumerate(events):
         kind, *numbers = event
         if kind == "raster":
             box = box if any(box) else numbers[2:]
-        elif kind == "define":
-            if numbers[1] == 3:
-                raise Unsaid(number, "colour system 3")
+        elif kind in NAMING:
             register = numbers[0] if numbers[0] < 1024 else 0
-            plain = nearest((kind, register, *numbers[1:]))
-            given += [plain] * bool(plain) + [("select", register)]
-        elif kind == "select":
-            given.append((kind, numbers[0] if numbers[0] < 1024 else 0))
+            if kind == "define":
+                if numbers[1] == 3:
+                    raise Unsaid(number, "colour system 3")
+                plain = nearest((kind, register, *numbers[1:]))
+                if plain:
+                    given.append(plain)
+                    defined.add(register)
+            given.append(("select", register))
         elif kind == "sixel":
             count, bits = numbers
+            x += count
             if not count:
                 raise Unsaid(number, "a repeat of 0")
-            x += count
-            if x > 32767:
-                raise Unsaid(number, "past column 32,767")
+            if x > 32767 or 6 * band > 32767:
+                raise Unsaid(number, "a sixel past column or row 32,767: the terminal ends")
             if bits and (x > box[0] + 512 or 6 * (band + 1) > box[1] + 512):
-                raise Unsaid(number, "painted more than 512 columns or rows past the box")
+                raise Unsaid(number, "paint more than 512 columns or rows past the box: the terminal may end")
+            if bits and register > 255 and register not in defined:
+                raise Unsaid(number, "paint in a register above 255 that isn't defined")
             given.append(event)
         elif kind in MOVING:
             x, band = 0, band + (kind == "newline")

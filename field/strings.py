@@ -42,7 +42,7 @@ class Writer:
 
     def string(self):
         start = b"\x90" if self.one_in(1 / 40) else ESCAPE_P
-        parameters = [self.chance.randrange(10) for _ in range(self.chance.choice([0, 0, 2, 2, 2, 3, 1]))]
+        parameters = [self.chance.randrange(10) for _ in range(self.chance.choice([0, 0, 0, 1, 2, 3]))]
         self.pieces = [start + self.spelled(parameters) + b"q"]
         if self.one_in(1 / 2):
             self.tidy()
