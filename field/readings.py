@@ -1,13 +1,13 @@
 """What four real terminals show of a sixel string: a model of each, as a reading and a setting. `field/models` compares
 them with the terminals.
 
-A reading turns the events of a string into the events for a plain terminal, or says at which event it ends (Unsaid): what
-the terminal shows from there on isn't in the model. A setting says what the plain terminal is. That one knows four
-things only: a box that it fills, registers with colours, sixels of six set or unset bits, and a place.
+A reading turns the events of a string into the events for a plain terminal, or says at which event it ends (Unsaid):
+what the terminal shows from there on isn't in the model. A setting says what the plain terminal is. That one knows four
+things only: a box that it fills with register 0, registers with colours, sixels of six bits, and a place.
 
-An event is a tuple: ("start", eight, parameters), ("raster", pan, pad, width, height), ("define", register, system, x, y,
-z), ("select", register), ("sixel", count, bits), ("return",), ("newline",), ("end", eight). A sixel without a repeat has
-the count 1. A reading gives ("box", width, height) instead of raster attributes; the others stay.
+An event is a tuple: ("start", eight, parameters), ("raster", pan, pad, width, height), ("define", register, system, x,
+y, z), ("select", register), ("sixel", count, bits), ("return",), ("newline",), ("end", eight). A sixel without a repeat
+has the count 1. A reading gives ("box", width, height) instead of raster attributes; the others stay.
 
 A colour is a tuple of a system and its numbers: HUE and RGB as in a definition, SAMPLES of 255 where a terminal starts
 with a colour that it wasn't told.
@@ -25,7 +25,6 @@ class Unsaid(Exception):
     """The model ends at the event with this number."""
 
     def __init__(self, number, why):
-        super().__init__(f"event {number}: {why}")
         self.number, self.why = number, why
 
 
@@ -35,7 +34,6 @@ class Setting:
     start: Callable             # the colour that a register has at the start
     at_end: bool                # whether a pixel has its register's colour of the end, or the one when it was painted
     selected: int = 0           # the register that is selected at the start
-    ground: int | None = None   # the register that fills a box, if one does
     tall: int = 1               # rows of a sixel pixel
 
 
@@ -53,8 +51,8 @@ def shown(setting, events, width, height):
         for row in screen[top:bottom]:
             row[left:right] = [seen] * len(row[left:right])
     for kind, *numbers in events:
-        if kind == "box" and setting.ground is not None:
-            paint(0, 0, *numbers, setting.ground)
+        if kind == "box":
+            paint(0, 0, *numbers, 0)
         elif kind == "define":
             number, *given = numbers
             colours[number] = tuple(given)
@@ -80,6 +78,13 @@ def second(events):
     return parameters[1] if len(parameters) > 1 else 0
 
 
+def refuse_eight(events):
+    """Ends a model at a control of eight bits, also behind what ends the string."""
+    for number in 0, len(events) - 1:
+        if events[number][1]:
+            raise Unsaid(number, "an 8-bit control")
+
+
 def nearest(define):
     """A definition with each number in its range, by the nearest one; None if its colour system isn't 1 or 2."""
     kind, register, system, x, y, z = define
@@ -89,36 +94,34 @@ def nearest(define):
 
 
 # xterm 379, as a VT340.
-
 XTERM_LARGEST = 1000
-XTERM_START = """000000 3333cc cc2121 33cc33 cc33cc 33cccc cccc33 878787 424242 545499 994242 549954 995499 549999 999954
-cccccc""".split()
+XTERM_START = """000000 3333cc cc2121 33cc33 cc33cc 33cccc cccc33 878787 424242 545499 994242 549954 995499 549999
+999954 cccccc""".split()
 
 
 def xterm(events):
-    """A definition doesn't select. A number out of range, an unknown colour system, a ratio with 0, or a side that is 0 or
-    above 1,000 ends the string: what was drawn before stays, and the rest isn't drawn. A hue is taken down to a multiple
-    of 60."""
+    """A definition doesn't select. A number out of range, an unknown colour system, a ratio with 0, or a side that is 0
+    or above 1,000 ends the string: what was drawn before stays, and the rest isn't drawn. A hue is taken down to a
+    multiple of 60."""
     given, box, begun, x, band = [], (0, 0), False, 0, 0
     filled = second(events) != 1
+    refuse_eight(events)
     for number, event in enumerate(events):
         kind, *numbers = event
-        if kind in ("start", "end") and numbers[0]:
-            raise Unsaid(number, "an 8-bit control")
         if kind == "raster":
             pan, pad, width, height = numbers
             if 0 in (pan, pad) or max(numbers) > XTERM_LARGEST or height and not width:
                 break
             if not height:
-                raise Unsaid(number, "raster attributes with a height of 0: they end the string if it is written")
+                raise Unsaid(number, "raster attributes with a height of 0: if it is written, they end the string")
             box = max(box[0], width), max(box[1], height)
         elif kind == "define":
             if max(numbers) > 32767:
                 raise Unsaid(number, "a number above 32,767")
             if nearest(event) != event:
                 break
-            hue = numbers[2] // 60 * 60 if numbers[1] == HUE else numbers[2]
-            given.append((kind, numbers[0] % 1024, numbers[1], hue, *numbers[3:]))
+            register, system, first, *rest = numbers
+            given.append((kind, register % 1024, system, first // 60 * 60 if system == HUE else first, *rest))
         elif kind == "select":
             if numbers[0] > 32767:
                 raise Unsaid(number, "a number above 32,767")
@@ -127,9 +130,8 @@ def xterm(events):
             count, bits = numbers
             if not count:
                 raise Unsaid(number, "a repeat of 0")
-            # All raster attributes before the first sixel declare the box that is filled, the largest width and height.
-            if not begun and filled:
-                given.append(("box", *box))
+            # The first sixel fills the box: the largest width and the largest height before it.
+            given += [("box", *box)] * (filled and not begun)
             begun = True
             # It paints the first 1,000 columns and rows.
             rows, columns = max(0, min(6, XTERM_LARGEST - 6 * band)), max(0, min(count, XTERM_LARGEST - x))
@@ -138,7 +140,7 @@ def xterm(events):
         elif kind in MOVING:
             x, band = 0, band + (kind == "newline")
             given.append(event)
-    return Setting(palette(XTERM_START), at_end=True, selected=3, ground=0), given
+    return Setting(palette(XTERM_START), at_end=True, selected=3), given
 
 
 def palette(words):
@@ -149,14 +151,17 @@ def palette(words):
 # mlterm 3.9.0.
 
 def mlterm(events):
-    """A definition selects. The box is never filled. Register 0 starts as the text's colour, others as the background; but
-    from about register 450 on those that aren't defined have colours of chance."""
-    given, defined, register, x, band, box = [], set(), 0, 0, 0, (0, 0)
+    """A definition selects. The box is never filled. Register 0 starts as the text's colour, others as the background;
+    but those from 448 on have colours of chance. So have pixels that aren't painted, if the first sixel past the box is
+    both right of it and below it."""
+    given, defined, register, x, band, box, grown = [], set(), 0, 0, 0, (0, 0), False
     if second(events) == 5:
         raise Unsaid(0, "it mixes")
     for number, event in enumerate(events):
         kind, *numbers = event
         if kind == "raster":
+            if not any(numbers):
+                raise Unsaid(number, "raster attributes of zeros: without a number they swallow a byte")
             box = box if any(box) else numbers[2:]
         elif kind in NAMING:
             register = numbers[0] if numbers[0] < 1024 else 0
@@ -179,6 +184,10 @@ def mlterm(events):
                 raise Unsaid(number, "paint more than 512 columns or rows past the box: the terminal may end")
             if bits and register > 255 and register not in defined:
                 raise Unsaid(number, "paint in a register above 255 that isn't defined")
+            right, below = x > box[0], 6 * band >= box[1]
+            if right and below and not grown and any(box):
+                raise Unsaid(number, "the first sixel past the box is both right of it and below it")
+            grown = grown or right or below
             given.append(event)
         elif kind in MOVING:
             x, band = 0, band + (kind == "newline")
@@ -187,7 +196,6 @@ def mlterm(events):
 
 
 # foot 1.13.1. Its pen is one more register, and so is the colour of a register that was never defined.
-
 FOOT_PEN, FOOT_UNDEFINED = 1024, 1025
 
 
@@ -232,21 +240,19 @@ def foot(events):
 
 
 # konsole 22.12.3.
-
-KONSOLE_START = """000000 3333cc cc2323 33cc33 cc33cc 33cccc cccc33 777777 444444 565699 994444 569956 995699 569999 999956
-cccccc""".split()
+KONSOLE_START = """000000 3333cc cc2323 33cc33 cc33cc 33cccc cccc33 777777 444444 565699 994444 569956 995699 569999
+999956 cccccc""".split()
 
 
 def konsole(events):
-    """A definition selects. The picture is one rectangle from the origin, filled with register 0: as wide and as high as
-    the box and as all that is touched, zero bits too, down to a whole band. It is 30 by 6 if no raster attributes
+    """A definition selects. The picture is one rectangle from the origin, filled with register 0: as wide and as high
+    as the box and as all that is touched, zero bits too, down to a whole band. It is 30 by 6 if no raster attributes
     counted. A register above 255 is ignored."""
     given, box, tall, begun, named, touched, stuck = [], None, 1, False, False, False, False
     x, band, wide, high = 0, 0, 0, 0
+    refuse_eight(events)
     for number, event in enumerate(events):
         kind, *numbers = event
-        if kind in ("start", "end") and numbers[0]:
-            raise Unsaid(number, "an 8-bit control")
         # A select, a definition or raster attributes wait for the next command. A move drops them, and so does the end.
         waits = kind in (*NAMING, "raster") and events[number + 1][0] in (*MOVING, "end")
         if kind in MOVING:
@@ -283,7 +289,7 @@ def konsole(events):
             x += count
             wide, high = max(wide, x), max(high, 6 * (band + 1))
             given.append((kind, count, bits))
-    setting = Setting(palette(KONSOLE_START), at_end=True, selected=3, ground=0, tall=tall)
+    setting = Setting(palette(KONSOLE_START), at_end=True, selected=3, tall=tall)
     width, height = box or (30, 6)
     return setting, [("box", max(wide, width), max(high, height) * tall)] * begun + given
 

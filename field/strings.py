@@ -9,7 +9,7 @@ import random
 # Around the counts of registers that terminals have.
 REGISTERS = [0, 1, 2, 3, 14, 15, 16, 17, 254, 255, 256, 257, 1022, 1023, 1024, 1025, 1279, 1280]
 FEW = [number for number in REGISTERS if number < 256]
-RATIOS = [(1, 1), (2, 1), (3, 1), (2, 2), (1, 2), (3, 2), (0, 1), (1, 0), (0, 0)]
+RATIOS = [(1, 1), (2, 1), (3, 1), (2, 2), (1, 2), (3, 2), (0, 2), (2, 0), (0, 0)]
 WIDTHS = [1, 2, 5, 6, 7, 8, 12, 13, 29, 30, 31, 60, 100, 290]
 HEIGHTS = [1, 2, 5, 6, 7, 8, 12, 13, 18, 19, 31, 40, 60, 190]
 FILLERS = [b"\n", b"\r\n", b" ", b"\t"]
@@ -30,9 +30,9 @@ class Writer:
         # What the whole string has is chosen once, so that many strings have none of it.
         self.registers = chance.sample(FEW if self.one_in(2 / 3) else REGISTERS, chance.choice([1, 2, 2, 3, 4]))
         self.registers += [chance.choice([32768, 65535])] * self.one_in(1 / 60)
-        self.odd_colours = self.one_in(1 / 6)
-        self.odd_repeats = self.one_in(1 / 20)
-        self.odd_ratios = self.one_in(1 / 6)
+        self.odd_colours = self.one_in(1 / 8)
+        self.odd_repeats = self.one_in(1 / 40)
+        self.odd_ratios = self.one_in(1 / 4)
         self.odd_sides = self.one_in(1 / 12)
         self.hues = self.one_in(1 / 6)
         self.fillers = self.one_in(1 / 5)
@@ -72,8 +72,8 @@ class Writer:
             self.pieces[self.chance.randint(1, len(self.pieces)):0] = extra.pieces
 
     def any_order(self, most=25):
-        works = [(self.sixel, 9), (self.select, 5), (self.define, 5), (self.raster, 2), (lambda: self.move(b"$"), 3),
-                 (lambda: self.move(b"-"), 3)]
+        works = [(self.sixel, 9), (self.select, 5), (self.define, 5), (self.raster, self.chance.choice([1, 2, 8])),
+                 (lambda: self.move(b"$"), 3), (lambda: self.move(b"-"), 3)]
         for work in self.chance.choices(*zip(*works), k=self.chance.randint(min(most, 2), most)):
             work()
 
