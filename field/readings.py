@@ -153,8 +153,8 @@ def palette(words):
 def mlterm(events):
     """A definition selects. The box is never filled. Register 0 starts as the text's colour, others as the background;
     but those from 448 on have colours of chance. So have pixels that aren't painted, if the first sixel past the box is
-    both right of it and below it."""
-    given, defined, register, x, band, box, grown = [], set(), 0, 0, 0, (0, 0), False
+    both right of it and below it. Of several boxes the least width and height count here."""
+    given, defined, register, x, band, box, grown = [], set(), 0, 0, 0, None, False
     if second(events) == 5:
         raise Unsaid(0, "it mixes")
     for number, event in enumerate(events):
@@ -162,7 +162,7 @@ def mlterm(events):
         if kind == "raster":
             if not any(numbers):
                 raise Unsaid(number, "raster attributes of zeros: without a number they swallow a byte")
-            box = box if any(box) else numbers[2:]
+            box = [min(sides) for sides in zip(box or numbers[2:], numbers[2:])]
         elif kind in NAMING:
             register = numbers[0] if numbers[0] < 1024 else 0
             if kind == "define":
@@ -180,12 +180,13 @@ def mlterm(events):
                 raise Unsaid(number, "a repeat of 0")
             if x > 32767 or 6 * band > 32767:
                 raise Unsaid(number, "a sixel past column or row 32,767: the terminal ends")
-            if bits and (x > box[0] + 512 or 6 * (band + 1) > box[1] + 512):
+            wide, high = box or (0, 0)
+            if bits and (x > wide + 512 or 6 * (band + 1) > high + 512):
                 raise Unsaid(number, "paint more than 512 columns or rows past the box: the terminal may end")
             if bits and register > 255 and register not in defined:
                 raise Unsaid(number, "paint in a register above 255 that isn't defined")
-            right, below = x > box[0], 6 * band >= box[1]
-            if right and below and not grown and any(box):
+            right, below = x > wide, 6 * band >= high
+            if right and below and not grown and box:
                 raise Unsaid(number, "the first sixel past the box is both right of it and below it")
             grown = grown or right or below
             given.append(event)
