@@ -162,7 +162,8 @@ def mlterm(events):
         if kind == "raster":
             if not any(numbers):
                 raise Unsaid(number, "raster attributes of zeros: without a number they swallow a byte")
-            box = [min(sides) for sides in zip(box or numbers[2:], numbers[2:])]
+            if any(numbers[2:]):
+                box = [min(sides) for sides in zip(box or numbers[2:], numbers[2:])]
         elif kind in NAMING:
             register = numbers[0] if numbers[0] < 1024 else 0
             if kind == "define":
