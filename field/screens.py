@@ -1,4 +1,4 @@
-"""Starts a terminal on a screen that nobody sees, sends it bytes, and reads the screen. `terminals` and `models` use it.
+"""Starts a terminal on a screen that nobody sees, sends it bytes, and reads the screen. Two scripts use it.
 
 How fast the machine is doesn't matter: after a string the terminal draws marks, and the screen is read when they were
 seen. Each process that it starts it ends by its own id, in `Screen.close` and `Terminal.close`; it ends no other one.
