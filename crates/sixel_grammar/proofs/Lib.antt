@@ -21,3 +21,4 @@ pub mod SourceLemmas
 pub mod RunLemmas
 pub mod WritableLemmas
 pub mod TotalLemmas
+pub mod FollowingLemmas

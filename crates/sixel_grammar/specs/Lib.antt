@@ -7,6 +7,7 @@ pub mod Spelling
 pub mod Document
 pub mod Prefixes
 pub mod Faults
+pub mod Following
 pub mod Standing
 pub mod Stretches
 pub mod Runs

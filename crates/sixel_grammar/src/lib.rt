@@ -6,6 +6,7 @@
 
 mod command;
 mod fault;
+mod following;
 pub mod laws;
 mod pending;
 mod reader;
@@ -16,6 +17,7 @@ mod writing;
 
 pub use command::{Columns, Command, Completed, Event, Placed, Plain, Run, Stretch, TwoCommands};
 pub use fault::{Fault, InputFault, Reason};
+pub use following::{Follower, Halt, follow_bytes};
 pub use reader::Reader;
 pub use reading::read_all;
 pub use sixel_io::{

@@ -26,7 +26,7 @@ pub declares_end : (seen : List Placed) (p : Placed) → DeclaresBox (events_of 
 declares_end seen p d =
     (length (events_of seen), rw (events_push seen p) (holds_end DeclaresBox (events_of seen) p.event d))
 
-declares_before : (seen : List Placed) (p : Placed) → DeclareBox seen → DeclareBox (seen ++ p ∷ [])
+pub declares_before : (seen : List Placed) (p : Placed) → DeclareBox seen → DeclareBox (seen ++ p ∷ [])
 declares_before seen p d =
     let i : ℕ = d.0 in (
       i,

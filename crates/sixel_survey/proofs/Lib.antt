@@ -7,6 +7,7 @@ pub mod TallyLemmas
 pub mod CoverLemmas
 pub mod HitLemmas
 pub mod DeclareLemmas
+mod FollowLemmas
 pub mod AnswerLemmas
 pub mod TallyingLemmas
 pub mod StretchLemmas

@@ -1,297 +1,81 @@
 //! Surveying the bytes of a document.
 
-ghost use Rattle.std.specs.Prelude.{◌≡◌, ◌≢◌, ◌<◌, ◌≤◌, ◌++◌, ◌∷◌, [], ℕ, List, Err, IfErr, IfOk, IfSome, OnErr, OnOk};
-ghost use Rattle.std.specs.Prelude.{◌+◌, IsTrue, None, length, slice_index, take};
-ghost use Rattle.sixel_grammar.specs.Bytes.{is_data};
-ghost use Rattle.sixel_grammar.specs.Document.{most_bytes};
-ghost use Rattle.sixel_grammar.specs.Runs.{column_events, events_of_run, select_events};
-ghost use Rattle.sixel_grammar.specs.declared.command.Columns.TheVariants.{Sixels as single_sixels};
-ghost use Rattle.sixel_grammar.specs.declared.command.Event.TheVariants.{Step};
-ghost use Rattle.sixel_model.specs.Events.{raster_of};
+ghost use Rattle.std.specs.Prelude.{◌≡◌, ◌≢◌, [], ℕ, List, Err, IfErr, IfSome, OnOk};
 ghost use Rattle.sixel_io.specs.Devices.{ReadsToEnd};
-ghost use Rattle.std.specs.Option.{option_to_list};
 ghost use Rattle.sixel_grammar.specs.Reading.{NoFaultBefore, failures_after};
 ghost use Rattle.sixel_grammar.specs.declared.fault.InputFault.TheVariants.{Read as ReadFault};
-ghost use Rattle.sixel_grammar.specs.Standing.{completions};
 ghost use Rattle.sixel_model.specs.Profiles.{count_of};
 ghost use Rattle.sixel_survey.specs.Answers.{Answers};
-ghost use Rattle.sixel_survey.specs.Declaring.{DeclareBoxIn};
-ghost use Rattle.sixel_survey.specs.Surveying.{AreAfter, DeclaresForBytes, DeclaresOver, RefusesBytes, TakesBytes};
-ghost use Rattle.sixel_survey.specs.Surveying.{TakesEvents, command_at};
+ghost use Rattle.sixel_survey.specs.Declaring.{DeclareBox, DeclareBoxIn};
+ghost use Rattle.sixel_survey.specs.Surveying.{AreAfter, DeclaresForBytes, HasSurveyed, RefusesBytes, TakesBytes};
 
 use crate::entry::Survey;
 use crate::surveyor::Surveyor;
-use sixel_grammar::{Columns, Command, Completed, Event, InputFault, Placed, Plain, Reader, Run};
+use sixel_grammar::{Command, Event, Follower, InputFault, Placed, Reader, follow_bytes};
 use sixel_io::{PIECE, Source};
 use sixel_model::Profile;
 use sixel_plane::{Cover, CoverPlane};
 use std::alloc::{AllocError, Global};
 
-/// Takes an event, if there is one.
-fn take_one<P: Cover>(
-    surveyor: &mut Surveyor<P>,
+/// A surveyor that takes events as they are read, and where it allocates its pixels.
+#[derive(Drop)]
+struct Surveying<P: Cover> {
+    surveyor: Surveyor<P>,
     alloc: Global,
-    placed: Option<Placed>,
-) -> Result<(), AllocError>
-    ensures taken { OnOk result (TakesEvents surveyor.old surveyor.new (option_to_list placed)) }
-    ensures declares { OnErr result (DeclaresOver surveyor.old (option_to_list placed)) }
-{
-    match placed {
-        None => Ok(()),
-        Some(placed) => surveyor.take(alloc, &placed),
+}
+
+impl<P: Cover> Follower for Surveying<P> {
+    type Stop = AllocError;
+
+    ghost has_taken = { λ first now seen. HasSurveyed (count_of first.surveyor.profile) now.surveyor seen };
+
+    ghost may_stop = { λ first stop seen. DeclareBox seen };
+
+    #[inline(never)]
+    fn take(&mut self, placed: &Placed) -> Result<(), AllocError> {
+        self.surveyor.take(self.alloc, placed)
     }
-}
 
-/// Takes the events that a byte completed.
-fn take_completed<P: Cover>(
-    surveyor: &mut Surveyor<P>,
-    alloc: Global,
-    completed: Completed,
-) -> Result<(), AllocError>
-    ensures taken { OnOk result (TakesEvents surveyor.old surveyor.new (completions completed)) }
-    ensures declares { OnErr result (DeclaresOver surveyor.old (completions completed)) }
-{
-    let Completed { first, second } = completed;
-    take_one(surveyor, alloc, first)?;
-    take_one(surveyor, alloc, second)
-}
-
-/// Takes a command. It is inlined, so that a caller that knows the kind keeps only the code for that kind.
-#[inline(always)]
-fn take_command<P: Cover>(
-    surveyor: &mut Surveyor<P>,
-    alloc: Global,
-    place: u64,
-    command: Command,
-) -> Result<(), AllocError>
-    ensures taken { OnOk result (TakesEvents surveyor.old surveyor.new (command_at place command ∷ [])) }
-    ensures declares { OnErr result (DeclaresOver surveyor.old (command_at place command ∷ [])) }
-{
-    let event = Event::Step(command);
-    surveyor.take(alloc, &Placed { place, event })
-}
-
-/// Takes a command of any kind.
-#[inline(never)]
-fn take_rarely<P: Cover>(
-    surveyor: &mut Surveyor<P>,
-    alloc: Global,
-    place: u64,
-    command: Command,
-) -> Result<(), AllocError>
-    ensures taken { OnOk result (TakesEvents surveyor.old surveyor.new (command_at place command ∷ [])) }
-    ensures declares { OnErr result (DeclaresOver surveyor.old (command_at place command ∷ [])) }
-{
-    take_command(surveyor, alloc, place, command)
-}
-
-/// Takes a command that a byte below `?` completed: each kind that is frequent gets its own inlined call.
-#[inline(always)]
-fn take_sign<P: Cover>(
-    surveyor: &mut Surveyor<P>,
-    alloc: Global,
-    place: u64,
-    command: Command,
-) -> Result<(), AllocError>
-    ensures taken { OnOk result (TakesEvents surveyor.old surveyor.new (command_at place command ∷ [])) }
-    ensures declares { OnErr result (DeclaresOver surveyor.old (command_at place command ∷ [])) }
-{
-    match command {
-        Command::CarriageReturn | Command::NextLine => {
-            take_command(surveyor, alloc, place, command)
+    /// Each kind that is frequent gets its own inlined call, with the code for that kind alone.
+    #[inline(always)]
+    fn take_command(&mut self, place: u64, command: Command) -> Result<(), AllocError> {
+        let event = Event::Step(command);
+        match command {
+            Command::CarriageReturn | Command::NextLine => {
+                self.surveyor.take(self.alloc, &Placed { place, event })
+            }
+            Command::Select(_) => self.surveyor.take(self.alloc, &Placed { place, event }),
+            Command::Define { .. } => self.surveyor.take(self.alloc, &Placed { place, event }),
+            _ => self.take(&Placed { place, event }),
         }
-        Command::Select(_) => take_command(surveyor, alloc, place, command),
-        Command::Define { .. } => take_command(surveyor, alloc, place, command),
-        other => take_rarely(surveyor, alloc, place, other),
     }
-}
 
-/// Takes a command that isn't raster attributes: only these allocate.
-#[inline(always)]
-fn take_still<P: Cover>(surveyor: &mut Surveyor<P>, alloc: Global, place: u64, command: Command)
-    requires { raster_of (Step command) ≡ None }
-    ensures { TakesEvents surveyor.old surveyor.new (command_at place command ∷ []) }
-{
-    let event = Event::Step(command);
-    match surveyor.take(alloc, &Placed { place, event }) {
-        Ok(()) => {}
-        Err(_) => {}
+    #[inline(always)]
+    fn take_repeat(&mut self, place: u64, count: u16, bits: u8) -> Result<(), AllocError> {
+        let event = Event::Step(Command::Repeat { count, bits });
+        self.surveyor.take(self.alloc, &Placed { place, event })
     }
-}
 
-/// Takes columns whose first byte has the offset `place`: the first `count` of the bytes.
-#[inline(always)]
-fn take_columns<P: Cover>(
-    surveyor: &mut Surveyor<P>,
-    alloc: Global,
-    place: u64,
-    columns: Columns,
-    bytes: &[u8],
-    count: usize,
-)
-    requires sixels { columns ≡ single_sixels → (k : ℕ) → k < count → IsTrue (is_data (slice_index bytes.now k)) }
-    requires bytes { count ≤ length bytes.now }
-    requires place { place + count ≤ most_bytes }
-    ensures { TakesEvents surveyor.old surveyor.new (column_events place columns (take count bytes.now)) }
-{
-    match columns {
-        Columns::Sixels => surveyor.take_stretch(place, bytes, count),
-        Columns::Repeat { count, bits } => {
-            take_still(surveyor, alloc, place, Command::Repeat { count, bits });
-        }
-        Columns::Missing => {}
+    #[inline(always)]
+    fn take_stretch(&mut self, place: u64, bytes: &[u8], count: usize) -> Result<(), AllocError> {
+        self.surveyor.take_stretch(place, bytes, count);
+        Ok(())
     }
-}
-
-/// Takes a select, if there is one.
-#[inline(always)]
-fn take_select<P: Cover>(surveyor: &mut Surveyor<P>, alloc: Global, place: u64, select: Option<u16>)
-    ensures { TakesEvents surveyor.old surveyor.new (select_events place select) }
-{
-    match select {
-        Some(register) => take_still(surveyor, alloc, place, Command::Select(register)),
-        None => {}
-    }
-}
-
-/// Takes the run at the beginning of the bytes.
-#[inline(always)]
-fn take_run<P: Cover>(surveyor: &mut Surveyor<P>, alloc: Global, run: Run, bytes: &[u8])
-    requires sixels { run.columns ≡ single_sixels → (k : ℕ) → run.start ≤ k → k < run.length
-        → IsTrue (is_data (slice_index bytes.now k)) }
-    requires within { (run.start < run.length) × (run.length ≤ length bytes.now) }
-    requires limit { run.place + run.length ≤ most_bytes }
-    ensures { TakesEvents surveyor.old surveyor.new (events_of_run run bytes.now) }
-{
-    take_select(surveyor, alloc, run.place, run.select);
-    let columns = &bytes[run.start..];
-    take_columns(
-        surveyor,
-        alloc,
-        run.place + run.start as u64,
-        run.columns,
-        columns,
-        run.length - run.start,
-    );
-}
-
-/// Reads one byte of any kind, and takes the events that it completes.
-#[inline(never)]
-fn read_byte<P: Cover>(
-    reader: &mut Reader,
-    surveyor: &mut Surveyor<P>,
-    alloc: Global,
-    byte: u8,
-) -> Result<(), InputFault>
-    ensures read { OnOk result (TakesBytes reader.old surveyor.old reader.new surveyor.new (byte ∷ [])) }
-    ensures refused { IfErr result (RefusesBytes reader.old surveyor.old (byte ∷ [])) }
-    ensures memory { IfErr result (DeclaresForBytes reader.old surveyor.old (byte ∷ [])) }
-{
-    let completed = reader.feed(byte)?;
-    Ok(take_completed(surveyor, alloc, completed)?)
-}
-
-/// As `read_byte`. The result has a local of its own here, so that the fast paths write no memory for it.
-#[inline(always)]
-fn read_otherwise<P: Cover>(
-    reader: &mut Reader,
-    surveyor: &mut Surveyor<P>,
-    alloc: Global,
-    byte: u8,
-) -> Result<(), InputFault>
-    ensures read { OnOk result (TakesBytes reader.old surveyor.old reader.new surveyor.new (byte ∷ [])) }
-    ensures refused { IfErr result (RefusesBytes reader.old surveyor.old (byte ∷ [])) }
-    ensures memory { IfErr result (DeclaresForBytes reader.old surveyor.old (byte ∷ [])) }
-{
-    read_byte(reader, surveyor, alloc, byte)
-}
-
-/// Reads one byte, and takes the events that it completes. It is for bytes below `?`.
-#[inline(always)]
-fn read_sign<P: Cover>(
-    reader: &mut Reader,
-    surveyor: &mut Surveyor<P>,
-    alloc: Global,
-    byte: u8,
-) -> Result<(), InputFault>
-    ensures read { OnOk result (TakesBytes reader.old surveyor.old reader.new surveyor.new (byte ∷ [])) }
-    ensures refused { IfErr result (RefusesBytes reader.old surveyor.old (byte ∷ [])) }
-    ensures memory { IfErr result (DeclaresForBytes reader.old surveyor.old (byte ∷ [])) }
-{
-    match reader.feed_command(byte) {
-        Some(Plain::Nothing) => Ok(()),
-        Some(Plain::Command { place, command }) => Ok(take_sign(surveyor, alloc, place, command)?),
-        None => read_otherwise(reader, surveyor, alloc, byte),
-    }
-}
-
-/// Reads one byte, and takes the events that it completes. It is for data bytes while a command is open.
-#[inline(always)]
-fn read_data<P: Cover>(
-    reader: &mut Reader,
-    surveyor: &mut Surveyor<P>,
-    alloc: Global,
-    byte: u8,
-) -> Result<(), InputFault>
-    ensures read { OnOk result (TakesBytes reader.old surveyor.old reader.new surveyor.new (byte ∷ [])) }
-    ensures refused { IfErr result (RefusesBytes reader.old surveyor.old (byte ∷ [])) }
-    ensures memory { IfErr result (DeclaresForBytes reader.old surveyor.old (byte ∷ [])) }
-{
-    match reader.feed_plain(byte) {
-        Some(Plain::Nothing) => Ok(()),
-        Some(Plain::Command { place, command }) => {
-            Ok(take_rarely(surveyor, alloc, place, command)?)
-        }
-        None => read_otherwise(reader, surveyor, alloc, byte),
-    }
-}
-
-/// Reads the columns at the beginning of `bytes`, perhaps after a select, or else one byte. Returns how many bytes it
-/// read.
-#[inline(always)]
-fn read_run_or_byte<P: Cover>(
-    reader: &mut Reader,
-    surveyor: &mut Surveyor<P>,
-    alloc: Global,
-    bytes: &[u8],
-) -> Result<usize, InputFault>
-    requires some { 0 < length bytes.now }
-    ensures some { IfOk result (λ count. 0 < count) }
-    ensures within { IfOk result (λ count. count ≤ length bytes.now) }
-    ensures read { IfOk result (λ count.
-        TakesBytes reader.old surveyor.old reader.new surveyor.new (take count bytes.now)) }
-    ensures refused { IfErr result (RefusesBytes reader.old surveyor.old (take 1 bytes.now)) }
-    ensures memory { IfErr result (DeclaresForBytes reader.old surveyor.old (take 1 bytes.now)) }
-{
-    if let Some(run) = reader.feed_run(bytes) {
-        take_run(surveyor, alloc, run, bytes);
-        return Ok(run.length);
-    }
-    // No byte below `?` is data, so the compiler drops the code for data from this branch.
-    if bytes[0] < b'?' {
-        read_sign(reader, surveyor, alloc, bytes[0])?;
-    } else {
-        read_data(reader, surveyor, alloc, bytes[0])?;
-    }
-    Ok(1)
 }
 
 /// Reads the bytes of a piece.
 fn read_piece<P: Cover>(
     reader: &mut Reader,
-    surveyor: &mut Surveyor<P>,
-    alloc: Global,
+    surveying: &mut Surveying<P>,
     piece: &[u8],
 ) -> Result<(), InputFault>
-    ensures read { OnOk result (TakesBytes reader.old surveyor.old reader.new surveyor.new piece.now) }
-    ensures refused { IfErr result (RefusesBytes reader.old surveyor.old piece.now) }
-    ensures memory { IfErr result (DeclaresForBytes reader.old surveyor.old piece.now) }
+    requires { (registers : ℕ) × (prefix : List ℕ) × AreAfter registers reader.old surveying.old.surveyor prefix }
+    ensures read { OnOk result (TakesBytes reader.old surveying.old.surveyor reader.new surveying.new.surveyor
+        piece.now) }
+    ensures refused { IfErr result (RefusesBytes reader.old surveying.old.surveyor piece.now) }
+    ensures memory { IfErr result (DeclaresForBytes reader.old surveying.old.surveyor piece.now) }
 {
-    let mut read = 0;
-    while read < piece.len() {
-        read += read_run_or_byte(reader, surveyor, alloc, &piece[read..])?;
-    }
-    Ok(())
+    Ok(follow_bytes(reader, surveying, piece)?)
 }
 
 /// A reader and a surveyor before any byte.
@@ -334,12 +118,13 @@ pub fn survey<S: Source>(
         → DeclareBoxIn bytes) }
 {
     let mut piece = [0u8; PIECE];
-    let (mut reader, mut surveyor) = nothing_read(profile);
+    let (mut reader, surveyor) = nothing_read(profile);
+    let mut surveying = Surveying { surveyor, alloc };
     loop {
         let count = input.fill(&mut piece)?;
         if count == 0 {
-            return conclude(&reader, surveyor);
+            return conclude(&reader, surveying.surveyor);
         }
-        read_piece(&mut reader, &mut surveyor, alloc, &piece[..count])?;
+        read_piece(&mut reader, &mut surveying, &piece[..count])?;
     }
 }

@@ -1,43 +1,29 @@
-use Rattle.std.proofs.Common.{ℕ, List, ◌++◌, take, drop, subst, arith}
 use Rattle.std.proofs.lemmas.Result.{err_from_is_err_and}
-use Rattle.sixel_grammar.proofs.SourceLemmas.{refuses-more, take_past}
-use Rattle.sixel_judge.proofs.PieceLemmas.{part_then, rest_of, split_part}
-use Rattle.sixel_survey.specs.Surveying.{AreAfter}
-use Rattle.sixel_survey.proofs.DeclareLemmas.{declares_for_on}
+use Rattle.sixel_survey.proofs.FollowLemmas.{declares_in, followed, refuses_bytes, takes_bytes}
 use Rattle.sixel_survey.proofs.surveying.read_piece.Goals as goal
 
-pub returns-in_err-read-clause-refused : goal.returns-in_err-read-clause-refused
-returns-in_err-read-clause-refused g c =
-    let failed = err_from_is_err_and c.from_residual.result c.from_residual.ensures.1 in
-    rw (failed.1, failed.2)
-    (λ registers prefix a.
-    let h =
-    c.in_err-read.ensures.refused registers (prefix ++ take c.loop-read.read c.args.piece.now)
-    (c.loop-read.invariant registers prefix a) in
-    refuses-more _ _ (drop 1 (rest_of c.loop-read.read c.args.piece.now)) (prefix ++ c.args.piece.now)
-    (split_part prefix c.args.piece.now c.loop-read.read 1) h)
-
-pub returns-in_err-read-clause-memory : goal.returns-in_err-read-clause-memory
-returns-in_err-read-clause-memory g c =
-    let failed = err_from_is_err_and c.from_residual.result c.from_residual.ensures.1 in
-    rw (failed.1, failed.2)
-    (λ registers prefix a.
-    let h =
-    c.in_err-read.ensures.memory registers (prefix ++ take c.loop-read.read c.args.piece.now)
-    (c.loop-read.invariant registers prefix a) in
-    declares_for_on _ _ (drop 1 (rest_of c.loop-read.read c.args.piece.now)) (prefix ++ c.args.piece.now)
-    (split_part prefix c.args.piece.now c.loop-read.read 1) h)
-
-pub loop-read-preserved : goal.loop-read-preserved
-loop-read-preserved g c = λ registers prefix a.
-    let h =
-    c.in_ok-read.ensures.read registers (prefix ++ take c.loop-read.read c.args.piece.now)
-    (c.loop-read.invariant registers prefix a) in
-    subst (λ (t : List ℕ). AreAfter registers c.read_run_or_byte.new.reader c.read_run_or_byte.new.surveyor t)
-    (part_then prefix c.args.piece.now c.loop-read.read c.in_ok-read.field-0) h
+pub follow_bytes-requires : goal.follow_bytes-requires
+follow_bytes-requires g c = (
+  c.args.surveying.now,
+  c.requires.1,
+  followed (λ s. s.surveyor) c.requires.0 c.args.reader.now c.args.surveying.now c.requires.1 c.requires.2,
+)
 
 pub returns-clause-read : goal.returns-clause-read
-returns-clause-read g c = λ registers prefix a.
-    let whole = take_past c.loop-read.read c.args.piece.now (omega arith) in
-    subst (λ (t : List ℕ). AreAfter registers c.loop-read.reader c.loop-read.surveyor (prefix ++ t)) whole
-    (c.loop-read.invariant registers prefix a)
+returns-clause-read g c =
+    takes_bytes (λ s. s.surveyor) c.args.reader.now c.follow_bytes.new.reader c.args.surveying.now
+    c.follow_bytes.new.follower c.args.piece.now c.in_ok-follow_bytes.ensures.followed
+
+pub returns-in_err-follow_bytes-clause-refused : goal.returns-in_err-follow_bytes-clause-refused
+returns-in_err-follow_bytes-clause-refused g c =
+    let failed = err_from_is_err_and c.from_residual.result c.from_residual.ensures.1 in
+    rw (failed.1, failed.2)
+    (refuses_bytes (λ s. s.surveyor) c.args.reader.now c.follow_bytes.new.reader c.args.surveying.now c.args.piece.now
+    c.in_err-follow_bytes.field-0.0 c.in_err-follow_bytes.ensures.halted)
+
+pub returns-in_err-follow_bytes-clause-memory : goal.returns-in_err-follow_bytes-clause-memory
+returns-in_err-follow_bytes-clause-memory g c =
+    let failed = err_from_is_err_and c.from_residual.result c.from_residual.ensures.1 in
+    rw (failed.1, failed.2)
+    (declares_in (λ s. s.surveyor) c.args.reader.now c.follow_bytes.new.reader c.args.surveying.now c.args.piece.now
+    c.in_err-follow_bytes.field-0.0 c.in_err-follow_bytes.ensures.halted)

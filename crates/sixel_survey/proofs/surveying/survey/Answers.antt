@@ -16,8 +16,8 @@ use Rattle.sixel_survey.proofs.AnswerLemmas.{fault_declares, fault_reads, none_e
 use Rattle.sixel_survey.proofs.AnswerLemmas.{read_declares}
 use Rattle.sixel_survey.proofs.surveying.survey.Goals as goal
 
-pub loop-surveyor-init : goal.loop-surveyor-init
-loop-surveyor-init g c = (
+pub loop-surveying-init : goal.loop-surveying-init
+loop-surveying-init g c = (
   [],
   c.nothing_read-reader.ensures,
   Consumes-nil (g.S.Source.state c.args.input.now).remaining,
@@ -28,7 +28,7 @@ loop-surveyor-init g c = (
 
 pub returns-in_err-count : goal.returns-in_err-count
 returns-in_err-count g c =
-    let i = c.loop-surveyor.invariant in
+    let i = c.loop-surveying.invariant in
     let a = (g.S.Source.state c.args.input.now).remaining in
     let r = c.from_residual.result in
     let failed = err_from_is_err_and r c.from_residual.ensures.1 in
@@ -36,16 +36,16 @@ returns-in_err-count g c =
     record {
       answer = read_answers _ a r is;
       failures = read_counts (g.S.Source.state c.args.input.now).failures
-          (g.S.Source.state c.loop-surveyor.input).failures (g.S.Source.state c.fill.new.self).failures r is
+          (g.S.Source.state c.loop-surveying.input).failures (g.S.Source.state c.fill.new.self).failures r is
           c.in_err-count.ensures.failures i.3;
       unread = λ e.
-          no_fault_before a (g.S.Source.state c.loop-surveyor.input).remaining
+          no_fault_before a (g.S.Source.state c.loop-surveying.input).remaining
           (g.S.Source.state c.fill.new.self).remaining
-          c.loop-surveyor.reader i.1.events i.0 i.1.read i.2 c.in_err-count.ensures.bytes;
+          c.loop-surveying.reader i.1.events i.0 i.1.read i.2 c.in_err-count.ensures.bytes;
       left = record {
         read = (
           i.0,
-          consumes-kept a (g.S.Source.state c.loop-surveyor.input).remaining
+          consumes-kept a (g.S.Source.state c.loop-surveying.input).remaining
               (g.S.Source.state c.fill.new.self).remaining i.0 i.2 c.in_err-count.ensures.bytes,
         );
         ended = none_ended _ r Read is;
@@ -57,36 +57,36 @@ returns-in_err-count g c =
 
 pub conclude-requires : goal.conclude-requires
 conclude-requires g c =
-    (count_of c.args.profile, c.loop-surveyor.invariant.0, c.loop-surveyor.invariant.1)
+    (count_of c.args.profile, c.loop-surveying.invariant.0, c.loop-surveying.invariant.1)
 
 pub returns-then-count-eq0-clause-answer : goal.returns-then-count-eq0-clause-answer
 returns-then-count-eq0-clause-answer g c =
-    let i = c.loop-surveyor.invariant in
+    let i = c.loop-surveying.invariant in
     let b = c.in_ok-count.ensures.bytes in
     let none : c.in_ok-count.count ≡ 0 = omega arith in
-    told_all (g.S.Source.state c.args.input.now).remaining (g.S.Source.state c.loop-surveyor.input).remaining
+    told_all (g.S.Source.state c.args.input.now).remaining (g.S.Source.state c.loop-surveying.input).remaining
     (g.S.Source.state c.fill.new.self).remaining i.0 c.fill.new.piece c.in_ok-count.count
     (Answers (count_of c.args.profile) c.conclude.result) i.2 b.0
     none (b.1 none (omega arith)) (c.conclude.ensures.answer _ i.0 i.1)
 
 pub returns-then-count-eq0-clause-failures : goal.returns-then-count-eq0-clause-failures
 returns-then-count-eq0-clause-failures g c =
-    end_counts (g.S.Source.state c.args.input.now).failures (g.S.Source.state c.loop-surveyor.input).failures
+    end_counts (g.S.Source.state c.args.input.now).failures (g.S.Source.state c.loop-surveying.input).failures
     (g.S.Source.state c.fill.new.self).failures c.conclude.result c.conclude.ensures.never_read
-    c.in_ok-count.ensures.failures c.loop-surveyor.invariant.3
+    c.in_ok-count.ensures.failures c.loop-surveying.invariant.3
 
 pub returns-then-count-eq0-clause-unread : goal.returns-then-count-eq0-clause-unread
 returns-then-count-eq0-clause-unread g c = λ is. absurd (c.conclude.ensures.never_read is)
 
 pub returns-then-count-eq0-clause-left : goal.returns-then-count-eq0-clause-left
 returns-then-count-eq0-clause-left g c =
-    let i = c.loop-surveyor.invariant in
+    let i = c.loop-surveying.invariant in
     let b = c.in_ok-count.ensures.bytes in
     let none : c.in_ok-count.count ≡ 0 = omega arith in record {
       read = (
         _,
         consumes-then (g.S.Source.state c.args.input.now).remaining
-            (g.S.Source.state c.loop-surveyor.input).remaining (g.S.Source.state c.fill.new.self).remaining i.0
+            (g.S.Source.state c.loop-surveying.input).remaining (g.S.Source.state c.fill.new.self).remaining i.0
             (take c.in_ok-count.count c.fill.new.piece) i.2 b.0,
       );
       ended = all_ended _ c.conclude.result (b.1 none (omega arith));
@@ -100,7 +100,7 @@ returns-then-count-eq0-clause-memory g c =
 
 pub returns-in_err-read_piece : goal.returns-in_err-read_piece
 returns-in_err-read_piece g c =
-    let i = c.loop-surveyor.invariant in
+    let i = c.loop-surveying.invariant in
     let a = (g.S.Source.state c.args.input.now).remaining in
     let z = (g.S.Source.state c.fill.new.self).remaining in
     let piece = take c.in_ok-count.count c.fill.new.piece in
@@ -109,12 +109,12 @@ returns-in_err-read_piece g c =
     let failed = err_from_is_err_and r c.from_residual-in_err-read_piece.ensures.1 in
     let is : r ≡ Err fault = failed.1 ∙ ap Err failed.2 in
     let told =
-    consumes-then a (g.S.Source.state c.loop-surveyor.input).remaining z i.0 piece i.2 c.in_ok-count.ensures.bytes.0 in
+    consumes-then a (g.S.Source.state c.loop-surveying.input).remaining z i.0 piece i.2 c.in_ok-count.ensures.bytes.0 in
     let refused = c.in_err-read_piece.ensures.refused _ i.0 i.1 in
     record {
       answer = fault_answers _ a z fault r (i.0 ++ piece) is told refused;
       failures = fault_counts (g.S.Source.state c.args.input.now).failures
-          (g.S.Source.state c.loop-surveyor.input).failures (g.S.Source.state c.fill.new.self).failures fault r
+          (g.S.Source.state c.loop-surveying.input).failures (g.S.Source.state c.fill.new.self).failures fault r
           (i.0 ++ piece) is refused c.in_ok-count.ensures.failures i.3;
       unread = fault_reads (IfSome a (NoFaultBefore z)) fault r (i.0 ++ piece) is refused;
       left = record { read = (i.0 ++ piece, told); ended = none_ended _ r fault is };
@@ -123,10 +123,10 @@ returns-in_err-read_piece g c =
 
 -- ---- the loop
 
-pub loop-surveyor-smaller : goal.loop-surveyor-smaller
-loop-surveyor-smaller g c =
-    let i = c.loop-surveyor.invariant in
-    let old : left_of c.loop-surveyor.reader + length i.0 ≡ most_bytes = i.1.read.left in
+pub loop-surveying-smaller : goal.loop-surveying-smaller
+loop-surveying-smaller g c =
+    let i = c.loop-surveying.invariant in
+    let old : left_of c.loop-surveying.reader + length i.0 ≡ most_bytes = i.1.read.left in
     let new : left_of c.read_piece.new.reader + length (i.0 ++ take c.in_ok-count.count c.fill.new.piece) ≡ most_bytes =
     (c.in_ok-read_piece.ensures.read _ i.0 i.1).read.left in
     let some : 0 < c.in_ok-count.count = omega arith in
@@ -141,13 +141,17 @@ loop-surveyor-smaller g c =
       length-take-le c.in_ok-count.count c.fill.new.piece long,
     )
 
-pub loop-surveyor-preserved : goal.loop-surveyor-preserved
-loop-surveyor-preserved g c =
-    let i = c.loop-surveyor.invariant in (
+pub loop-surveying-preserved : goal.loop-surveying-preserved
+loop-surveying-preserved g c =
+    let i = c.loop-surveying.invariant in (
       i.0 ++ take c.in_ok-count.count c.fill.new.piece,
       c.in_ok-read_piece.ensures.read _ i.0 i.1,
-      consumes-then (g.S.Source.state c.args.input.now).remaining (g.S.Source.state c.loop-surveyor.input).remaining
+      consumes-then (g.S.Source.state c.args.input.now).remaining (g.S.Source.state c.loop-surveying.input).remaining
           (g.S.Source.state c.fill.new.self).remaining i.0 (take c.in_ok-count.count c.fill.new.piece) i.2
           c.in_ok-count.ensures.bytes.0,
-      ◌∙◌ {b = (g.S.Source.state c.loop-surveyor.input).failures} c.in_ok-count.ensures.failures i.3,
+      ◌∙◌ {b = (g.S.Source.state c.loop-surveying.input).failures} c.in_ok-count.ensures.failures i.3,
     )
+
+pub read_piece-requires : goal.read_piece-requires
+read_piece-requires g c =
+    (count_of c.args.profile, c.loop-surveying.invariant.0, c.loop-surveying.invariant.1)
