@@ -1,5 +1,4 @@
-pub mod MemoryLemmas
-pub mod ReadLemmas
+pub mod FollowLemmas
 pub mod CheckLemmas
 pub mod PairLemmas
 pub mod WitnessLemmas

@@ -4,8 +4,7 @@
 
 mod checking;
 pub mod laws;
-mod pushing;
 
-pub use checking::{check, check_bytes, check_with, outcome, outcome_with, read_piece};
+pub use checking::{check, check_bytes, check_with, outcome, outcome_with};
 pub use sixel_judge::{Checker, Finding, Outcome, Rule, Verdict};
 pub use sixel_survey::{Entry, RULE_COUNT, Survey, survey};

@@ -22,3 +22,4 @@ pub mod RunLemmas
 pub mod WritableLemmas
 pub mod TotalLemmas
 pub mod FollowingLemmas
+pub mod FollowSourceLemmas

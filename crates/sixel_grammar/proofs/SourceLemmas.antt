@@ -89,3 +89,10 @@ take_past zero [] le = refl
 take_past zero (x ∷ xs) le = absurd (omega arith)
 take_past (suc n) [] le = refl
 take_past (suc n) (x ∷ xs) le = ap (λ (t : List ℕ). x ∷ t) (take_past n xs (omega arith))
+
+-- if the last piece is empty, what holds of the bytes before it holds of all bytes
+pub told_all : (a b c : Option (List ℕ)) (prefix piece : List ℕ) (n : ℕ) (P : List ℕ → Type 0) → Consumes a b prefix
+    → Consumes b c (take n piece) → n ≡ 0 → IsAtEnd c → P prefix → IfSome a P
+told_all a b c prefix piece n P before none is end p =
+    all_read a c (prefix ++ take n piece) P (consumes-then a b c prefix (take n piece) before none) end
+    (subst P (sym (ap (λ (t : List ℕ). prefix ++ t) (take_none n piece is) ∙ append-nil prefix)) p)

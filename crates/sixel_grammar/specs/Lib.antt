@@ -8,6 +8,7 @@ pub mod Document
 pub mod Prefixes
 pub mod Faults
 pub mod Following
+pub mod Source
 pub mod Standing
 pub mod Stretches
 pub mod Runs

@@ -77,6 +77,16 @@ pub trait Follower {
         ensures taken { OnOk result (TakesEvents has_taken self.old self.new (command_at place command ∷ [])) }
         ensures stopped { IfErr result (StopsAmong has_taken may_stop self.old (command_at place command ∷ [])) };
 
+    /// Takes a select whose first byte has the offset `place`. It is called for each with columns behind it in one
+    /// piece.
+    fn take_select(&mut self, place: u64, register: u16) -> Result<(), Self::Stop>
+        requires { (first : Self) × (seen : List PlacedValue) × has_taken first self.old seen
+            × MayFollow seen (command_at place (Command.Select register) ∷ []) }
+        ensures taken { OnOk result (TakesEvents has_taken self.old self.new
+            (command_at place (Command.Select register) ∷ [])) }
+        ensures stopped { IfErr result (StopsAmong has_taken may_stop self.old
+            (command_at place (Command.Select register) ∷ [])) };
+
     /// Takes a repeat whose first byte has the offset `place`. It is called for each whose columns stand in one piece.
     fn take_repeat(&mut self, place: u64, count: u16, bits: u8) -> Result<(), Self::Stop>
         requires { (first : Self) × (seen : List PlacedValue) × has_taken first self.old seen
@@ -156,7 +166,7 @@ fn hand_select<F: Follower>(
     ensures stopped { IfErr result (StopsAmong F.has_taken F.may_stop follower.old (select_events place select)) }
 {
     match select {
-        Some(register) => follower.take_command(place, Command::Select(register)),
+        Some(register) => follower.take_select(place, register),
         None => Ok(()),
     }
 }
@@ -289,7 +299,7 @@ fn follow_sign<F: Follower>(
     }
 }
 
-/// Reads one byte, and hands on what it completes. It is for digits, and for data bytes that begin no run.
+/// Reads one byte, and hands on what it completes. It is for data bytes that begin no run.
 #[inline(always)]
 fn follow_data<F: Follower>(
     reader: &mut Reader,
@@ -399,11 +409,6 @@ fn follow_some<F: Follower>(
         FollowsBytes F.has_taken reader.old follower.old reader.new follower.new (take count bytes.now)) }
     ensures halted { IfErr result (HaltsWithin F.has_taken F.may_stop reader.old follower.old reader.new bytes.now) }
 {
-    // A digit begins no run, and a definition has many.
-    if bytes[0].is_ascii_digit() {
-        follow_data(reader, follower, bytes[0])?;
-        return Ok(1);
-    }
     match follow_run(reader, follower, bytes)? {
         Some(count) => Ok(count),
         None => follow_first(reader, follower, bytes),

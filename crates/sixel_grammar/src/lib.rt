@@ -12,6 +12,7 @@ mod pending;
 mod reader;
 mod reading;
 mod run;
+mod source;
 mod stretch;
 mod writing;
 
@@ -23,4 +24,5 @@ pub use reading::read_all;
 pub use sixel_io::{
     Block, DeviceFault, FromRead, PIECE, Sink, SliceSink, SliceSource, Source, ToWrite, put_all,
 };
+pub use source::{SourceHalt, follow_source};
 pub use writing::{put_event, write_event};

@@ -1,6 +1,6 @@
 -- On the raster attributes at which a checker may allocate.
 use Rattle.std.proofs.Common.{◌≡◌, ℕ, Option, Some, None, List, [], ◌∷◌, ◌++◌, length, refl, sym, subst}
-use Rattle.std.proofs.Common.{append_assoc}
+use Rattle.std.proofs.Common.{append_assoc, ap, ◌∙◌}
 use Rattle.std.specs.Prelude.{Result, Ok, Err, IsSome, OnErr}
 use Rattle.std.specs.Option.{option_map}
 use Rattle.std.proofs.lemmas.List.{append-nil}
@@ -16,7 +16,7 @@ use Rattle.sixel_model.proofs.RuleLemmas.{none_push}
 use Rattle.sixel_model.specs.RuleNumbers.{last_rule}
 use Rattle.sixel_judge.specs.declared.drawing_state.DrawingState.{DrawingState}
 use Rattle.sixel_judge.specs.Violations.{BreaksNoRule}
-use Rattle.sixel_judge.specs.Growth.{MayGrow, MayGrowAmong}
+use Rattle.sixel_judge.specs.Growth.{MayGrow, MayGrowAmong, MayGrowIn}
 use Rattle.sixel_judge.specs.Judging.{IsGridAfter, IsUndrawn, StandsUnbroken}
 use Rattle.sixel_judge.proofs.JudgeLemmas.{events_push}
 use Rattle.sixel_judge.proofs.DrawingStateLemmas.{keeps, seven_bits}
@@ -78,3 +78,15 @@ pub growth_stays : {registers : ℕ} (prefix rest : List ℕ) (first second : Li
 growth_stays {registers} prefix rest first second c d g =
     let stays : (more : List Placed) × (second ≡ first ++ more) = complete_stays prefix rest first second c d in
     subst (MayGrowAmong registers) (sym stays.1) (grows_among first stays.0 g)
+
+-- an allocation that may fail within the bytes may fail with more bytes after them
+pub grows_on : {registers : ℕ} (bytes more all : List ℕ) → all ≡ bytes ++ more → MayGrowIn registers bytes
+    → MayGrowIn registers all
+grows_on bytes more all is g = record {
+  prefix = g.prefix;
+  rest = g.rest ++ more;
+  bytes_are = is ∙ ap (λ (t : List ℕ). t ++ more) g.bytes_are ∙ append_assoc g.prefix g.rest more;
+  events = g.events;
+  complete = g.complete;
+  grows = g.grows;
+}

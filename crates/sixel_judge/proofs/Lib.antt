@@ -25,3 +25,5 @@ pub mod ShownLemmas
 pub mod AnswerLemmas
 pub mod OnePixel
 pub mod OptionLemmas
+pub mod PushLemmas
+pub mod FollowLemmas

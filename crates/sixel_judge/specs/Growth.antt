@@ -2,8 +2,6 @@
 use Rattle.std.specs.Prelude.{◌≡◌, ◌++◌, ◌∷◌, [], ℕ, None, IsSome, List}
 use Rattle.sixel_grammar.specs.declared.command.Event.{Event}
 use Rattle.sixel_grammar.specs.declared.command.Placed.{Placed}
-use Rattle.sixel_grammar.specs.declared.fault.InputFault.{InputFault}
-use Rattle.sixel_grammar.specs.declared.fault.InputFault.TheVariants.{Grammar, OutOfMemory, Read}
 use Rattle.sixel_grammar.specs.Document.{events_of}
 use Rattle.sixel_grammar.specs.Prefixes.{CompleteIn}
 use Rattle.sixel_model.specs.Events.{raster_of}
@@ -29,9 +27,3 @@ pub record MayGrowIn (registers : ℕ) (bytes : List ℕ) : Type 0 where
   pub events : List Placed
   pub complete : CompleteIn events prefix
   pub grows : MayGrowAmong registers events
-
--- OutOfMemory means that a checker may allocate within the bytes
-abbrev pub GrowsFor : ℕ → InputFault → List ℕ → Type 0
-GrowsFor registers (Grammar fault) bytes = Unit {0}
-GrowsFor registers OutOfMemory bytes = MayGrowIn registers bytes
-GrowsFor registers Read bytes = Unit {0}

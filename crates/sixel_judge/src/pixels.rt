@@ -70,7 +70,7 @@ fn violation_of_eight_bit(event: &Event) -> Option<Violation>
 }
 
 /// A violation of `Uncovered` or of `EightBit`, tested in this order.
-#[inline]
+#[inline(always)]
 fn violation_of_end<P: Cover>(plane: &P, event: &Event) -> Option<Violation>
     ensures { (registers : ℕ) (before : List EventValue) → IsDrawn (kept_by P.keeps) (P.grid plane.now) before
         → NoneBelow registers uncovered_rule before event.now → IsViolationOf registers before event.now result }

@@ -1,23 +1,18 @@
 -- A check of a string.
 use Rattle.std.specs.Prelude.{Err, Result}
 use Rattle.std.proofs.Common.{◌≡◌, ◌∙◌, ℕ, zero, suc, ◌+◌, ◌≤◌, inl, inr, Option, Some, None, Ok}
-use Rattle.std.proofs.Common.{IsTrue, List, [], ◌∷◌, ◌++◌, length, sym, ap, subst, append_assoc, arith}
+use Rattle.std.proofs.Common.{List, [], ◌∷◌, ◌++◌, length, sym, ap, subst, append_assoc, arith}
 use Rattle.std.specs.Prelude.{slice_get}
 use Rattle.std.specs.Option.{option_map}
 use Rattle.std.proofs.lemmas.List.{append-nil, length-append}
-use Rattle.sixel_grammar.specs.Document.{Document, Piece, bytes_of, events_of, joined, placed_from}
+use Rattle.sixel_grammar.specs.Document.{Document, Piece, bytes_of, joined, placed_from}
 use Rattle.sixel_grammar.specs.Faults.{IsFaultOf}
 use Rattle.sixel_grammar.specs.declared.command.Placed.{Placed}
 use Rattle.sixel_grammar.specs.declared.fault.Fault.{Fault}
-use Rattle.sixel_grammar.specs.declared.reader.Reader.{Reader}
-use Rattle.sixel_grammar.proofs.TotalLemmas.{document_whole}
-use Rattle.sixel_check.specs.Checking.{AreAfter}
-use Rattle.sixel_judge.specs.Standing.{CheckerValue, is_whole}
 use Rattle.sixel_judge.specs.Verdicts.{IsFinding, IsVerdict}
 use Rattle.sixel_judge.specs.declared.verdict.Verdict.{Verdict}
 use Rattle.sixel_judge.specs.declared.verdict.Verdict.TheVariants.{Portable, Broken}
 use Rattle.sixel_judge.specs.declared.verdict.Finding.{Finding}
-use Rattle.sixel_judge.proofs.StandLemmas.{whole_ended, whole_events}
 use Rattle.sixel_scan.specs.declared.string_check.StringCheck.{StringCheck}
 use Rattle.sixel_judge.specs.declared.verdict.Outcome.{Outcome}
 use Rattle.sixel_judge.specs.declared.verdict.Outcome.TheVariants.{Portable as PortableSize, Broken as BrokenRule}
@@ -102,11 +97,6 @@ finding_within registers events bytes finding i d f =
     sym (ap (λ (es : List Placed). option_map (λ (p : Placed). p.place) (slice_get es i)) d.events_are) ∙ f.place in
     let h = placed_within 0 d.pieces i finding.place there in
     omega (arith, h, ap length d.parses.bytes_are, length-append (joined d.pieces) d.parses.after)
-
-pub whole_then : (registers : ℕ) (reader : Reader) (checker : CheckerValue) (bytes : List ℕ)
-    (a : AreAfter registers reader checker bytes) → Document a.events bytes → IsTrue (is_whole a.events)
-whole_then registers reader checker bytes a document =
-    sym (whole_events a.events) ∙ whole_ended (events_of a.events) (document_whole a.events bytes document)
 
 pub verdict_within : (registers : ℕ) (events : List Placed) (bytes : List ℕ) (verdict : Verdict)
     → Document events bytes → IsVerdict registers events verdict → IsPlacedWithin (length bytes) (Ok verdict)

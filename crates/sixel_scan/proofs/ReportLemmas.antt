@@ -2,9 +2,8 @@
 use Rattle.std.proofs.Common.{◌≡◌, ◌∙◌, ℕ, ◌+◌, ◌-◌, ◌<◌, ◌^◌, inl, inr, Bool, true, false, Option}
 use Rattle.std.proofs.Common.{List, [], ◌∷◌, ◌++◌, length, refl, sym, ap, subst, append_assoc, arith}
 use Rattle.std.proofs.lemmas.List.{append-nil, length-append}
-use Rattle.sixel_grammar.specs.declared.fault.InputFault.TheVariants.{OutOfMemory}
 use Rattle.sixel_judge.specs.Growth.{MayGrowIn}
-use Rattle.sixel_check.proofs.MemoryLemmas.{grows_for_on}
+use Rattle.sixel_judge.proofs.GrowthLemmas.{grows_on}
 use Rattle.sixel_model.specs.Profiles.{count_of}
 use Rattle.sixel_scan.specs.declared.answer.Scanned.{Scanned}
 use Rattle.sixel_scan.specs.declared.opening.Opening.{Opening}
@@ -89,7 +88,7 @@ escape_grows eight registers told bytes before held string byte are is r is_open
   bytes_are = are ∙ ap (λ (t : List ℕ). before ++ (t ++ byte ∷ [])) is;
   resumes = subst (λ (t : List ℕ). Resumes eight told bytes (length before) (t ++ byte ∷ [])) is r;
   opens = opens_escaped eight string (byte ∷ []) is_open;
-  grows = grows_for_on registers OutOfMemory (string ++ 27 ∷ []) (byte ∷ []) ((string ++ 27 ∷ []) ++ byte ∷ []) refl
+  grows = grows_on (string ++ 27 ∷ []) (byte ∷ []) ((string ++ 27 ∷ []) ++ byte ∷ []) refl
       grows;
 }
 

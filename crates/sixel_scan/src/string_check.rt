@@ -9,8 +9,8 @@ ghost use Rattle.sixel_judge.specs.Growth.{MayGrowIn};
 ghost use Rattle.sixel_scan.specs.Answers.{IsBrief, IsPlacedWithin, Tells, briefly};
 
 use crate::answer::Answer;
-use sixel_check::{Checker, Finding, Outcome, read_piece};
-use sixel_grammar::{Fault, InputFault, Reader};
+use sixel_check::{Checker, Finding, Outcome};
+use sixel_grammar::{Fault, Halt, Reader, follow_bytes};
 use sixel_model::Profile;
 use sixel_plane::CoverPlane;
 use std::alloc::{AllocError, Global};
@@ -61,14 +61,13 @@ impl StringCheck {
         ensures memory { OnErr result ((registers : ℕ) (bytes : List ℕ) → HasTaken registers self.old bytes
             → MayGrowIn registers (bytes ++ piece.now)) }
     {
-        match read_piece(&mut self.reader, &mut self.checker, piece) {
+        match follow_bytes(&mut self.reader, &mut self.checker, piece) {
             Ok(()) => Ok(()),
-            Err(InputFault::Grammar(fault)) => {
+            Err(Halt::Refused(fault)) => {
                 self.refused = Some(fault);
                 Ok(())
             }
-            Err(InputFault::OutOfMemory) => Err(AllocError),
-            Err(InputFault::Read) => Err(AllocError),
+            Err(Halt::Stopped(stop)) => Err(stop),
         }
     }
 

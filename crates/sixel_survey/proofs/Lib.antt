@@ -8,7 +8,6 @@ pub mod CoverLemmas
 pub mod HitLemmas
 pub mod DeclareLemmas
 mod FollowLemmas
-pub mod AnswerLemmas
 pub mod TallyingLemmas
 pub mod StretchLemmas
 pub mod SurveyorLemmas

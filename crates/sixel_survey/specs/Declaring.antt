@@ -2,8 +2,6 @@
 use Rattle.std.specs.Prelude.{◌≡◌, ◌++◌, ℕ, IsSomeAnd, IsTrue, List, None}
 use Rattle.sixel_grammar.specs.declared.command.Event.{Event}
 use Rattle.sixel_grammar.specs.declared.command.Placed.{Placed}
-use Rattle.sixel_grammar.specs.declared.fault.InputFault.{InputFault}
-use Rattle.sixel_grammar.specs.declared.fault.InputFault.TheVariants.{Grammar, OutOfMemory, Read}
 use Rattle.sixel_grammar.specs.Document.{events_of}
 use Rattle.sixel_grammar.specs.Prefixes.{CompleteIn}
 use Rattle.sixel_model.specs.Events.{has_sides, raster_of}
@@ -27,9 +25,3 @@ pub record DeclareBoxIn (bytes : List ℕ) : Type 0 where
   pub events : List Placed
   pub complete : CompleteIn events prefix
   pub declares : DeclareBox events
-
--- OutOfMemory means that a box in range is declared within the bytes
-abbrev pub DeclaresFor : InputFault → List ℕ → Type 0
-DeclaresFor (Grammar fault) bytes = Unit {0}
-DeclaresFor OutOfMemory bytes = DeclareBoxIn bytes
-DeclaresFor Read bytes = Unit {0}

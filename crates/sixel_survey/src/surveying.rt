@@ -1,17 +1,17 @@
 //! Surveying the bytes of a document.
 
-ghost use Rattle.std.specs.Prelude.{◌≡◌, ◌≢◌, [], ℕ, List, Err, IfErr, IfSome, OnOk};
+ghost use Rattle.std.specs.Prelude.{◌≡◌, Err, IfSome};
 ghost use Rattle.sixel_io.specs.Devices.{ReadsToEnd};
 ghost use Rattle.sixel_grammar.specs.Reading.{NoFaultBefore, failures_after};
 ghost use Rattle.sixel_grammar.specs.declared.fault.InputFault.TheVariants.{Read as ReadFault};
 ghost use Rattle.sixel_model.specs.Profiles.{count_of};
 ghost use Rattle.sixel_survey.specs.Answers.{Answers};
 ghost use Rattle.sixel_survey.specs.Declaring.{DeclareBox, DeclareBoxIn};
-ghost use Rattle.sixel_survey.specs.Surveying.{AreAfter, DeclaresForBytes, HasSurveyed, RefusesBytes, TakesBytes};
+ghost use Rattle.sixel_survey.specs.Surveying.{HasSurveyed};
 
 use crate::entry::Survey;
 use crate::surveyor::Surveyor;
-use sixel_grammar::{Command, Event, Follower, InputFault, Placed, Reader, follow_bytes};
+use sixel_grammar::{Command, Event, Follower, InputFault, Placed, follow_source};
 use sixel_io::{PIECE, Source};
 use sixel_model::Profile;
 use sixel_plane::{Cover, CoverPlane};
@@ -51,6 +51,12 @@ impl<P: Cover> Follower for Surveying<P> {
     }
 
     #[inline(always)]
+    fn take_select(&mut self, place: u64, register: u16) -> Result<(), AllocError> {
+        let event = Event::Step(Command::Select(register));
+        self.surveyor.take(self.alloc, &Placed { place, event })
+    }
+
+    #[inline(always)]
     fn take_repeat(&mut self, place: u64, count: u16, bits: u8) -> Result<(), AllocError> {
         let event = Event::Step(Command::Repeat { count, bits });
         self.surveyor.take(self.alloc, &Placed { place, event })
@@ -61,40 +67,6 @@ impl<P: Cover> Follower for Surveying<P> {
         self.surveyor.take_stretch(place, bytes, count);
         Ok(())
     }
-}
-
-/// Reads the bytes of a piece.
-fn read_piece<P: Cover>(
-    reader: &mut Reader,
-    surveying: &mut Surveying<P>,
-    piece: &[u8],
-) -> Result<(), InputFault>
-    requires { (registers : ℕ) × (prefix : List ℕ) × AreAfter registers reader.old surveying.old.surveyor prefix }
-    ensures read { OnOk result (TakesBytes reader.old surveying.old.surveyor reader.new surveying.new.surveyor
-        piece.now) }
-    ensures refused { IfErr result (RefusesBytes reader.old surveying.old.surveyor piece.now) }
-    ensures memory { IfErr result (DeclaresForBytes reader.old surveying.old.surveyor piece.now) }
-{
-    Ok(follow_bytes(reader, surveying, piece)?)
-}
-
-/// A reader and a surveyor before any byte.
-fn nothing_read(profile: Profile) -> (Reader, Surveyor<CoverPlane>)
-    ensures { AreAfter (count_of profile) result.0 result.1 [] }
-{
-    (Reader::new(), Surveyor::new(profile))
-}
-
-/// The answer at the end of the bytes.
-fn conclude<P: Cover>(reader: &Reader, surveyor: Surveyor<P>) -> Result<Survey, InputFault>
-    requires { (registers : ℕ) × (prefix : List ℕ) × AreAfter registers reader.now surveyor prefix }
-    ensures answer { (registers : ℕ) (prefix : List ℕ) → AreAfter registers reader.now surveyor prefix
-        → Answers registers result prefix }
-    ensures never_read { result ≢ Err InputFault.Read }
-    ensures memory { result ≢ Err InputFault.OutOfMemory }
-{
-    reader.finish()?;
-    Ok(surveyor.finish())
 }
 
 /// Surveys the document that the source gives, with the registers of the profile.
@@ -118,13 +90,8 @@ pub fn survey<S: Source>(
         → DeclareBoxIn bytes) }
 {
     let mut piece = [0u8; PIECE];
-    let (mut reader, surveyor) = nothing_read(profile);
+    let surveyor: Surveyor<CoverPlane> = Surveyor::new(profile);
     let mut surveying = Surveying { surveyor, alloc };
-    loop {
-        let count = input.fill(&mut piece)?;
-        if count == 0 {
-            return conclude(&reader, surveying.surveyor);
-        }
-        read_piece(&mut reader, &mut surveying, &piece[..count])?;
-    }
+    follow_source(input, &mut piece, &mut surveying)?;
+    Ok(surveying.surveyor.finish())
 }

@@ -1,159 +1,43 @@
-use Rattle.std.proofs.Common.{◌≡◌, ◌+◌, ◌<◌, ◌≤◌, ◌++◌, [], length, take, refl, ap, ◌∙◌, arith}
-use Rattle.std.specs.Prelude.{Err, IfSome}
-use Rattle.std.proofs.KnownBytes.{Consumes-nil}
-use Rattle.std.proofs.lemmas.List.{length-append, length-take-le}
+use Rattle.std.proofs.Common.{◌≡◌, ◌∙◌, ap, refl}
+use Rattle.std.specs.Prelude.{Err}
 use Rattle.std.proofs.lemmas.Result.{err_from_is_err_and}
-use Rattle.sixel_grammar.specs.Document.{most_bytes}
-use Rattle.sixel_grammar.specs.Reading.{NoFaultBefore}
-use Rattle.sixel_grammar.specs.Standing.{left_of}
-use Rattle.sixel_grammar.specs.declared.fault.InputFault.TheVariants.{Read}
-use Rattle.sixel_grammar.proofs.SourceLemmas.{consumes-kept, consumes-then, no_fault_before}
+use Rattle.sixel_grammar.proofs.FollowSourceLemmas.{halt_explains, halt_failures, halt_unread}
+use Rattle.sixel_judge.specs.Standing.{CheckerValue}
+use Rattle.sixel_judge.proofs.FollowLemmas.{HasTaken, MayStop, fresh_for, source_for}
 use Rattle.sixel_model.specs.Profiles.{count_of}
-use Rattle.sixel_check.specs.Checking.{HasSeen}
-use Rattle.sixel_check.proofs.CheckLemmas.{all_ended, none_ended, none_whole}
-use Rattle.sixel_check.proofs.CheckLemmas.{end_counts, end_grows, fault_answers, fault_counts, fault_grows, fault_reads}
-use Rattle.sixel_judge.proofs.PieceLemmas.{told_all}
-use Rattle.sixel_check.proofs.CheckLemmas.{read_answers, read_counts, read_grows}
+use Rattle.sixel_check.proofs.FollowLemmas.{fine_grows, none_whole, seen_all, source_memory, whole_all}
 use Rattle.sixel_check.proofs.checking.read_document.Goals as goal
 
-pub loop-checker-init : goal.loop-checker-init
-loop-checker-init g c = (
-  [],
-  c.nothing_read-reader.ensures,
-  Consumes-nil (g.S.Source.state c.args.input.now).remaining,
-  refl,
-)
+pub follow_source-requires : goal.follow_source-requires
+follow_source-requires g c = fresh_for (count_of c.args.profile) c.new-checker.result c.new-checker.ensures
 
--- ---- a failure of the source
-
-pub returns-in_err-count : goal.returns-in_err-count
-returns-in_err-count g c =
-    let i = c.loop-checker.invariant in
-    let a = (g.S.Source.state c.args.input.now).remaining in
-    let r = c.from_residual.result in
-    let failed = err_from_is_err_and r c.from_residual.ensures.1 in
-    let is : r ≡ Err Read = failed.1 ∙ ap Err failed.2 in
+pub returns : goal.returns
+returns g c =
+    let n = count_of c.args.profile in
+    let known = (g.S.Source.state c.args.input.now).remaining in
+    let followed = source_for n c.new-checker.result c.follow_source.new.follower known c.in_ok-follow_source.ensures.followed
+    c.new-checker.ensures in
     record {
-      seen = read_answers _ a r is;
-      whole = none_whole r Read is;
-      failures = read_counts (g.S.Source.state c.args.input.now).failures
-          (g.S.Source.state c.loop-checker.input).failures (g.S.Source.state c.fill.new.self).failures r is
-          c.in_err-count.ensures.failures i.3;
-      unread = λ e.
-          no_fault_before a (g.S.Source.state c.loop-checker.input).remaining
-          (g.S.Source.state c.fill.new.self).remaining
-          c.loop-checker.reader i.1.events i.0 i.1.read i.2 c.in_err-count.ensures.bytes;
-      left = record {
-        read = (
-          i.0,
-          consumes-kept a (g.S.Source.state c.loop-checker.input).remaining
-              (g.S.Source.state c.fill.new.self).remaining i.0 i.2 c.in_err-count.ensures.bytes,
-        );
-        ended = none_ended _ r Read is;
-      };
-      memory = read_grows _ a r is;
+      seen = seen_all n c.follow_source.new.follower known followed;
+      whole = whole_all n c.follow_source.new.follower known followed;
+      failures = c.in_ok-follow_source.ensures.failures;
+      unread = λ is. cc;
+      left = record { read = c.in_ok-follow_source.ensures.left.read; ended = c.in_ok-follow_source.ensures.left.ended };
+      memory = fine_grows known c.follow_source.new.follower _;
     }
 
--- ---- the end of the bytes
-
-pub end_of-requires : goal.end_of-requires
-end_of-requires g c =
-    (count_of c.args.profile, c.loop-checker.invariant.0, c.loop-checker.invariant.1)
-
-pub returns-then-count-eq0-clause-seen : goal.returns-then-count-eq0-clause-seen
-returns-then-count-eq0-clause-seen g c =
-    let i = c.loop-checker.invariant in
-    let b = c.in_ok-count.ensures.bytes in
-    let none : c.in_ok-count.count ≡ 0 = omega arith in
-    told_all (g.S.Source.state c.args.input.now).remaining (g.S.Source.state c.loop-checker.input).remaining
-    (g.S.Source.state c.fill.new.self).remaining i.0 c.fill.new.piece c.in_ok-count.count
-    (HasSeen (count_of c.args.profile) c.end_of.result) i.2 b.0
-    none (b.1 none (omega arith)) (c.end_of.ensures.seen _ i.0 i.1)
-
-pub returns-then-count-eq0-clause-failures : goal.returns-then-count-eq0-clause-failures
-returns-then-count-eq0-clause-failures g c =
-    end_counts (g.S.Source.state c.args.input.now).failures (g.S.Source.state c.loop-checker.input).failures
-    (g.S.Source.state c.fill.new.self).failures c.end_of.result c.end_of.ensures.never_read
-    c.in_ok-count.ensures.failures c.loop-checker.invariant.3
-
-pub returns-then-count-eq0-clause-unread : goal.returns-then-count-eq0-clause-unread
-returns-then-count-eq0-clause-unread g c = λ is. absurd (c.end_of.ensures.never_read is)
-
-pub returns-then-count-eq0-clause-left : goal.returns-then-count-eq0-clause-left
-returns-then-count-eq0-clause-left g c =
-    let i = c.loop-checker.invariant in
-    let b = c.in_ok-count.ensures.bytes in
-    let none : c.in_ok-count.count ≡ 0 = omega arith in record {
-      read = (
-        _,
-        consumes-then (g.S.Source.state c.args.input.now).remaining
-            (g.S.Source.state c.loop-checker.input).remaining (g.S.Source.state c.fill.new.self).remaining i.0
-            (take c.in_ok-count.count c.fill.new.piece) i.2 b.0,
-      );
-      ended = all_ended _ c.end_of.result (b.1 none (omega arith));
-    }
-
-pub returns-then-count-eq0-clause-memory : goal.returns-then-count-eq0-clause-memory
-returns-then-count-eq0-clause-memory g c =
-    end_grows _ (g.S.Source.state c.args.input.now).remaining c.end_of.result c.end_of.ensures.memory
-
--- ---- a piece that was refused
-
-pub read_piece-requires : goal.read_piece-requires
-read_piece-requires g c =
-    (count_of c.args.profile, c.loop-checker.invariant.0, c.loop-checker.invariant.1)
-
-pub returns-in_err-read_piece : goal.returns-in_err-read_piece
-returns-in_err-read_piece g c =
-    let i = c.loop-checker.invariant in
-    let a = (g.S.Source.state c.args.input.now).remaining in
-    let z = (g.S.Source.state c.fill.new.self).remaining in
-    let piece = take c.in_ok-count.count c.fill.new.piece in
-    let fault = c.in_err-read_piece.field-0.0 in
-    let r = c.from_residual-in_err-read_piece.result in
-    let failed = err_from_is_err_and r c.from_residual-in_err-read_piece.ensures.1 in
-    let is : r ≡ Err fault = failed.1 ∙ ap Err failed.2 in
-    let told =
-    consumes-then a (g.S.Source.state c.loop-checker.input).remaining z i.0 piece i.2 c.in_ok-count.ensures.bytes.0 in
-    let refused = c.in_err-read_piece.ensures.refused _ i.0 i.1 in
+pub returns-in_err-follow_source : goal.returns-in_err-follow_source
+returns-in_err-follow_source g c =
+    let failed = err_from_is_err_and c.from_residual.result c.from_residual.ensures.1 in
+    let n = count_of c.args.profile in
+    let known = (g.S.Source.state c.args.input.now).remaining in
+    let halt = c.in_err-follow_source.field-0.0 in
+    let e = c.in_err-follow_source.ensures in
     record {
-      seen = fault_answers _ a z fault r (i.0 ++ piece) is told refused;
-      whole = none_whole r fault is;
-      failures = fault_counts (g.S.Source.state c.args.input.now).failures
-          (g.S.Source.state c.loop-checker.input).failures (g.S.Source.state c.fill.new.self).failures fault r
-          (i.0 ++ piece) is refused c.in_ok-count.ensures.failures i.3;
-      unread = fault_reads (IfSome a (NoFaultBefore z)) fault r (i.0 ++ piece) is refused;
-      left = record { read = (i.0 ++ piece, told); ended = none_ended _ r fault is };
-      memory = fault_grows _ a z fault r (i.0 ++ piece) is told (c.in_err-read_piece.ensures.memory _ i.0 i.1);
+      seen = rw (failed.1, failed.2) (halt_explains HasTaken MayStop c.new-checker.result known halt e.halted);
+      whole = none_whole c.from_residual.result _ (failed.1 ∙ ap Err failed.2);
+      failures = rw (failed.1, failed.2) (e.failures ∙ halt_failures CheckerValue halt _);
+      unread = rw (failed.1, failed.2) (halt_unread CheckerValue _ halt e.unread);
+      left = rw (failed.1, failed.2) (record { read = e.left.read; ended = tt });
+      memory = rw (failed.1, failed.2) (source_memory n c.new-checker.result known halt e.halted c.new-checker.ensures);
     }
-
--- ---- the loop
-
-pub loop-checker-smaller : goal.loop-checker-smaller
-loop-checker-smaller g c =
-    let i = c.loop-checker.invariant in
-    let old : left_of c.loop-checker.reader + length i.0 ≡ most_bytes = i.1.read.left in
-    let new : left_of c.read_piece.new.reader + length (i.0 ++ take c.in_ok-count.count c.fill.new.piece) ≡ most_bytes =
-    (c.in_ok-read_piece.ensures.read _ i.0 i.1).read.left in
-    let some : 0 < c.in_ok-count.count = omega arith in
-    let long : c.in_ok-count.count ≤ length c.fill.new.piece =
-    omega (arith, c.in_ok-count.ensures.bound, c.fill.auto.piece) in
-    omega (
-      arith,
-      old,
-      new,
-      some,
-      length-append i.0 (take c.in_ok-count.count c.fill.new.piece),
-      length-take-le c.in_ok-count.count c.fill.new.piece long,
-    )
-
-pub loop-checker-preserved : goal.loop-checker-preserved
-loop-checker-preserved g c =
-    let i = c.loop-checker.invariant in (
-      i.0 ++ take c.in_ok-count.count c.fill.new.piece,
-      c.in_ok-read_piece.ensures.read _ i.0 i.1,
-      consumes-then (g.S.Source.state c.args.input.now).remaining (g.S.Source.state c.loop-checker.input).remaining
-          (g.S.Source.state c.fill.new.self).remaining i.0 (take c.in_ok-count.count c.fill.new.piece) i.2
-          c.in_ok-count.ensures.bytes.0,
-      ◌∙◌ {b = (g.S.Source.state c.loop-checker.input).failures} c.in_ok-count.ensures.failures i.3,
-    )

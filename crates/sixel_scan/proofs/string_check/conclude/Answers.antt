@@ -2,7 +2,8 @@ use Rattle.std.proofs.Common.{ap, refl}
 use Rattle.std.specs.Prelude.{Err, Ok}
 use Rattle.std.proofs.lemmas.Result.{err_from_is_err_and}
 use Rattle.sixel_judge.specs.declared.verdict.Outcome.{Outcome}
-use Rattle.sixel_scan.proofs.CheckingLemmas.{fault_within, verdict_within, whole_then}
+use Rattle.sixel_judge.proofs.FollowLemmas.{whole_then}
+use Rattle.sixel_scan.proofs.CheckingLemmas.{fault_within, verdict_within}
 use Rattle.sixel_scan.proofs.string_check.conclude.Goals as goal
 
 pub outcome-requires : goal.outcome-requires
@@ -10,13 +11,13 @@ outcome-requires c =
     let a = c.requires.2 in
     let document = c.in_ok-finish.ensures.answer a.events c.requires.1 a.read in
     record {
-      whole = (c.requires.0, a.events, a.checked, whole_then c.requires.0 _ _ c.requires.1 a document);
+      whole = (c.requires.0, a.events, a.taken, whole_then a.events c.requires.1 document);
     }
 
 pub returns : goal.returns
 returns c = λ registers bytes a.
     let document = c.in_ok-finish.ensures.answer a.events bytes a.read in
-    let found = c.outcome.ensures registers a.events a.checked in record {
+    let found = c.outcome.ensures registers a.events a.taken in record {
       checked = Ok found.verdict;
       answers = (a.events, document, found.verdict_is, found.everywhere, found.matters);
       within = verdict_within registers a.events bytes found.verdict document found.verdict_is;

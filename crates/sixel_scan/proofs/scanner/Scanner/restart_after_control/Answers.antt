@@ -1,12 +1,11 @@
 use Rattle.std.proofs.Common.{[], ◌∷◌, refl}
-use Rattle.sixel_grammar.specs.declared.fault.InputFault.TheVariants.{OutOfMemory}
 use Rattle.sixel_model.specs.Profiles.{count_of}
 use Rattle.sixel_judge.proofs.GrowthLemmas.{err_says}
-use Rattle.sixel_check.proofs.MemoryLemmas.{grows_for_on}
+use Rattle.sixel_judge.proofs.GrowthLemmas.{grows_on}
 use Rattle.sixel_scan.proofs.scanner.Scanner.restart_after_control.Goals as goal
 
 pub returns-in_err-restart-clause-memory : goal.returns-in_err-restart-clause-memory
 returns-in_err-restart-clause-memory c =
     err_says _ c.from_residual.result
-    (grows_for_on (count_of c.args.self.now.profile) OutOfMemory (144 ∷ []) (c.args.byte ∷ [])
+    (grows_on (144 ∷ []) (c.args.byte ∷ [])
     (144 ∷ c.args.byte ∷ []) refl c.in_err-restart.ensures.memory)

@@ -1,22 +1,21 @@
 use Rattle.std.proofs.Common.{[], ◌∷◌, refl}
 use Rattle.std.proofs.lemmas.Result.{on_err_weaker, on_ok_weaker}
-use Rattle.sixel_grammar.specs.declared.fault.InputFault.TheVariants.{OutOfMemory}
 use Rattle.sixel_model.specs.Profiles.{count_of}
 use Rattle.sixel_judge.proofs.GrowthLemmas.{err_says}
-use Rattle.sixel_check.proofs.MemoryLemmas.{grows_for_on}
+use Rattle.sixel_judge.proofs.GrowthLemmas.{grows_on}
 use Rattle.sixel_scan.proofs.scanner.Scanner.restart_after_letter.Goals as goal
 
 pub returns-in_err-restart-clause-memory : goal.returns-in_err-restart-clause-memory
 returns-in_err-restart-clause-memory c =
     err_says _ c.from_residual.result
-    (grows_for_on (count_of c.args.self.now.profile) OutOfMemory (27 ∷ []) (80 ∷ c.args.byte ∷ [])
+    (grows_on (27 ∷ []) (80 ∷ c.args.byte ∷ [])
     (27 ∷ 80 ∷ c.args.byte ∷ []) refl c.in_err-restart.ensures.memory)
 
 pub returns-in_err-feed-clause-memory : goal.returns-in_err-feed-clause-memory
 returns-in_err-feed-clause-memory c =
     let registers = count_of c.args.self.now.profile in
     err_says _ c.from_residual-in_err-feed.result
-    (grows_for_on registers OutOfMemory (27 ∷ 80 ∷ []) (c.args.byte ∷ [])
+    (grows_on (27 ∷ 80 ∷ []) (c.args.byte ∷ [])
     (27 ∷ 80 ∷ c.args.byte ∷ []) refl
     (c.in_err-feed.ensures.memory registers (27 ∷ []) c.in_ok-restart.ensures.check))
 

@@ -1,0 +1,137 @@
+-- A source that is followed to its end.
+use Rattle.std.proofs.Common.{◌≡◌, ◌∙◌, ℕ, List, [], ◌++◌, Option, None, Some, Result, Err, ap, append_assoc, refl}
+use Rattle.std.proofs.Common.{subst, sym, take}
+use Rattle.std.specs.Prelude.{IfSome}
+use Rattle.std.specs.Io.KnownBytes.{Consumes, IsAtEnd}
+use Rattle.sixel_grammar.specs.declared.command.Placed.{Placed}
+use Rattle.sixel_grammar.specs.declared.fault.InputFault.{InputFault}
+use Rattle.sixel_grammar.specs.declared.fault.InputFault.TheVariants.{OutOfMemory, Read as ReadFault}
+use Rattle.sixel_grammar.specs.declared.following.Halt as halt
+use Rattle.sixel_grammar.specs.declared.reader.Reader.{Reader}
+use Rattle.sixel_grammar.specs.declared.source.SourceHalt.{SourceHalt}
+use Rattle.sixel_grammar.specs.declared.source.SourceHalt.TheVariants.{Read, Refused, Stopped}
+use Rattle.sixel_grammar.specs.Document.{Document}
+use Rattle.sixel_grammar.specs.Faults.{IsFaultOf}
+use Rattle.sixel_grammar.specs.Following.{AreFollowed, FollowsBytes, HaltsWithin}
+use Rattle.sixel_grammar.specs.Reading.{Explains, failures_after}
+use Rattle.sixel_grammar.specs.Source.{FollowsSource, HaltsSource, failures_of, fault_of_source, source_halt_of}
+use Rattle.sixel_grammar.specs.Standing.{StandsAfter}
+use Rattle.sixel_grammar.proofs.SourceLemmas.{told_all}
+
+-- what had taken no event has now taken those that are complete in these bytes
+abbrev pub Follows : {F : Type 0} → (F → F → List Placed → Type 0) → F → Reader → F → List ℕ → Type 0
+Follows {F} has_taken old reader now bytes =
+    (first : F) → has_taken first old [] → AreFollowed (has_taken first) reader now bytes
+
+-- ---- the bytes so far
+
+pub follows_none : {F : Type 0} (has_taken : F → F → List Placed → Type 0) (old : F) (reader : Reader)
+    → StandsAfter reader [] [] → Follows has_taken old reader old []
+follows_none has_taken old reader stands = λ first h. record { events = []; read = stands; taken = h }
+
+pub follows_more : {F : Type 0} (has_taken : F → F → List Placed → Type 0) (old now new : F) (reader r : Reader)
+    (prefix more : List ℕ) → Follows has_taken old reader now prefix → FollowsBytes has_taken reader now r new more
+    → Follows has_taken old r new (prefix ++ more)
+follows_more has_taken old now new reader r prefix more before follows = λ first h.
+    follows first prefix (before first h)
+
+-- ---- the end of the source
+
+-- the answer of a reader at the end is that for all bytes
+pub follows_source : {F : Type 0} (has_taken : F → F → List Placed → Type 0) (old now : F) (reader : Reader)
+    (a b c : Option (List ℕ)) (prefix piece : List ℕ) (n : ℕ) → Follows has_taken old reader now prefix
+    → Consumes a b prefix → Consumes b c (take n piece) → n ≡ 0 → IsAtEnd c
+    → ((events : List Placed) (bytes : List ℕ) → StandsAfter reader events bytes → Document events bytes)
+    → FollowsSource has_taken old now a
+follows_source has_taken old now reader a b c prefix piece n follows before none is end answer = λ first h.
+    let f = follows first h in
+    record {
+      events = f.events;
+      bytes = prefix;
+      document = answer f.events prefix f.read;
+      taken = f.taken;
+      known_are = told_all a b c prefix piece n (λ (given : List ℕ). given ≡ prefix) before none is end refl;
+    }
+
+-- ---- bytes at which it was halted
+
+-- what ends the following of a piece is right for all bytes
+pub halts_source : {F S : Type 0} (has_taken : F → F → List Placed → Type 0) (may_stop : F → S → List Placed → Type 0)
+    (old now first : F) (reader r : Reader) (prefix more : List ℕ) (a c : Option (List ℕ)) (halt : halt.Halt S)
+    → has_taken first old [] → Follows has_taken old reader now prefix → Consumes a c (prefix ++ more)
+    → HaltsWithin has_taken may_stop reader now r more halt
+    → IfSome a (HaltsSource has_taken may_stop old (source_halt_of halt))
+halts_source has_taken may_stop old now first reader r prefix more None c halt h before consumes halts = tt
+halts_source has_taken may_stop old now first reader r prefix more (Some a) None halt h before consumes halts =
+    absurd consumes
+halts_source has_taken may_stop old now first reader r prefix more (Some a) (Some c) (halt.TheVariants.Refused fault) h
+    before consumes halts =
+    subst (λ (t : List ℕ). IsFaultOf t fault) (sym consumes) ((halts first prefix (before first h)).1 c)
+halts_source has_taken may_stop old now first reader r prefix more (Some a) (Some c) (halt.TheVariants.Stopped stop) h
+    before consumes halts = λ other taken.
+    let w = halts other prefix (before other taken) in
+    record {
+      read = w.read;
+      unread = w.unread ++ c;
+      bytes_are = consumes ∙ ap (λ (t : List ℕ). t ++ c) w.bytes_are ∙ append_assoc w.read w.unread c;
+      taken = w.taken;
+      rest = w.rest;
+      reader = w.reader;
+      stands = w.stands;
+      holds = w.holds;
+    }
+
+-- the halt of a piece is no failure of the source
+pub halt_counts : {S : Type 0} (halt : halt.Halt S) (n : ℕ) → n ≡ failures_of (Err (source_halt_of halt)) n
+halt_counts (halt.TheVariants.Refused fault) n = refl
+halt_counts (halt.TheVariants.Stopped stop) n = refl
+
+-- ---- for callers
+
+-- what holds of the document's bytes holds of the source's, if these are known
+pub told_known : (known : Option (List ℕ)) (bytes : List ℕ) (P : List ℕ → Type 0)
+    → IfSome known (λ given. given ≡ bytes) → P bytes → IfSome known P
+told_known None bytes P are p = tt
+told_known (Some given) bytes P are p = subst P (sym are) p
+
+-- the fault that a halt is explains the bytes
+pub halt_explains : {F S : Type 0} (has_taken : F → F → List Placed → Type 0)
+    (may_stop : F → S → List Placed → Type 0) (old : F) (known : Option (List ℕ)) (halt : SourceHalt S)
+    → IfSome known (HaltsSource has_taken may_stop old halt) → IfSome known (Explains (fault_of_source halt))
+halt_explains has_taken may_stop old None halt h = tt
+halt_explains has_taken may_stop old (Some bytes) Read h = tt
+halt_explains has_taken may_stop old (Some bytes) (Refused fault) h = h
+halt_explains has_taken may_stop old (Some bytes) (Stopped stop) h = tt
+
+-- the same count of failures
+pub halt_failures : {S : Type 0} (A : Type 0) (halt : SourceHalt S) (n : ℕ)
+    → failures_of (Err halt) n ≡ failures_after {A = A} (Err (fault_of_source halt)) n
+halt_failures A Read n = refl
+halt_failures A (Refused fault) n = refl
+halt_failures A (Stopped stop) n = refl
+
+-- only a failed read is a failed read
+pub halt_is_read : {S : Type 0} (A : Type 0) (halt : SourceHalt S)
+    → (let r : Result A InputFault = Err (fault_of_source halt) in r) ≡ Err ReadFault → halt ≡ Read
+halt_is_read A Read is = refl
+halt_is_read A (Refused fault) is = cc
+halt_is_read A (Stopped stop) is = cc
+
+-- what holds after a failed read
+pub halt_unread : {S : Type 0} (A P : Type 0) (halt : SourceHalt S)
+    → ((let r : Result (Unit {0}) (SourceHalt S) = Err halt in r) ≡ Err Read → P)
+    → (let r : Result A InputFault = Err (fault_of_source halt) in r) ≡ Err ReadFault → P
+halt_unread A P halt h is = h (ap Err (halt_is_read A halt is))
+
+-- only a stop is a want of memory, so this holds of the bytes if it does wherever the follower may stop
+pub halt_memory : {F S : Type 0} (A : Type 0) (has_taken : F → F → List Placed → Type 0)
+    (may_stop : F → S → List Placed → Type 0) (old : F) (known : Option (List ℕ)) (halt : SourceHalt S)
+    (P : List ℕ → Type 0)
+    → ((stop : S) (bytes : List ℕ) → HaltsSource has_taken may_stop old (Stopped stop) bytes → P bytes)
+    → IfSome known (HaltsSource has_taken may_stop old halt)
+    → IfSome known (λ bytes.
+    (let r : Result A InputFault = Err (fault_of_source halt) in r) ≡ Err OutOfMemory → P bytes)
+halt_memory A has_taken may_stop old None halt P stops h = tt
+halt_memory A has_taken may_stop old (Some bytes) Read P stops h = λ is. cc
+halt_memory A has_taken may_stop old (Some bytes) (Refused fault) P stops h = λ is. cc
+halt_memory A has_taken may_stop old (Some bytes) (Stopped stop) P stops h = λ is. stops stop bytes h
