@@ -1,8 +1,7 @@
 -- Lemmas for the result of a check of a source.
-use Rattle.std.proofs.Common.{◌≡◌, ◌≢◌, ℕ, List, Option, Some, None, ap, sym, subst}
-use Rattle.std.specs.Prelude.{Err, IfErr, IfSome, Ok, Result}
+use Rattle.std.proofs.Common.{◌≡◌, ℕ, List, Option, Some, None, sym, subst}
+use Rattle.std.specs.Prelude.{Err, IfSome, Ok, Result}
 use Rattle.sixel_grammar.specs.declared.fault.InputFault.{InputFault}
-use Rattle.sixel_grammar.specs.declared.fault.InputFault.TheVariants.{Read}
 use Rattle.sixel_check.specs.Answers.{Answers, AnswersOutcome}
 use Rattle.sixel_check.specs.Checking.{HasSeen}
 use Rattle.sixel_grammar.specs.Document.{events_of}
@@ -14,10 +13,6 @@ use Rattle.sixel_judge.specs.Standing.{CheckerValue, StandsAfter}
 use Rattle.sixel_judge.specs.Verdicts.{IsVerdict}
 use Rattle.sixel_judge.specs.declared.verdict.Outcome.{Outcome}
 use Rattle.sixel_judge.specs.declared.verdict.Verdict.{Verdict}
-
-pub end_reads : {A : Type 0} (r : Result A InputFault) → r ≢ Err Read → IfErr r (λ fault. fault ≡ Read → ⊥)
-end_reads (Ok v) never = tt
-end_reads (Err fault) never = λ e. never (ap (λ (f : InputFault). Err f) e)
 
 -- ---- the answer, from the checker at the end
 

@@ -1,41 +1,35 @@
 -- A check that was halted.
-use Rattle.std.proofs.Common.{◌≡◌, ℕ, List, [], None, Option, Some, subst}
+use Rattle.std.proofs.Common.{◌≡◌, ℕ, List, [], None, Option, Some}
 use Rattle.std.specs.Prelude.{Err, IfOk, IfSome, Ok, Result}
-use Rattle.std.proofs.lemmas.List.{append-nil}
-use Rattle.sixel_grammar.specs.Faults.{IsFaultOf}
-use Rattle.sixel_grammar.specs.Following.{HaltsWithin, input_fault_of}
+use Rattle.sixel_grammar.specs.Following.{input_fault_of}
 use Rattle.sixel_grammar.specs.Reading.{Explains}
 use Rattle.sixel_grammar.specs.declared.fault.InputFault.{InputFault}
 use Rattle.sixel_grammar.specs.declared.fault.InputFault.TheVariants.{OutOfMemory, Read}
 use Rattle.sixel_grammar.specs.declared.following.Halt.{Halt}
 use Rattle.sixel_grammar.specs.declared.following.Halt.TheVariants.{Refused, Stopped}
-use Rattle.sixel_grammar.specs.declared.reader.Reader.{Reader}
 use Rattle.sixel_judge.specs.Growth.{MayGrowIn}
-use Rattle.sixel_grammar.specs.Source.{HaltsSource, IsFollowed, fault_of_source}
+use Rattle.sixel_grammar.specs.Source.{HaltsSource, IsFollowed, fault_of_source, source_halt_of}
 use Rattle.sixel_grammar.specs.declared.source.SourceHalt.{SourceHalt}
 use Rattle.sixel_grammar.proofs.FollowSourceLemmas.{halt_memory, told_known}
 use Rattle.sixel_judge.specs.Standing.{CheckerValue, StandsAfter}
-use Rattle.sixel_judge.proofs.FollowLemmas.{HasTaken, MayStop, refuses_for, source_grows, stops_for, whole_then}
-use Rattle.sixel_check.specs.Checking.{AreAfter, HasSeen, IsWhole}
+use Rattle.sixel_judge.proofs.FollowLemmas.{HasTaken, MayStop, source_grows, whole_then}
+use Rattle.sixel_check.specs.Checking.{HasSeen, IsWhole}
 
-pub halted_explains : {S : Type 0} (n : ℕ) (reader r : Reader) (old : CheckerValue) (bytes : List ℕ) (halt : Halt S)
-    → HaltsWithin HasTaken MayStop reader old r bytes halt → AreAfter n reader old []
-    → Explains (input_fault_of halt) bytes
-halted_explains {S} n reader r old bytes (Refused fault) halts a =
-    subst (λ (t : List ℕ). IsFaultOf t fault) (append-nil bytes)
-    (refuses_for S n reader r old [] bytes fault halts a [])
-halted_explains n reader r old bytes (Stopped stop) halts a = tt
+pub halted_explains : {S : Type 0} (old new : CheckerValue) (bytes : List ℕ) (halt : Halt S)
+    → HaltsSource HasTaken MayStop old new (source_halt_of halt) bytes → Explains (input_fault_of halt) bytes
+halted_explains old new bytes (Refused fault) halts = halts
+halted_explains old new bytes (Stopped stop) halts = tt
 
 -- no source is read
 pub halted_reads : {S : Type 0} (halt : Halt S) → input_fault_of halt ≡ Read → ⊥
 halted_reads (Refused fault) e = cc
 halted_reads (Stopped stop) e = cc
 
-pub halted_grows : {S A : Type 0} (n : ℕ) (reader r : Reader) (old : CheckerValue) (bytes : List ℕ) (halt : Halt S)
-    → HaltsWithin HasTaken MayStop reader old r bytes halt → AreAfter n reader old []
+pub halted_grows : {S A : Type 0} (n : ℕ) (old new : CheckerValue) (bytes : List ℕ) (halt : Halt S)
+    → HaltsSource HasTaken MayStop old new (source_halt_of halt) bytes → StandsAfter n old []
     → (let result : Result A InputFault = Err (input_fault_of halt) in result) ≡ Err OutOfMemory → MayGrowIn n bytes
-halted_grows n reader r old bytes (Refused fault) halts a e = cc
-halted_grows n reader r old bytes (Stopped stop) halts a e = stops_for n reader r old [] bytes stop halts a
+halted_grows n old new bytes (Refused fault) halts s e = cc
+halted_grows n old new bytes (Stopped stop) halts s e = source_grows n old new stop bytes halts s
 
 -- ---- the document of a source
 
@@ -60,10 +54,10 @@ pub none_whole : (r : Result CheckerValue InputFault) (fault : InputFault) → r
 none_whole (Ok v) fault is = cc
 none_whole (Err f) fault is = tt
 
-pub source_memory : {S : Type 0} (n : ℕ) (old : CheckerValue) (known : Option (List ℕ)) (halt : SourceHalt S)
-    → IfSome known (HaltsSource HasTaken MayStop old halt) → StandsAfter n old []
+pub source_memory : {S : Type 0} (n : ℕ) (old new : CheckerValue) (known : Option (List ℕ)) (halt : SourceHalt S)
+    → IfSome known (HaltsSource HasTaken MayStop old new halt) → StandsAfter n old []
     → IfSome known (λ bytes.
     (let r : Result CheckerValue InputFault = Err (fault_of_source halt) in r) ≡ Err OutOfMemory → MayGrowIn n bytes)
-source_memory n old known halt halts s =
-    halt_memory CheckerValue HasTaken MayStop old known halt (MayGrowIn n)
-    (λ stop bytes h. source_grows n old stop bytes h s) halts
+source_memory n old new known halt halts s =
+    halt_memory CheckerValue HasTaken MayStop old new known halt (MayGrowIn n)
+    (λ stop bytes h. source_grows n old new stop bytes h s) halts

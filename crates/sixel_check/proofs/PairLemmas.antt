@@ -8,8 +8,8 @@ use Rattle.sixel_model.specs.declared.colour.Parts.{Parts}
 use Rattle.sixel_model.specs.Rules.{raster_before}
 use Rattle.sixel_terminal.specs.Displays.{Display, HasRoom, IsInClass, clipping, with_controls}
 use Rattle.sixel_terminal.proofs.ShownLemmas.{unpainted}
-use Rattle.sixel_judge.specs.declared.rule.Rule.{Rule}
-use Rattle.sixel_judge.specs.declared.rule.Rule.TheVariants.{Outside, Uncovered, EightBit}
+use Rattle.sixel_model.specs.declared.rule.Rule.{Rule}
+use Rattle.sixel_model.specs.declared.rule.Rule.TheVariants.{Outside, Uncovered, EightBit}
 use Rattle.sixel_judge.specs.declared.verdict.Finding.{Finding}
 use Rattle.sixel_judge.specs.Alarms.{HasRoomFor, IsPaintedUnlessClipped, WhatTerminalsDo, IsUnseenWithoutEightBits}
 use Rattle.sixel_judge.specs.Alarms.{StaysOnEach}

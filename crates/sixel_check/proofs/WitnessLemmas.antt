@@ -19,20 +19,19 @@ use Rattle.sixel_model.specs.Pictures.{is_side, register_of}
 use Rattle.sixel_model.specs.Positions.{HoldsAtPosition, at_position, last_at}
 use Rattle.sixel_model.specs.Profiles.{count_of}
 use Rattle.sixel_model.specs.Rules.{BreaksNone, IsFirstBroken, StaysBlank, picture_left, raster_before}
-use Rattle.sixel_model.specs.RuleNumbers.{uncovered_rule, eight_bit_rule}
 use Rattle.sixel_model.proofs.CoverLemmas.{any_below_at}
 use Rattle.sixel_model.proofs.FirstLemmas.{earliest_all}
 use Rattle.sixel_model.proofs.LastLemmas.{at_there, some_last}
 use Rattle.sixel_terminal.specs.Displays.{Display, IsInClass}
 use Rattle.sixel_terminal.specs.Drawing.{height_of, inked_on, is_kept_on, is_seen_on, map_on, paints_in, paints_on}
 use Rattle.sixel_terminal.specs.Drawing.{selected_on, shown_on, stood_on, touches_on}
-use Rattle.sixel_judge.specs.declared.rule.Rule.{Rule}
-use Rattle.sixel_judge.specs.declared.rule.Rule.TheVariants.{Outside, Uncovered}
+use Rattle.sixel_model.specs.declared.rule.Rule.{Rule}
+use Rattle.sixel_model.specs.declared.rule.Rule.TheVariants.{Outside, Uncovered, EightBit}
 use Rattle.sixel_judge.specs.declared.verdict.Finding.{Finding}
 use Rattle.sixel_judge.specs.Alarms.{HasRoomFor, IsPaintedUnlessClipped}
 use Rattle.sixel_check.specs.Differences.{IsFound, SomeEightBitDiffer, SomeOutsideDiffer, SomeUncoveredDiffer, black}
 use Rattle.sixel_check.specs.Differences.{other_than, witness_terminal, shown_at, stood_at, white}
-use Rattle.sixel_judge.specs.Verdicts.{IsPixel, capped, number_of, greatest}
+use Rattle.sixel_judge.specs.Verdicts.{IsPixel, capped, greatest}
 use Rattle.sixel_judge.proofs.AlarmLemmas.{finish_last}
 use Rattle.sixel_judge.proofs.CoverLemmas.{box_there}
 use Rattle.sixel_judge.proofs.DifferenceLemmas.{and_some, box_of_prefix, box_sides, small_point, unbroken_but_last}
@@ -86,7 +85,7 @@ first_box : (i : ℕ) (events : List Event) (a : Attributes) → raster_before (
 unfolding raster_before
 first_box i events a h = earliest_all _ i events a h
 
-inside_at : (registers i x y : ℕ) (events : List Event) → IsFirstBroken registers events uncovered_rule i
+inside_at : (registers i x y : ℕ) (events : List Event) → IsFirstBroken registers events Uncovered i
     → HoldsAtPosition (IsPixel Uncovered (Some (x, y))) events i → IsInside events x y
 inside_at registers i x y events f at =
     let a = and_some (raster_before (take i events)) _ (at.holds.2).holds in
@@ -106,8 +105,8 @@ inside_at registers i x y events f at =
 inside_found : (registers i x y : ℕ) (placed : List Placed) (f : Finding) → IsFound registers placed Uncovered i f
     → f.pixel ≡ Some (x, y) → IsInside (events_of placed) x y
 inside_found registers i x y placed f is pixel =
-    let first : IsFirstBroken registers (events_of placed) uncovered_rule i =
-    subst (λ (r : Rule). IsFirstBroken registers (events_of placed) (number_of r) i) is.rule_is is.found.first in
+    let first : IsFirstBroken registers (events_of placed) Uncovered i =
+    subst (λ (r : Rule). IsFirstBroken registers (events_of placed) r i) is.rule_is is.found.first in
     let at : HoldsAtPosition (IsPixel Uncovered f.pixel) (events_of placed) i =
     subst (λ (r : Rule). HoldsAtPosition (IsPixel r f.pixel) (events_of placed) i) is.rule_is is.found.pixel in
     inside_at registers i x y (events_of placed) first (rw pixel at at)
@@ -243,9 +242,9 @@ some_eight_bit_differ profile placed f i is ends =
     let n = count_of profile in
     let events = events_of placed in
     let left = picture_left n events in
-    let first : IsFirstBroken n events eight_bit_rule i =
-    subst (λ (r : Rule). IsFirstBroken n events (number_of r) i) is.rule_is is.found.first in
-    let drawn : BreaksNone n uncovered_rule events =
+    let first : IsFirstBroken n events EightBit i =
+    subst (λ (r : Rule). IsFirstBroken n events r i) is.rule_is is.found.first in
+    let drawn : BreaksNone n Uncovered events =
     unbroken_but_last events ends.item is.whole first ends.here ends.holds in
     let a = some_value (raster_before events) (box_there n events is.whole drawn) in
     let size = size_left n events a.0 a.1 in
@@ -266,6 +265,6 @@ some_eight_bit_differ profile placed f i is ends =
           (λ e. no_other (palette_at left.palette (register_of left 0 0)) (e ∙ ap (λ (p : Parts). Some p) stood));
     }
   where
-    whole_sides : (n i : ℕ) (events : List Event) (a : Attributes) → IsFirstBroken n events eight_bit_rule i
+    whole_sides : (n i : ℕ) (events : List Event) (a : Attributes) → IsFirstBroken n events EightBit i
         → length events ≡ suc i → raster_before events ≡ Some a → has_sides a ≡ true
     whole_sides n i events a f last box = box_of_prefix n i events a f last box

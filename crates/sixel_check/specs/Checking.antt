@@ -1,16 +1,10 @@
 -- A checker over the bytes of a document.
 use Rattle.std.specs.Prelude.{ℕ, List, IsTrue, Result, Ok, Err}
 use Rattle.sixel_grammar.specs.Document.{Document}
-use Rattle.sixel_grammar.specs.Following.{AreFollowed}
 use Rattle.sixel_grammar.specs.Reading.{Explains}
 use Rattle.sixel_grammar.specs.declared.command.Placed.{Placed}
 use Rattle.sixel_grammar.specs.declared.fault.InputFault.{InputFault}
-use Rattle.sixel_grammar.specs.declared.reader.Reader.{Reader}
 use Rattle.sixel_judge.specs.Standing.{CheckerValue, StandsAfter, is_whole}
-
--- the reader has read these bytes, and the checker has seen the events that are complete in them
-abbrev pub AreAfter : ℕ → Reader → CheckerValue → List ℕ → Type 0
-AreAfter registers reader checker bytes = AreFollowed (StandsAfter registers) reader checker bytes
 
 -- Ok: the bytes are a document, and the checker has seen its events; Err: a grammar fault is the fault of these bytes
 abbrev pub HasSeen : ℕ → Result CheckerValue InputFault → List ℕ → Type 0

@@ -17,8 +17,8 @@ use Rattle.sixel_terminal.specs.declared.choices.Ground.{Ground}
 use Rattle.sixel_terminal.specs.declared.choices.Ground.TheVariants.{Kept}
 use Rattle.sixel_terminal.specs.Displays.{Display, IsInClass, clipping, with_controls}
 use Rattle.sixel_terminal.specs.Drawing.{shown_on, stood_on}
-use Rattle.sixel_judge.specs.declared.rule.Rule.{Rule}
-use Rattle.sixel_judge.specs.declared.rule.Rule.TheVariants.{Outside, Uncovered, EightBit}
+use Rattle.sixel_model.specs.declared.rule.Rule.{Rule}
+use Rattle.sixel_model.specs.declared.rule.Rule.TheVariants.{Outside, Uncovered, EightBit}
 use Rattle.sixel_judge.specs.declared.verdict.Finding.{Finding}
 use Rattle.sixel_judge.specs.Alarms.{HasRoomFor}
 use Rattle.sixel_judge.specs.Verdicts.{IsFinding, greatest}

@@ -1,39 +1,20 @@
 //! Checking the bytes of a document.
 
-ghost use Rattle.std.specs.Prelude.{◌≡◌, ◌≢◌, [], ℕ, List, Err, IfErr, IfOk, IfSome};
+ghost use Rattle.std.specs.Prelude.{◌≡◌, Err, IfErr, IfOk, IfSome};
 ghost use Rattle.sixel_io.specs.Devices.{ReadsToEnd};
 ghost use Rattle.sixel_grammar.specs.Reading.{NoFaultBefore, failures_after};
 ghost use Rattle.sixel_grammar.specs.declared.fault.InputFault.TheVariants.{Read as ReadFault};
 ghost use Rattle.sixel_model.specs.Profiles.{count_of};
 ghost use Rattle.sixel_judge.specs.Growth.{MayGrowIn};
 ghost use Rattle.sixel_check.specs.Answers.{Answers, AnswersOutcome};
-ghost use Rattle.sixel_check.specs.Checking.{AreAfter, HasSeen, IsWhole};
+ghost use Rattle.sixel_check.specs.Checking.{HasSeen, IsWhole};
 
-use sixel_grammar::{InputFault, Reader, follow_bytes, follow_source};
+use sixel_grammar::{InputFault, follow_document, follow_source};
 use sixel_io::{PIECE, Source};
 use sixel_judge::{Checker, Outcome, Verdict};
 use sixel_model::Profile;
-use sixel_plane::{BandPlane, Cover, CoverPlane, Plane};
+use sixel_plane::{BandPlane, Cover, CoverPlane};
 use std::alloc::Global;
-
-/// A reader and a checker before any byte.
-fn nothing_read<P: Cover>(alloc: Global, profile: Profile) -> (Reader, Checker<P>)
-    ensures { AreAfter (count_of profile) result.0 result.1 [] }
-{
-    (Reader::new(), Checker::new(alloc, profile))
-}
-
-/// The answer at the end of the bytes.
-fn conclude<P: Plane>(reader: &Reader, checker: Checker<P>) -> Result<Verdict, InputFault>
-    requires { (registers : ℕ) × (prefix : List ℕ) × AreAfter registers reader.now checker prefix }
-    ensures answer { (registers : ℕ) (prefix : List ℕ) → AreAfter registers reader.now checker prefix
-        → Answers registers result prefix }
-    ensures never_read { result ≢ Err InputFault.Read }
-    ensures memory { result ≢ Err InputFault.OutOfMemory }
-{
-    reader.finish()?;
-    Ok(checker.finish()?)
-}
 
 /// Reads a source to its end. Returns a checker that has seen the events of the document.
 #[inline(always)]
@@ -151,7 +132,7 @@ pub fn check_bytes(alloc: Global, profile: Profile, bytes: &[u8]) -> Result<Verd
     ensures never_read { IfErr result (λ fault. fault ≡ InputFault.Read → ⊥) }
     ensures memory { result ≡ Err InputFault.OutOfMemory → MayGrowIn (count_of profile) bytes.now }
 {
-    let (mut reader, mut checker): (Reader, Checker<BandPlane>) = nothing_read(alloc, profile);
-    follow_bytes(&mut reader, &mut checker, bytes)?;
-    conclude(&reader, checker)
+    let mut checker: Checker<BandPlane> = Checker::new(alloc, profile);
+    follow_document(bytes, &mut checker)?;
+    Ok(checker.finish()?)
 }

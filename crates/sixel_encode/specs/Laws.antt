@@ -4,8 +4,7 @@ use Rattle.std.specs.List.{AllByRecursion}
 use Rattle.sixel_grammar.specs.Document.{AreWhole, Document}
 use Rattle.sixel_grammar.specs.FixedText.{CanWrite, fixed_places}
 use Rattle.sixel_model.specs.Pictures.{PictureValue, IsPicture}
-use Rattle.sixel_model.specs.Rules.{BreaksNone, picture_left}
-use Rattle.sixel_model.specs.RuleNumbers.{last_rule}
+use Rattle.sixel_model.specs.Rules.{BreaksNone, last_rule, picture_left}
 use Rattle.sixel_encode.specs.Canon.{Run, runs, bands, canon, canon_text}
 
 -- ---- runs

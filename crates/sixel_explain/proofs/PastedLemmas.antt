@@ -17,8 +17,8 @@ use Rattle.std.proofs.lemmas.Grind.{flat_map-append}
 use Rattle.std.proofs.lemmas.List.Elements.{All-contains}
 use Rattle.std.proofs.lemmas.List.Splits.{slice_split-cons_no}
 use Rattle.std.proofs.lemmas.Slice.Eq.{ends_is}
-use Rattle.sixel_judge.specs.declared.rule.Rule.{Rule as ARule}
-use Rattle.sixel_judge.specs.declared.rule.Rule.TheVariants as rule
+use Rattle.sixel_model.specs.declared.rule.Rule.{Rule as ARule}
+use Rattle.sixel_model.specs.declared.rule.Rule.TheVariants as rule
 use Rattle.sixel_judge.specs.declared.verdict.Finding.{Finding}
 use Rattle.sixel_ppm.specs.declared.ppm.PpmReason.TheVariants as ppm
 use Rattle.sixel_run.specs.declared.fault.RunFault.{RunFault}

@@ -2,7 +2,7 @@
 
 ghost use Rattle.std.specs.Prelude.{◌≡◌, ◌∷◌, [], Contains, Some};
 ghost use Rattle.std.specs.Str.{str_to_ascii_lowercase};
-ghost use Rattle.sixel_judge.specs.declared.rule.Rule.{Rule};
+ghost use Rattle.sixel_model.specs.declared.rule.Rule.{Rule};
 ghost use Rattle.sixel_explain.specs.declared.explanations.Topic.{Topic};
 ghost use Rattle.sixel_run.specs.declared.fault.RunFault.{RunFault};
 ghost use Rattle.sixel_explain.specs.Explanations.{line_of, listed_names, name_in, topic_name, topic_of};

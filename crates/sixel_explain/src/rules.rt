@@ -3,7 +3,7 @@
 ghost use Rattle.std.specs.Prelude.{◌≡◌, ◌++◌, IfSome, IsNone, codes};
 ghost use Rattle.std.specs.Io.{StartsWith};
 ghost use Rattle.std.specs.Str.{str_to_ascii_lowercase};
-ghost use Rattle.sixel_judge.specs.declared.rule.Rule.{Rule as ARule};
+ghost use Rattle.sixel_model.specs.declared.rule.Rule.{Rule as ARule};
 ghost use Rattle.sixel_run.specs.Texts.{rule_name};
 
 use sixel_check::Rule;

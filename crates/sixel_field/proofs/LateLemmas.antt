@@ -5,12 +5,10 @@ use Rattle.sixel_model.specs.Rules.{Breaks, BreaksNone, BreaksOutside, BreaksUnc
 use Rattle.sixel_model.specs.Rules.{breaks_eight_bit, breaks_colour_value, breaks_ratio, breaks_raster_first}
 use Rattle.sixel_model.specs.Rules.{breaks_raster_twice, breaks_redefined, breaks_register, breaks_repeat_zero}
 use Rattle.sixel_model.specs.Rules.{breaks_undefined, breaks_unselected, definition_of, is_covered, is_painted_in}
-use Rattle.sixel_model.specs.Rules.{known, raster_before}
+use Rattle.sixel_model.specs.Rules.{known, last_rule, raster_before}
 use Rattle.sixel_model.specs.Geometry.{band, column, covers, falls, touches}
 use Rattle.sixel_model.specs.Positions.{any_at, any_below, at_position, earliest, last_at, last_below, latest}
 use Rattle.sixel_model.specs.Positions.{passes_at, since}
-use Rattle.sixel_model.proofs.RuleLemmas.{by_number, by_test, each_rule}
-use Rattle.sixel_model.specs.RuleNumbers.{last_rule}
 use Rattle.sixel_model.specs.Profiles.{count_of}
 use Rattle.sixel_model.specs.declared.profile.Profile.{Profile}
 use Rattle.sixel_model.specs.declared.profile.Profile.TheVariants.{Registers16, Registers256}
@@ -39,7 +37,7 @@ second_of (inr b) h = b
 unbroken : (profile : Profile) → BreaksNone (count_of profile) last_rule late_red
 unfolding decided_by falls_searchable blank_searchable first_of outside_first blank_first outside_decided
     blank_somewhere both_decided uncovered_decided rule_decided held_decided position_decided broken_decided
-    broken_or_none decide_true by_test by_number each_rule least_here least_more least_below in_row row_decided
+    broken_or_none decide_true least_here least_more least_below in_row row_decided
     first_point Breaks
     BreaksOutside BreaksUncovered breaks_box_size breaks_colour_value breaks_eight_bit breaks_ratio
     breaks_raster_first breaks_raster_twice breaks_redefined breaks_register breaks_repeat_zero breaks_undefined

@@ -8,11 +8,11 @@ use Rattle.sixel_grammar.specs.declared.command.Command.TheVariants.{Raster}
 use Rattle.sixel_grammar.specs.declared.command.Event.{Event}
 use Rattle.sixel_grammar.specs.declared.command.Event.TheVariants.{Step}
 use Rattle.sixel_model.specs.declared.colour.Parts.{Parts}
+use Rattle.sixel_model.specs.declared.rule.Rule.TheVariants.{Uncovered}
 use Rattle.sixel_model.specs.Events.{is_data_command, named_by, raster_of, select_of}
 use Rattle.sixel_model.specs.Geometry.{falls}
 use Rattle.sixel_model.specs.Positions.{at_position, last_at, latest}
-use Rattle.sixel_model.specs.Rules.{BreaksNone, breaks_unselected, known, raster_before}
-use Rattle.sixel_model.specs.RuleNumbers.{last_rule, uncovered_rule}
+use Rattle.sixel_model.specs.Rules.{BreaksNone, breaks_unselected, known, last_rule, raster_before}
 use Rattle.sixel_model.proofs.KnownLemmas.{Known, known_is}
 use Rattle.sixel_model.proofs.LastLemmas.{at_there, item_there}
 use Rattle.sixel_model.proofs.PositionLemmas.{last_below_same}
@@ -104,7 +104,7 @@ loaded_there : (n : ℕ) (t : Display) (events : List Event) (i : ℕ) (e : Even
     → touches_on t (take i events) e x y ≡ true
     → loaded_on t (take i events) ≡ map_on t (take i events) (selected_on t (take i events))
 loaded_there n t events i e x y none first here bits touched =
-    let drawn : BreaksNone n uncovered_rule events = none_drawn n events none in
+    let drawn : BreaksNone n Uncovered events = none_drawn n events none in
     let k : Keeps n (take i events) e = keeps_at n events drawn i e here in
     let there : IsSome (raster_before (take i events)) = box_at_data n (take i events) e k bits in
     let fell : falls (take i events) e x y ≡ true

@@ -8,8 +8,7 @@ use Rattle.sixel_model.specs.Colours.{palette_at}
 use Rattle.sixel_model.specs.Events.{definition_where, select_of}
 use Rattle.sixel_model.specs.Pictures.{PictureValue, IsPicture, register_of}
 use Rattle.sixel_model.specs.Positions.{HoldsNowhere, latest}
-use Rattle.sixel_model.specs.Rules.{BreaksNone}
-use Rattle.sixel_model.specs.RuleNumbers.{last_rule}
+use Rattle.sixel_model.specs.Rules.{BreaksNone, last_rule}
 use Rattle.sixel_terminal.specs.Displays.{Display, HasRoom, IsInClass}
 use Rattle.sixel_terminal.specs.Drawing.{shown_on}
 use Rattle.sixel_encode.specs.Canon.{canon}

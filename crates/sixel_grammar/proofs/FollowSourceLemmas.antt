@@ -1,6 +1,6 @@
 -- A source that is followed to its end.
 use Rattle.std.proofs.Common.{◌≡◌, ◌∙◌, ℕ, List, [], ◌++◌, Option, None, Some, Result, Err, ap, append_assoc, refl}
-use Rattle.std.proofs.Common.{subst, sym, take}
+use Rattle.std.proofs.Common.{append-nil, subst, sym, take}
 use Rattle.std.specs.Prelude.{IfSome}
 use Rattle.std.specs.Io.KnownBytes.{Consumes, IsAtEnd}
 use Rattle.sixel_grammar.specs.declared.command.Placed.{Placed}
@@ -16,6 +16,7 @@ use Rattle.sixel_grammar.specs.Following.{AreFollowed, FollowsBytes, HaltsWithin
 use Rattle.sixel_grammar.specs.Reading.{Explains, failures_after}
 use Rattle.sixel_grammar.specs.Source.{FollowsSource, HaltsSource, failures_of, fault_of_source, source_halt_of}
 use Rattle.sixel_grammar.specs.Standing.{StandsAfter}
+use Rattle.sixel_grammar.proofs.FollowingLemmas.{always_refused}
 use Rattle.sixel_grammar.proofs.SourceLemmas.{told_all}
 
 -- what had taken no event has now taken those that are complete in these bytes
@@ -56,19 +57,20 @@ follows_source has_taken old now reader a b c prefix piece n follows before none
 -- ---- bytes at which it was halted
 
 -- what ends the following of a piece is right for all bytes
-pub halts_source : {F S : Type 0} (has_taken : F → F → List Placed → Type 0) (may_stop : F → S → List Placed → Type 0)
-    (old now first : F) (reader r : Reader) (prefix more : List ℕ) (a c : Option (List ℕ)) (halt : halt.Halt S)
-    → has_taken first old [] → Follows has_taken old reader now prefix → Consumes a c (prefix ++ more)
-    → HaltsWithin has_taken may_stop reader now r more halt
-    → IfSome a (HaltsSource has_taken may_stop old (source_halt_of halt))
-halts_source has_taken may_stop old now first reader r prefix more None c halt h before consumes halts = tt
-halts_source has_taken may_stop old now first reader r prefix more (Some a) None halt h before consumes halts =
+pub halts_source : {F S : Type 0} (has_taken : F → F → List Placed → Type 0)
+    (may_stop : F → F → S → List Placed → Type 0) (old now new first : F) (reader r : Reader) (prefix more : List ℕ)
+    (a c : Option (List ℕ)) (halt : halt.Halt S) → has_taken first old [] → Follows has_taken old reader now prefix
+    → Consumes a c (prefix ++ more) → HaltsWithin has_taken may_stop reader now r new more halt
+    → IfSome a (HaltsSource has_taken may_stop old new (source_halt_of halt))
+halts_source has_taken may_stop old now new first reader r prefix more None c halt h before consumes halts = tt
+halts_source has_taken may_stop old now new first reader r prefix more (Some a) None halt h before consumes halts =
     absurd consumes
-halts_source has_taken may_stop old now first reader r prefix more (Some a) (Some c) (halt.TheVariants.Refused fault) h
-    before consumes halts =
-    subst (λ (t : List ℕ). IsFaultOf t fault) (sym consumes) ((halts first prefix (before first h)).1 c)
-halts_source has_taken may_stop old now first reader r prefix more (Some a) (Some c) (halt.TheVariants.Stopped stop) h
-    before consumes halts = λ other taken.
+halts_source has_taken may_stop old now new first reader r prefix more (Some a) (Some c)
+    (halt.TheVariants.Refused fault) h before consumes halts =
+    subst (λ (t : List ℕ). IsFaultOf t fault) (sym consumes)
+    (always_refused (has_taken first) r new (prefix ++ more) fault (halts first prefix (before first h)) c)
+halts_source has_taken may_stop old now new first reader r prefix more (Some a) (Some c)
+    (halt.TheVariants.Stopped stop) h before consumes halts = λ other taken.
     let w = halts other prefix (before other taken) in
     record {
       read = w.read;
@@ -86,6 +88,19 @@ pub halt_counts : {S : Type 0} (halt : halt.Halt S) (n : ℕ) → n ≡ failures
 halt_counts (halt.TheVariants.Refused fault) n = refl
 halt_counts (halt.TheVariants.Stopped stop) n = refl
 
+-- the same of bytes that are all there
+pub halts_document : {F S : Type 0} (has_taken : F → F → List Placed → Type 0)
+    (may_stop : F → F → S → List Placed → Type 0) (old new first : F) (reader r : Reader) (bytes : List ℕ)
+    (halt : halt.Halt S) → has_taken first old [] → StandsAfter reader [] []
+    → HaltsWithin has_taken may_stop reader old r new bytes halt
+    → HaltsSource has_taken may_stop old new (source_halt_of halt) bytes
+halts_document has_taken may_stop old new first reader r bytes (halt.TheVariants.Refused fault) h stands halts =
+    subst (λ (t : List ℕ). IsFaultOf t fault) (append-nil bytes)
+    (always_refused (has_taken first) r new bytes fault
+    (halts first [] (record { events = []; read = stands; taken = h })) [])
+halts_document has_taken may_stop old new first reader r bytes (halt.TheVariants.Stopped stop) h stands halts = λ f t.
+    halts f [] (record { events = []; read = stands; taken = t })
+
 -- ---- for callers
 
 -- what holds of the document's bytes holds of the source's, if these are known
@@ -96,12 +111,12 @@ told_known (Some given) bytes P are p = subst P (sym are) p
 
 -- the fault that a halt is explains the bytes
 pub halt_explains : {F S : Type 0} (has_taken : F → F → List Placed → Type 0)
-    (may_stop : F → S → List Placed → Type 0) (old : F) (known : Option (List ℕ)) (halt : SourceHalt S)
-    → IfSome known (HaltsSource has_taken may_stop old halt) → IfSome known (Explains (fault_of_source halt))
-halt_explains has_taken may_stop old None halt h = tt
-halt_explains has_taken may_stop old (Some bytes) Read h = tt
-halt_explains has_taken may_stop old (Some bytes) (Refused fault) h = h
-halt_explains has_taken may_stop old (Some bytes) (Stopped stop) h = tt
+    (may_stop : F → F → S → List Placed → Type 0) (old new : F) (known : Option (List ℕ)) (halt : SourceHalt S)
+    → IfSome known (HaltsSource has_taken may_stop old new halt) → IfSome known (Explains (fault_of_source halt))
+halt_explains has_taken may_stop old new None halt h = tt
+halt_explains has_taken may_stop old new (Some bytes) Read h = tt
+halt_explains has_taken may_stop old new (Some bytes) (Refused fault) h = h
+halt_explains has_taken may_stop old new (Some bytes) (Stopped stop) h = tt
 
 -- the same count of failures
 pub halt_failures : {S : Type 0} (A : Type 0) (halt : SourceHalt S) (n : ℕ)
@@ -125,13 +140,13 @@ halt_unread A P halt h is = h (ap Err (halt_is_read A halt is))
 
 -- only a stop is a want of memory, so this holds of the bytes if it does wherever the follower may stop
 pub halt_memory : {F S : Type 0} (A : Type 0) (has_taken : F → F → List Placed → Type 0)
-    (may_stop : F → S → List Placed → Type 0) (old : F) (known : Option (List ℕ)) (halt : SourceHalt S)
+    (may_stop : F → F → S → List Placed → Type 0) (old new : F) (known : Option (List ℕ)) (halt : SourceHalt S)
     (P : List ℕ → Type 0)
-    → ((stop : S) (bytes : List ℕ) → HaltsSource has_taken may_stop old (Stopped stop) bytes → P bytes)
-    → IfSome known (HaltsSource has_taken may_stop old halt)
+    → ((stop : S) (bytes : List ℕ) → HaltsSource has_taken may_stop old new (Stopped stop) bytes → P bytes)
+    → IfSome known (HaltsSource has_taken may_stop old new halt)
     → IfSome known (λ bytes.
     (let r : Result A InputFault = Err (fault_of_source halt) in r) ≡ Err OutOfMemory → P bytes)
-halt_memory A has_taken may_stop old None halt P stops h = tt
-halt_memory A has_taken may_stop old (Some bytes) Read P stops h = λ is. cc
-halt_memory A has_taken may_stop old (Some bytes) (Refused fault) P stops h = λ is. cc
-halt_memory A has_taken may_stop old (Some bytes) (Stopped stop) P stops h = λ is. stops stop bytes h
+halt_memory A has_taken may_stop old new None halt P stops h = tt
+halt_memory A has_taken may_stop old new (Some bytes) Read P stops h = λ is. cc
+halt_memory A has_taken may_stop old new (Some bytes) (Refused fault) P stops h = λ is. cc
+halt_memory A has_taken may_stop old new (Some bytes) (Stopped stop) P stops h = λ is. stops stop bytes h

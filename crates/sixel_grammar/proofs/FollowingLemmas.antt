@@ -1,9 +1,9 @@
 -- Events that are handed on while they are read.
-use Rattle.std.proofs.Common.{◌≡◌, ◌==◌, ◌∙◌, ◌-◌, ◌<◌, ℕ, true, List, [], ◌∷◌, ◌++◌, Option, None, Some, Result, Ok, Err}
-use Rattle.std.proofs.Common.{ap, ap₂, append_assoc, arith, drop, get_or, length, length-append, refl, subst, sym, take}
+use Rattle.std.proofs.Common.{◌≡◌, ◌==◌, ◌∙◌, ◌-◌, ◌<◌, ℕ, true, List, [], ◌∷◌, ◌++◌, Result, Ok, Err}
+use Rattle.std.proofs.Common.{ap, append_assoc, arith, drop, get_or, length, length-append, refl, subst, sym, take}
 use Rattle.std.specs.Prelude.{IfErr, OnOk}
 use Rattle.std.proofs.lemmas.Bool.{eqb-true}
-use Rattle.std.proofs.lemmas.List.{append-nil, drop-take, length-drop, take-append-drop, take-take}
+use Rattle.std.proofs.lemmas.List.{append-nil, length-drop, take-append-drop}
 use Rattle.sixel_grammar.specs.declared.command.Placed.{Placed}
 use Rattle.sixel_grammar.specs.declared.command.Run.{Run}
 use Rattle.sixel_grammar.specs.declared.fault.Fault.{Fault}
@@ -11,8 +11,8 @@ use Rattle.sixel_grammar.specs.declared.following.Halt.{Halt}
 use Rattle.sixel_grammar.specs.declared.following.Halt.TheVariants.{Refused, Stopped}
 use Rattle.sixel_grammar.specs.declared.reader.Reader.{Reader}
 use Rattle.sixel_grammar.specs.Faults.{IsFaultOf}
-use Rattle.sixel_grammar.specs.Following.{AreFollowed, FollowsBytes, HaltsWithin, HoldsIn, HoldsWithin, MayFollow}
-use Rattle.sixel_grammar.specs.Following.{StopsAmong, TakesEvents, halt_of}
+use Rattle.sixel_grammar.specs.Following.{AreFollowed, FollowsBytes, HaltsWithin, HoldsIn, MayFollow}
+use Rattle.sixel_grammar.specs.Following.{RefusesAt, StopsAmong, TakesEvents, halt_of}
 use Rattle.sixel_grammar.specs.Runs.{TakesRun, columns_in, events_of_run}
 use Rattle.sixel_grammar.specs.Standing.{Refuses, StandsAfter, Takes}
 use Rattle.sixel_grammar.proofs.SourceLemmas.{take_past}
@@ -60,10 +60,10 @@ pub takes_then : {F : Type 0} (has_taken : F → F → List Placed → Type 0) (
 takes_then has_taken a b c xs ys one two = λ first seen h.
     subst (has_taken first c) (append_assoc seen xs ys) (two first (seen ++ xs) (one first seen h))
 
-pub stops_first : {F S : Type 0} (has_taken : F → F → List Placed → Type 0) (may_stop : F → S → List Placed → Type 0)
-    (a : F) (xs ys : List Placed) (stop : S) → StopsAmong has_taken may_stop a xs stop
-    → StopsAmong has_taken may_stop a (xs ++ ys) stop
-stops_first has_taken may_stop a xs ys stop stops = λ first seen h.
+pub stops_first : {F S : Type 0} (has_taken : F → F → List Placed → Type 0)
+    (may_stop : F → F → S → List Placed → Type 0) (a b : F) (xs ys : List Placed) (stop : S)
+    → StopsAmong has_taken may_stop a b xs stop → StopsAmong has_taken may_stop a b (xs ++ ys) stop
+stops_first has_taken may_stop a b xs ys stop stops = λ first seen h.
     let w = stops first seen h in
     record {
       taken = w.taken;
@@ -72,16 +72,17 @@ stops_first has_taken may_stop a xs ys stop stops = λ first seen h.
       holds = w.holds;
     }
 
-pub stops_then : {F S : Type 0} (has_taken : F → F → List Placed → Type 0) (may_stop : F → S → List Placed → Type 0)
-    (a b : F) (xs ys : List Placed) (stop : S) → TakesEvents has_taken a b xs
-    → StopsAmong has_taken may_stop b ys stop → StopsAmong has_taken may_stop a (xs ++ ys) stop
-stops_then has_taken may_stop a b xs ys stop takes stops = λ first seen h.
+pub stops_then : {F S : Type 0} (has_taken : F → F → List Placed → Type 0)
+    (may_stop : F → F → S → List Placed → Type 0) (a b c : F) (xs ys : List Placed) (stop : S)
+    → TakesEvents has_taken a b xs → StopsAmong has_taken may_stop b c ys stop
+    → StopsAmong has_taken may_stop a c (xs ++ ys) stop
+stops_then has_taken may_stop a b c xs ys stop takes stops = λ first seen h.
     let w = stops first (seen ++ xs) (takes first seen h) in
     record {
       taken = xs ++ w.taken;
       rest = w.rest;
       are = ap (λ (es : List Placed). xs ++ es) w.are ∙ sym (append_assoc xs w.taken w.rest);
-      holds = subst (may_stop first stop) (append_assoc seen xs w.taken) w.holds;
+      holds = subst (may_stop first c stop) (append_assoc seen xs w.taken) w.holds;
     }
 
 -- ---- the events of a byte, and of a run
@@ -95,11 +96,11 @@ followed_byte has_taken reader r old new byte more reads takes = λ first prefix
   taken = takes first a.events a.taken;
 }
 
-pub stopped_byte : {F S : Type 0} (has_taken : F → F → List Placed → Type 0) (may_stop : F → S → List Placed → Type 0)
-    (reader r : Reader) (old : F) (byte : ℕ) (more : List Placed) (stop : S) → Takes reader r byte more
-    → StopsAmong has_taken may_stop old more stop
-    → HaltsWithin has_taken may_stop reader old r (byte ∷ []) (Stopped stop)
-stopped_byte has_taken may_stop reader r old byte more stop reads stops = λ first prefix a.
+pub stopped_byte : {F S : Type 0} (has_taken : F → F → List Placed → Type 0)
+    (may_stop : F → F → S → List Placed → Type 0) (reader r : Reader) (old new : F) (byte : ℕ)
+    (more : List Placed) (stop : S) → Takes reader r byte more → StopsAmong has_taken may_stop old new more stop
+    → HaltsWithin has_taken may_stop reader old r new (byte ∷ []) (Stopped stop)
+stopped_byte has_taken may_stop reader r old new byte more stop reads stops = λ first prefix a.
     let w = stops first a.events a.taken in
     record {
       read = prefix ++ byte ∷ [];
@@ -114,15 +115,25 @@ stopped_byte has_taken may_stop reader r old byte more stop reads stops = λ fir
       holds = w.holds;
     }
 
-pub refused_byte : {F S : Type 0} (has_taken : F → F → List Placed → Type 0) (may_stop : F → S → List Placed → Type 0)
-    (reader r : Reader) (old : F) (byte : ℕ) (fault : Fault) → Refuses reader r byte fault
-    → HaltsWithin has_taken may_stop reader old r (byte ∷ []) (Refused fault)
+pub refused_byte : {F S : Type 0} (has_taken : F → F → List Placed → Type 0)
+    (may_stop : F → F → S → List Placed → Type 0) (reader r : Reader) (old : F) (byte : ℕ) (fault : Fault)
+    → Refuses reader r byte fault
+    → HaltsWithin has_taken may_stop reader old r old (byte ∷ []) (Refused fault)
 refused_byte has_taken may_stop reader r old byte fault refuses = λ first prefix a.
-    let t = refuses a.events prefix a.read in (
-      t.2,
-      λ rest.
-          fault_stays (prefix ++ byte ∷ []) rest fault t.0 (omega (arith, t.1, length-append prefix (byte ∷ []))),
-    )
+    let t = refuses a.events prefix a.read in
+    record {
+      kept = t.2;
+      read = prefix;
+      byte = byte;
+      unread = [];
+      bytes_are = refl;
+      is_fault = λ rest.
+          subst (λ (b : List ℕ). IsFaultOf b fault) (append_assoc prefix (byte ∷ []) rest)
+          (fault_stays (prefix ++ byte ∷ []) rest fault t.0 (omega (arith, t.1, length-append prefix (byte ∷ []))));
+      place = t.1;
+      before = reader;
+      followed = a;
+    }
 
 pub followed_run : {F : Type 0} (has_taken : F → F → List Placed → Type 0) (reader r : Reader) (old new : F)
     (run : Run) (piece : List ℕ) → TakesRun reader r run piece
@@ -134,11 +145,12 @@ followed_run has_taken reader r old new run piece reads takes = λ first prefix 
   taken = takes first a.events a.taken;
 }
 
-pub stopped_run : {F S : Type 0} (has_taken : F → F → List Placed → Type 0) (may_stop : F → S → List Placed → Type 0)
-    (reader r : Reader) (old : F) (run : Run) (piece : List ℕ) (stop : S) → TakesRun reader r run piece
-    → StopsAmong has_taken may_stop old (events_of_run run piece) stop
-    → HaltsWithin has_taken may_stop reader old r piece (Stopped stop)
-stopped_run has_taken may_stop reader r old run piece stop reads stops = λ first prefix a.
+pub stopped_run : {F S : Type 0} (has_taken : F → F → List Placed → Type 0)
+    (may_stop : F → F → S → List Placed → Type 0) (reader r : Reader) (old new : F) (run : Run)
+    (piece : List ℕ) (stop : S) → TakesRun reader r run piece
+    → StopsAmong has_taken may_stop old new (events_of_run run piece) stop
+    → HaltsWithin has_taken may_stop reader old r new piece (Stopped stop)
+stopped_run has_taken may_stop reader r old new run piece stop reads stops = λ first prefix a.
     let w = stops first a.events a.taken in
     record {
       read = prefix ++ take run.length piece;
@@ -154,23 +166,36 @@ stopped_run has_taken may_stop reader r old run piece stop reads stops = λ firs
       holds = w.holds;
     }
 
+-- the fault is that of any bytes that begin with all of these
+pub always_refused : {F : Type 0} (has_taken : F → List Placed → Type 0) (r : Reader) (follower : F) (bytes : List ℕ)
+    (fault : Fault) → RefusesAt has_taken r follower bytes fault → (rest : List ℕ) → IsFaultOf (bytes ++ rest) fault
+always_refused has_taken r follower bytes fault h rest =
+    subst (λ (b : List ℕ). IsFaultOf b fault)
+    (sym (ap (λ (b : List ℕ). b ++ rest) h.bytes_are ∙ append_assoc h.read (h.byte ∷ h.unread) rest))
+    (h.is_fault (h.unread ++ rest))
+
 -- ---- a piece in parts
 
 -- with bytes behind them
-pub halts_longer : {F S : Type 0} (has_taken : F → F → List Placed → Type 0) (may_stop : F → S → List Placed → Type 0)
-    (reader r : Reader) (old : F) (more later : List ℕ) (halt : Halt S)
-    → HaltsWithin has_taken may_stop reader old r more halt
-    → HaltsWithin has_taken may_stop reader old r (more ++ later) halt
-halts_longer has_taken may_stop reader r old more later (Refused fault) halts = λ first prefix a.
-    let h = halts first prefix a in (
-      h.0,
-      λ rest.
-          subst (λ (t : List ℕ). IsFaultOf t fault)
-          (sym (append_assoc (prefix ++ more) later rest)
-          ∙ ap (λ (t : List ℕ). t ++ rest) (append_assoc prefix more later))
-          (h.1 (later ++ rest)),
-    )
-halts_longer has_taken may_stop reader r old more later (Stopped stop) halts = λ first prefix a.
+pub halts_longer : {F S : Type 0} (has_taken : F → F → List Placed → Type 0)
+    (may_stop : F → F → S → List Placed → Type 0) (reader r : Reader) (old new : F) (more later : List ℕ)
+    (halt : Halt S) → HaltsWithin has_taken may_stop reader old r new more halt
+    → HaltsWithin has_taken may_stop reader old r new (more ++ later) halt
+halts_longer has_taken may_stop reader r old new more later (Refused fault) halts = λ first prefix a.
+    let h = halts first prefix a in
+    record {
+      kept = h.kept;
+      read = h.read;
+      byte = h.byte;
+      unread = h.unread ++ later;
+      bytes_are = sym (append_assoc prefix more later) ∙ ap (λ (t : List ℕ). t ++ later) h.bytes_are
+          ∙ append_assoc h.read (h.byte ∷ h.unread) later;
+      is_fault = h.is_fault;
+      place = h.place;
+      before = h.before;
+      followed = h.followed;
+    }
+halts_longer has_taken may_stop reader r old new more later (Stopped stop) halts = λ first prefix a.
     let h = halts first prefix a in
     record {
       read = h.read;
@@ -185,28 +210,17 @@ halts_longer has_taken may_stop reader r old more later (Stopped stop) halts = �
     }
 
 -- after bytes that were followed
-pub halts_later : {F S : Type 0} (has_taken : F → F → List Placed → Type 0) (may_stop : F → S → List Placed → Type 0)
-    (reader mid r : Reader) (old now : F) (before more : List ℕ) (halt : Halt S)
-    → FollowsBytes has_taken reader old mid now before → HaltsWithin has_taken may_stop mid now r more halt
-    → HaltsWithin has_taken may_stop reader old r (before ++ more) halt
-halts_later has_taken may_stop reader mid r old now before more (Refused fault) follows halts = λ first prefix a.
-    let h = halts first (prefix ++ before) (follows first prefix a) in (
-      h.0,
-      λ rest.
-          subst (λ (t : List ℕ). IsFaultOf (t ++ rest) fault) (append_assoc prefix before more) (h.1 rest),
-    )
-halts_later has_taken may_stop reader mid r old now before more (Stopped stop) follows halts = λ first prefix a.
-    let h = halts first (prefix ++ before) (follows first prefix a) in
-    record {
-      read = h.read;
-      unread = h.unread;
-      bytes_are = sym (append_assoc prefix before more) ∙ h.bytes_are;
-      taken = h.taken;
-      rest = h.rest;
-      reader = h.reader;
-      stands = h.stands;
-      holds = h.holds;
-    }
+pub halts_later : {F S : Type 0} (has_taken : F → F → List Placed → Type 0)
+    (may_stop : F → F → S → List Placed → Type 0) (reader mid r : Reader) (old now new : F) (before more : List ℕ)
+    (halt : Halt S) → FollowsBytes has_taken reader old mid now before
+    → HaltsWithin has_taken may_stop mid now r new more halt
+    → HaltsWithin has_taken may_stop reader old r new (before ++ more) halt
+halts_later has_taken may_stop reader mid r old now new before more (Refused fault) follows halts = λ first prefix a.
+    subst (λ (t : List ℕ). RefusesAt (has_taken first) r new t fault) (append_assoc prefix before more)
+    (halts first (prefix ++ before) (follows first prefix a))
+halts_later has_taken may_stop reader mid r old now new before more (Stopped stop) follows halts = λ first prefix a.
+    subst (HoldsIn (may_stop first new stop)) (append_assoc prefix before more)
+    (halts first (prefix ++ before) (follows first prefix a))
 
 pub follows_later : {F : Type 0} (has_taken : F → F → List Placed → Type 0) (reader mid r : Reader) (old now new : F)
     (before more : List ℕ) → FollowsBytes has_taken reader old mid now before

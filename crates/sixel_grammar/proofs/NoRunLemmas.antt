@@ -1,5 +1,5 @@
 -- Bytes that begin with no run.
-use Rattle.std.proofs.Common.{◌≡◌, ◌≢◌, ◌∙◌, ℕ, ◌+◌, ◌-◌, ◌<◌, ◌≤◌, true, false, List, [], ◌∷◌, ◌++◌, length, get_or}
+use Rattle.std.proofs.Common.{◌≡◌, ◌≢◌, ◌∙◌, ℕ, ◌+◌, ◌<◌, ◌≤◌, true, false, List, [], ◌∷◌, ◌++◌, length, get_or}
 use Rattle.std.proofs.Common.{take, drop, None, refl, sym, ap, subst, arith, length-append, append_assoc, ◌⊎◌, inl, inr}
 use Rattle.std.proofs.Common.{Option, zero, suc}
 use Rattle.std.specs.Prelude.{nat_le}

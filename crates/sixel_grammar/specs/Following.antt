@@ -1,5 +1,5 @@
 -- A reader, and what takes the events that it reads.
-use Rattle.std.specs.Prelude.{◌≡◌, ◌++◌, ℕ, List, Some, Result, Ok, Err}
+use Rattle.std.specs.Prelude.{◌≡◌, ◌∷◌, ◌++◌, ℕ, List, Some, Result, Ok, Err, length}
 use Rattle.sixel_grammar.specs.declared.command.Command.{Command}
 use Rattle.sixel_grammar.specs.declared.command.Event.TheVariants.{Step}
 use Rattle.sixel_grammar.specs.declared.command.Placed.{Placed}
@@ -44,11 +44,11 @@ pub record HoldsWithin (stops : List Placed → Type 0) (seen more : List Placed
   pub are : more ≡ taken ++ rest
   pub holds : stops (seen ++ taken)
 
--- what had taken some events may stop so at one of `more`
-abbrev pub StopsAmong : {F S : Type 0} → (F → F → List Placed → Type 0) → (F → S → List Placed → Type 0) → F
+-- what had taken some events may stop so at one of `more`, and is `new` then
+abbrev pub StopsAmong : {F S : Type 0} → (F → F → List Placed → Type 0) → (F → F → S → List Placed → Type 0) → F → F
     → List Placed → S → Type 0
-StopsAmong {F} has_taken may_stop old more stop =
-    (first : F) (seen : List Placed) → has_taken first old seen → HoldsWithin (may_stop first stop) seen more
+StopsAmong {F} has_taken may_stop old new more stop =
+    (first : F) (seen : List Placed) → has_taken first old seen → HoldsWithin (may_stop first new stop) seen more
 
 -- the reader has read these bytes, and the events that are complete in them were taken
 pub record AreFollowed {F : Type 0} (has_taken : F → List Placed → Type 0) (reader : Reader) (follower : F)
@@ -74,13 +74,27 @@ pub record HoldsIn (stops : List Placed → Type 0) (bytes : List ℕ) : Type 0 
   pub stands : StandsAfter reader (taken ++ rest) read
   pub holds : stops taken
 
--- after some bytes were read and followed, this ended it within `more`. Refused: the reader has come to this fault,
--- which is that of any bytes that begin with all of these. Stopped: the follower stopped at an event
-abbrev pub HaltsWithin : {F S : Type 0} → (F → F → List Placed → Type 0) → (F → S → List Placed → Type 0) → Reader → F
-    → Reader → List ℕ → Halt S → Type 0
-HaltsWithin {F} has_taken may_stop reader old r more (Refused fault) =
+-- a byte of these is refused: the reader has come to this fault, which is that of any bytes that begin with those read
+-- before and this byte; and the events before it were taken
+pub record RefusesAt {F : Type 0} (has_taken : F → List Placed → Type 0) (r : Reader) (follower : F) (bytes : List ℕ)
+    (fault : Fault) : Type 0 where
+  pub kept : fault_of r ≡ Some fault
+  pub read : List ℕ
+  pub byte : ℕ
+  pub unread : List ℕ
+  pub bytes_are : bytes ≡ read ++ byte ∷ unread
+  pub is_fault : (rest : List ℕ) → IsFaultOf (read ++ byte ∷ rest) fault
+  pub place : fault.place ≡ length read
+  pub before : Reader
+  pub followed : AreFollowed has_taken before follower read
+
+-- after some bytes were read and followed, this ended it within `more`. Refused: at a byte, and the events before it
+-- were taken. Stopped: the follower stopped at an event
+abbrev pub HaltsWithin : {F S : Type 0} → (F → F → List Placed → Type 0) → (F → F → S → List Placed → Type 0) → Reader
+    → F → Reader → F → List ℕ → Halt S → Type 0
+HaltsWithin {F} has_taken may_stop reader old r new more (Refused fault) =
     (first : F) (prefix : List ℕ) → AreFollowed (has_taken first) reader old prefix
-    → (fault_of r ≡ Some fault) × ((rest : List ℕ) → IsFaultOf ((prefix ++ more) ++ rest) fault)
-HaltsWithin {F} has_taken may_stop reader old r more (Stopped stop) =
+    → RefusesAt (has_taken first) r new (prefix ++ more) fault
+HaltsWithin {F} has_taken may_stop reader old r new more (Stopped stop) =
     (first : F) (prefix : List ℕ) → AreFollowed (has_taken first) reader old prefix
-    → HoldsIn (may_stop first stop) (prefix ++ more)
+    → HoldsIn (may_stop first new stop) (prefix ++ more)

@@ -38,12 +38,12 @@ FollowsSource {F} has_taken old new known =
 
 -- why a source of these bytes wasn't followed to its end. Read: it says nothing about the bytes. Refused: this is their
 -- fault. Stopped: what had taken no event stopped so at one of those that are complete in some of the bytes
-abbrev pub HaltsSource : {F S : Type 0} → (F → F → List Placed → Type 0) → (F → S → List Placed → Type 0) → F
+abbrev pub HaltsSource : {F S : Type 0} → (F → F → List Placed → Type 0) → (F → F → S → List Placed → Type 0) → F → F
     → SourceHalt S → List ℕ → Type 0
-HaltsSource {F} has_taken may_stop old Read bytes = Unit {0}
-HaltsSource {F} has_taken may_stop old (Refused fault) bytes = IsFaultOf bytes fault
-HaltsSource {F} has_taken may_stop old (Stopped stop) bytes =
-    (first : F) → has_taken first old [] → HoldsIn (may_stop first stop) bytes
+HaltsSource {F} has_taken may_stop old new Read bytes = Unit {0}
+HaltsSource {F} has_taken may_stop old new (Refused fault) bytes = IsFaultOf bytes fault
+HaltsSource {F} has_taken may_stop old new (Stopped stop) bytes =
+    (first : F) → has_taken first old [] → HoldsIn (may_stop first new stop) bytes
 
 -- the source's count of failures after the call: one more after `Read`, otherwise the same
 abbrev pub failures_of : {S : Type 0} → Result (Unit {0}) (SourceHalt S) → ℕ → ℕ

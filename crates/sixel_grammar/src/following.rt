@@ -17,6 +17,7 @@ use crate::command::{Columns, Command, Completed, Event, Placed, Plain, Run, Two
 use crate::fault::{Fault, InputFault};
 use crate::reader::Reader;
 use std::alloc::AllocError;
+use std::convert::Infallible;
 
 /// Why the bytes weren't followed to their end.
 #[derive(Clone, Copy, Debug, PartialEq, Eq)]
@@ -52,6 +53,21 @@ impl From<Halt<AllocError>> for InputFault {
     }
 }
 
+/// Where the follower never stops.
+impl From<Halt<Infallible>> for Fault {
+    ghost use Rattle.std.specs.Prelude.{◌≡◌};
+    ghost use Rattle.sixel_grammar.specs.declared.following.Halt.TheVariants.{Refused};
+
+    ghost from_gives = { λ halt result. halt ≡ Refused result };
+
+    fn from(halt: Halt<Infallible>) -> Fault {
+        match halt {
+            Halt::Refused(fault) => fault,
+            Halt::Stopped(never) => match never {},
+        }
+    }
+}
+
 /// What takes the events of a document, in order, each with its offset.
 pub trait Follower {
     /// Why it stops before the end. If it never does, it is a type without values.
@@ -60,22 +76,24 @@ pub trait Follower {
     /// `has_taken first now events`: what was `first` before these events is `now` after them.
     ghost has_taken: { Self → Self → List PlacedValue → Type 0 };
 
-    /// `may_stop first stop events`: what was `first` before these events may stop so at the last of them.
-    ghost may_stop: { Self → Self.Stop → List PlacedValue → Type 0 };
+    /// `may_stop first now stop events`: what was `first` before these events may stop so at the last of them, and is
+    /// `now` then.
+    ghost may_stop: { Self → Self → Self.Stop → List PlacedValue → Type 0 };
 
     /// Takes an event of any kind.
     fn take(&mut self, placed: &Placed) -> Result<(), Self::Stop>
         requires { (first : Self) × (seen : List PlacedValue) × has_taken first self.old seen
             × MayFollow seen (placed.now ∷ []) }
         ensures taken { OnOk result (TakesEvents has_taken self.old self.new (placed.now ∷ [])) }
-        ensures stopped { IfErr result (StopsAmong has_taken may_stop self.old (placed.now ∷ [])) };
+        ensures stopped { IfErr result (StopsAmong has_taken may_stop self.old self.new (placed.now ∷ [])) };
 
     /// Takes a command whose first byte has the offset `place`. It is called where speed counts.
     fn take_command(&mut self, place: u64, command: Command) -> Result<(), Self::Stop>
         requires { (first : Self) × (seen : List PlacedValue) × has_taken first self.old seen
             × MayFollow seen (command_at place command ∷ []) }
         ensures taken { OnOk result (TakesEvents has_taken self.old self.new (command_at place command ∷ [])) }
-        ensures stopped { IfErr result (StopsAmong has_taken may_stop self.old (command_at place command ∷ [])) };
+        ensures stopped { IfErr result (StopsAmong has_taken may_stop self.old self.new
+            (command_at place command ∷ [])) };
 
     /// Takes a select whose first byte has the offset `place`. It is called for each with columns behind it in one
     /// piece.
@@ -84,7 +102,7 @@ pub trait Follower {
             × MayFollow seen (command_at place (Command.Select register) ∷ []) }
         ensures taken { OnOk result (TakesEvents has_taken self.old self.new
             (command_at place (Command.Select register) ∷ [])) }
-        ensures stopped { IfErr result (StopsAmong has_taken may_stop self.old
+        ensures stopped { IfErr result (StopsAmong has_taken may_stop self.old self.new
             (command_at place (Command.Select register) ∷ [])) };
 
     /// Takes a repeat whose first byte has the offset `place`. It is called for each whose columns stand in one piece.
@@ -93,7 +111,7 @@ pub trait Follower {
             × MayFollow seen (command_at place (Command.Repeat count bits) ∷ []) }
         ensures taken { OnOk result (TakesEvents has_taken self.old self.new
             (command_at place (Command.Repeat count bits) ∷ [])) }
-        ensures stopped { IfErr result (StopsAmong has_taken may_stop self.old
+        ensures stopped { IfErr result (StopsAmong has_taken may_stop self.old self.new
             (command_at place (Command.Repeat count bits) ∷ [])) };
 
     /// Takes the sixels of the first `count` of these bytes; the first byte has the offset `place`. Some bytes may
@@ -105,8 +123,42 @@ pub trait Follower {
         requires within { (0 < count) × (count ≤ length bytes.now) }
         requires limit { place + count ≤ most_bytes }
         ensures taken { OnOk result (TakesEvents has_taken self.old self.new (sixels_from place (take count bytes.now))) }
-        ensures stopped { IfErr result (StopsAmong has_taken may_stop self.old
+        ensures stopped { IfErr result (StopsAmong has_taken may_stop self.old self.new
             (sixels_from place (take count bytes.now))) };
+}
+
+/// Keeps nothing of the events.
+impl Follower for () {
+    type Stop = Infallible;
+
+    ghost has_taken = { λ first now seen. Unit {0} };
+
+    ghost may_stop = { λ first now stop seen. ⊥ };
+
+    fn take(&mut self, _placed: &Placed) -> Result<(), Infallible> {
+        Ok(())
+    }
+
+    fn take_command(&mut self, _place: u64, _command: Command) -> Result<(), Infallible> {
+        Ok(())
+    }
+
+    fn take_select(&mut self, _place: u64, _register: u16) -> Result<(), Infallible> {
+        Ok(())
+    }
+
+    fn take_repeat(&mut self, _place: u64, _count: u16, _bits: u8) -> Result<(), Infallible> {
+        Ok(())
+    }
+
+    fn take_stretch(
+        &mut self,
+        _place: u64,
+        _bytes: &[u8],
+        _count: usize,
+    ) -> Result<(), Infallible> {
+        Ok(())
+    }
 }
 
 /// Hands on an event, if there is one.
@@ -114,7 +166,8 @@ fn hand_one<F: Follower>(follower: &mut F, placed: Option<Placed>) -> Result<(),
     requires { (first : F) × (seen : List PlacedValue) × F.has_taken first follower.old seen
         × MayFollow seen (option_to_list placed) }
     ensures taken { OnOk result (TakesEvents F.has_taken follower.old follower.new (option_to_list placed)) }
-    ensures stopped { IfErr result (StopsAmong F.has_taken F.may_stop follower.old (option_to_list placed)) }
+    ensures stopped { IfErr result (StopsAmong F.has_taken F.may_stop follower.old follower.new
+        (option_to_list placed)) }
 {
     match placed {
         None => Ok(()),
@@ -127,7 +180,8 @@ fn hand_completed<F: Follower>(follower: &mut F, completed: Completed) -> Result
     requires { (first : F) × (seen : List PlacedValue) × F.has_taken first follower.old seen
         × MayFollow seen (completions completed) }
     ensures taken { OnOk result (TakesEvents F.has_taken follower.old follower.new (completions completed)) }
-    ensures stopped { IfErr result (StopsAmong F.has_taken F.may_stop follower.old (completions completed)) }
+    ensures stopped { IfErr result (StopsAmong F.has_taken F.may_stop follower.old follower.new
+        (completions completed)) }
 {
     let Completed { first, second } = completed;
     hand_one(follower, first)?;
@@ -139,7 +193,8 @@ fn hand_two<F: Follower>(follower: &mut F, two: TwoCommands) -> Result<(), F::St
     requires { (first : F) × (seen : List PlacedValue) × F.has_taken first follower.old seen
         × MayFollow seen (two_commands two) }
     ensures taken { OnOk result (TakesEvents F.has_taken follower.old follower.new (two_commands two)) }
-    ensures stopped { IfErr result (StopsAmong F.has_taken F.may_stop follower.old (two_commands two)) }
+    ensures stopped { IfErr result (StopsAmong F.has_taken F.may_stop follower.old follower.new
+        (two_commands two)) }
 {
     let ended = Event::Step(two.ended);
     follower.take(&Placed {
@@ -163,7 +218,8 @@ fn hand_select<F: Follower>(
     requires { (first : F) × (seen : List PlacedValue) × F.has_taken first follower.old seen
         × MayFollow seen (select_events place select) }
     ensures taken { OnOk result (TakesEvents F.has_taken follower.old follower.new (select_events place select)) }
-    ensures stopped { IfErr result (StopsAmong F.has_taken F.may_stop follower.old (select_events place select)) }
+    ensures stopped { IfErr result (StopsAmong F.has_taken F.may_stop follower.old follower.new
+        (select_events place select)) }
 {
     match select {
         Some(register) => follower.take_select(place, register),
@@ -187,7 +243,7 @@ fn hand_columns<F: Follower>(
     requires limit { place + count ≤ most_bytes }
     ensures taken { OnOk result (TakesEvents F.has_taken follower.old follower.new
         (column_events place columns (take count bytes.now))) }
-    ensures stopped { IfErr result (StopsAmong F.has_taken F.may_stop follower.old
+    ensures stopped { IfErr result (StopsAmong F.has_taken F.may_stop follower.old follower.new
         (column_events place columns (take count bytes.now))) }
 {
     match columns {
@@ -207,7 +263,8 @@ fn hand_run<F: Follower>(follower: &mut F, run: Run, bytes: &[u8]) -> Result<(),
     requires within { (run.start < run.length) × (run.length ≤ length bytes.now) }
     requires limit { run.place + run.length ≤ most_bytes }
     ensures taken { OnOk result (TakesEvents F.has_taken follower.old follower.new (events_of_run run bytes.now)) }
-    ensures stopped { IfErr result (StopsAmong F.has_taken F.may_stop follower.old (events_of_run run bytes.now)) }
+    ensures stopped { IfErr result (StopsAmong F.has_taken F.may_stop follower.old follower.new
+        (events_of_run run bytes.now)) }
 {
     hand_select(follower, run.place, run.select)?;
     let columns = &bytes[run.start..];
@@ -241,7 +298,8 @@ fn follow_any<F: Follower>(
     requires { (first : F) × (prefix : List ℕ) × AreFollowed (F.has_taken first) reader.old follower.old prefix }
     ensures followed { OnOk result (FollowsBytes F.has_taken reader.old follower.old reader.new follower.new
         (byte ∷ [])) }
-    ensures halted { IfErr result (HaltsWithin F.has_taken F.may_stop reader.old follower.old reader.new (byte ∷ [])) }
+    ensures halted { IfErr result (HaltsWithin F.has_taken F.may_stop reader.old follower.old reader.new follower.new
+        (byte ∷ [])) }
 {
     let completed = reader.feed(byte)?;
     halted(hand_completed(follower, completed))
@@ -257,7 +315,8 @@ fn follow_rarely<F: Follower>(
     requires { (first : F) × (prefix : List ℕ) × AreFollowed (F.has_taken first) reader.old follower.old prefix }
     ensures followed { OnOk result (FollowsBytes F.has_taken reader.old follower.old reader.new follower.new
         (byte ∷ [])) }
-    ensures halted { IfErr result (HaltsWithin F.has_taken F.may_stop reader.old follower.old reader.new (byte ∷ [])) }
+    ensures halted { IfErr result (HaltsWithin F.has_taken F.may_stop reader.old follower.old reader.new follower.new
+        (byte ∷ [])) }
 {
     match reader.feed_two(byte) {
         Some(two) => halted(hand_two(follower, two)),
@@ -275,7 +334,8 @@ fn follow_otherwise<F: Follower>(
     requires { (first : F) × (prefix : List ℕ) × AreFollowed (F.has_taken first) reader.old follower.old prefix }
     ensures followed { OnOk result (FollowsBytes F.has_taken reader.old follower.old reader.new follower.new
         (byte ∷ [])) }
-    ensures halted { IfErr result (HaltsWithin F.has_taken F.may_stop reader.old follower.old reader.new (byte ∷ [])) }
+    ensures halted { IfErr result (HaltsWithin F.has_taken F.may_stop reader.old follower.old reader.new follower.new
+        (byte ∷ [])) }
 {
     follow_rarely(reader, follower, byte)
 }
@@ -290,7 +350,8 @@ fn follow_sign<F: Follower>(
     requires { (first : F) × (prefix : List ℕ) × AreFollowed (F.has_taken first) reader.old follower.old prefix }
     ensures followed { OnOk result (FollowsBytes F.has_taken reader.old follower.old reader.new follower.new
         (byte ∷ [])) }
-    ensures halted { IfErr result (HaltsWithin F.has_taken F.may_stop reader.old follower.old reader.new (byte ∷ [])) }
+    ensures halted { IfErr result (HaltsWithin F.has_taken F.may_stop reader.old follower.old reader.new follower.new
+        (byte ∷ [])) }
 {
     match reader.feed_command(byte) {
         Some(Plain::Nothing) => Ok(()),
@@ -309,7 +370,8 @@ fn follow_data<F: Follower>(
     requires { (first : F) × (prefix : List ℕ) × AreFollowed (F.has_taken first) reader.old follower.old prefix }
     ensures followed { OnOk result (FollowsBytes F.has_taken reader.old follower.old reader.new follower.new
         (byte ∷ [])) }
-    ensures halted { IfErr result (HaltsWithin F.has_taken F.may_stop reader.old follower.old reader.new (byte ∷ [])) }
+    ensures halted { IfErr result (HaltsWithin F.has_taken F.may_stop reader.old follower.old reader.new follower.new
+        (byte ∷ [])) }
 {
     match reader.feed_plain(byte) {
         Some(Plain::Nothing) => Ok(()),
@@ -334,7 +396,8 @@ fn try_follow_run<F: Follower>(
     ensures followed { IfOk result (λ read. IfSome read (λ count.
         FollowsBytes F.has_taken reader.old follower.old reader.new follower.new (take count bytes.now))) }
     ensures kept { IfOk result (λ read. IsNone read → (reader.new ≡ reader.old) × (follower.new ≡ follower.old)) }
-    ensures halted { IfErr result (HaltsWithin F.has_taken F.may_stop reader.old follower.old reader.new bytes.now) }
+    ensures halted { IfErr result (HaltsWithin F.has_taken F.may_stop reader.old follower.old reader.new follower.new
+        bytes.now) }
 {
     match reader.feed_run(bytes) {
         Some(run) => {
@@ -360,7 +423,8 @@ fn follow_run<F: Follower>(
     ensures followed { IfOk result (λ read. IfSome read (λ count.
         FollowsBytes F.has_taken reader.old follower.old reader.new follower.new (take count bytes.now))) }
     ensures kept { IfOk result (λ read. IsNone read → (reader.new ≡ reader.old) × (follower.new ≡ follower.old)) }
-    ensures halted { IfErr result (HaltsWithin F.has_taken F.may_stop reader.old follower.old reader.new bytes.now) }
+    ensures halted { IfErr result (HaltsWithin F.has_taken F.may_stop reader.old follower.old reader.new follower.new
+        bytes.now) }
 {
     match bytes[0] {
         b'!' => try_follow_run(reader, follower, bytes),
@@ -383,7 +447,8 @@ fn follow_first<F: Follower>(
     ensures within { IfOk result (λ count. count ≤ length bytes.now) }
     ensures followed { IfOk result (λ count.
         FollowsBytes F.has_taken reader.old follower.old reader.new follower.new (take count bytes.now)) }
-    ensures halted { IfErr result (HaltsWithin F.has_taken F.may_stop reader.old follower.old reader.new bytes.now) }
+    ensures halted { IfErr result (HaltsWithin F.has_taken F.may_stop reader.old follower.old reader.new follower.new
+        bytes.now) }
 {
     // No byte below `?` is data, so the compiler drops the code for data from this branch.
     if bytes[0] < b'?' {
@@ -407,7 +472,8 @@ fn follow_some<F: Follower>(
     ensures within { IfOk result (λ count. count ≤ length bytes.now) }
     ensures followed { IfOk result (λ count.
         FollowsBytes F.has_taken reader.old follower.old reader.new follower.new (take count bytes.now)) }
-    ensures halted { IfErr result (HaltsWithin F.has_taken F.may_stop reader.old follower.old reader.new bytes.now) }
+    ensures halted { IfErr result (HaltsWithin F.has_taken F.may_stop reader.old follower.old reader.new follower.new
+        bytes.now) }
 {
     match follow_run(reader, follower, bytes)? {
         Some(count) => Ok(count),
@@ -416,8 +482,8 @@ fn follow_some<F: Follower>(
 }
 
 /// Reads the bytes of a piece, and hands on the events that they complete. `Refused`: the fault of the bytes read so
-/// far, whatever follows; the reader has it now. `Stopped`: the follower stopped at an event, and was handed none after
-/// it; neither is of use then.
+/// far, whatever follows; the reader has it now, and the follower took the events before it. `Stopped`: the follower
+/// stopped at an event, and was handed none after it; the reader is of no use then.
 pub fn follow_bytes<F: Follower>(
     reader: &mut Reader,
     follower: &mut F,
@@ -425,7 +491,8 @@ pub fn follow_bytes<F: Follower>(
 ) -> Result<(), Halt<F::Stop>>
     requires { (first : F) × (prefix : List ℕ) × AreFollowed (F.has_taken first) reader.old follower.old prefix }
     ensures followed { OnOk result (FollowsBytes F.has_taken reader.old follower.old reader.new follower.new bytes.now) }
-    ensures halted { IfErr result (HaltsWithin F.has_taken F.may_stop reader.old follower.old reader.new bytes.now) }
+    ensures halted { IfErr result (HaltsWithin F.has_taken F.may_stop reader.old follower.old reader.new follower.new
+        bytes.now) }
 {
     let mut rest = bytes;
     while !rest.is_empty() {

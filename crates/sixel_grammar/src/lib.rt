@@ -24,5 +24,5 @@ pub use reading::read_all;
 pub use sixel_io::{
     Block, DeviceFault, FromRead, PIECE, Sink, SliceSink, SliceSource, Source, ToWrite, put_all,
 };
-pub use source::{SourceHalt, follow_source};
+pub use source::{SourceHalt, follow_document, follow_source};
 pub use writing::{put_event, write_event};

@@ -62,6 +62,13 @@ impl Reader {
         }
     }
 
+    /// The fault of the bytes so far, which is that of any longer ones.
+    pub fn fault(&self) -> Option<Fault>
+        ensures { result ≡ fault_of self.now }
+    {
+        self.fault
+    }
+
     /// Reads one byte, and returns the events that it completes. An `Err` is the fault of the bytes up to this one, and
     /// has this byte's offset; each further call returns the same fault.
     #[inline(always)]

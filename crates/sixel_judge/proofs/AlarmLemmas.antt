@@ -9,10 +9,11 @@ use Rattle.sixel_grammar.specs.Document.{AreRest, AreWhole}
 use Rattle.sixel_model.specs.Events.{is_finish, is_repeat_of_zero, is_square, raster_of}
 use Rattle.sixel_model.specs.Geometry.{falls}
 use Rattle.sixel_model.specs.Positions.{HoldsAtPosition}
-use Rattle.sixel_model.specs.Rules.{Breaks, IsFirstBroken, breaks_ratio, breaks_repeat_zero, raster_before}
-use Rattle.sixel_model.specs.RuleNumbers.{ratio_rule, repeat_zero_rule}
+use Rattle.sixel_model.specs.Rules.{Breaks, IsFirstBroken, breaks_ratio, breaks_repeat_zero, number_of, raster_before}
 use Rattle.sixel_model.proofs.LatestLemmas.{each_from_positions}
 use Rattle.sixel_model.proofs.RuleLemmas.{is_false}
+use Rattle.sixel_model.specs.declared.rule.Rule.{Rule}
+use Rattle.sixel_model.specs.declared.rule.Rule.TheVariants.{Ratio, RepeatZero}
 use Rattle.sixel_terminal.specs.Displays.{Display}
 use Rattle.sixel_terminal.specs.Drawing.{touches_on}
 use Rattle.sixel_terminal.specs.Laws.{IsPlain}
@@ -45,32 +46,32 @@ taken_twice (suc j) (suc k) (y ∷ ys) le = ap (λ (l : List _). y ∷ l) (taken
 -- ---- what is unbroken up to the first broken rule
 
 -- up to the first broken rule, no rule of a smaller number is broken
-pub below_first : {registers n i : ℕ} {events : List Event} → IsFirstBroken registers events n i → (m k : ℕ) → m < n
-    → k ≤ i → ¬ HoldsAtPosition (Breaks registers m) events k
-below_first {registers} {n} {i} {events} f m k lt le = elim (eq-or-lt_of_le le) [
+pub below_first : {registers i : ℕ} {rule : Rule} {events : List Event} → IsFirstBroken registers events rule i
+    → (m : Rule) (k : ℕ) → number_of m < number_of rule → k ≤ i → ¬ HoldsAtPosition (Breaks registers m) events k
+below_first {registers} {i} {rule} {events} f m k lt le = elim (eq-or-lt_of_le le) [
   | inl same ↦ subst (λ (j : ℕ). ¬ HoldsAtPosition (Breaks registers m) events j) (sym same) (f.none_smaller m lt)
   | inr less ↦ f.none_earlier m k less
 ]
 
 -- a rule that isn't broken at the position isn't broken by the event there
-pub not_there : (registers m k : ℕ) (events : List Event) (e : Event)
+pub not_there : (registers : ℕ) (m : Rule) (k : ℕ) (events : List Event) (e : Event)
     → ¬ HoldsAtPosition (Breaks registers m) events k → slice_get events k ≡ Some e
     → ¬ Breaks registers m (take k events) e
 not_there registers m k events e none here broken = none (record { item = e; here = here; holds = broken })
 
 -- the events up to the first broken rule are plain, if its number is above that of RepeatZero
-pub plain_up_to : {registers n i : ℕ} {events : List Event} → IsFirstBroken registers events n i → repeat_zero_rule < n
-    → IsPlain (take (suc i) events)
+pub plain_up_to : {registers i : ℕ} {rule : Rule} {events : List Event} → IsFirstBroken registers events rule i
+    → number_of RepeatZero < number_of rule → IsPlain (take (suc i) events)
 unfolding Breaks breaks_ratio breaks_repeat_zero
-plain_up_to {registers} {n} {i} {events} f lt = record {
+plain_up_to {registers} {i} {rule} {events} f lt = record {
   no_repeat_of_zero = each_from_positions (λ e. IsFalse (is_repeat_of_zero e)) (take (suc i) events)
       (λ j e here. let at = taken_there (suc i) j events e here in
-      is_false _ (not_there registers repeat_zero_rule j events e
-      (below_first f repeat_zero_rule j lt (omega (arith, at.0))) at.1));
+      is_false _ (not_there registers RepeatZero j events e
+      (below_first f RepeatZero j lt (omega (arith, at.0))) at.1));
   square = each_from_positions (λ e. IfSome (raster_of e) (λ a. IsTrue (is_square a))) (take (suc i) events)
       (λ j e here. let at = taken_there (suc i) j events e here in
-      square_if (raster_of e) (is_false _ (not_there registers ratio_rule j events e
-      (below_first f ratio_rule j (omega (arith, lt)) (omega (arith, at.0))) at.1)));
+      square_if (raster_of e) (is_false _ (not_there registers Ratio j events e
+      (below_first f Ratio j (omega (arith, lt)) (omega (arith, at.0))) at.1)));
 }
 
 -- an event up to there that has a box before it touches the same points on each terminal

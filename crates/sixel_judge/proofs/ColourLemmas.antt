@@ -16,7 +16,7 @@ use Rattle.sixel_model.specs.Rules.{definition_of, gives_colour, known}
 use Rattle.sixel_model.proofs.KnownLemmas.{each_before, each_there, known_is, latest_each}
 use Rattle.sixel_model.proofs.LatestLemmas.{Gives, each_from_positions, latest_gives, latest_same, latest_then}
 use Rattle.sixel_model.proofs.RuleLemmas.{Keeps, keeps_at}
-use Rattle.sixel_model.specs.RuleNumbers.{uncovered_rule}
+use Rattle.sixel_model.specs.declared.rule.Rule.TheVariants.{Uncovered}
 use Rattle.sixel_terminal.specs.Displays.{Display, registers_of}
 use Rattle.sixel_terminal.specs.Drawing.{defined_on, given_on, map_on}
 use Rattle.sixel_judge.proofs.DrawingStateLemmas.{given}
@@ -26,7 +26,7 @@ pub record IsSound (n : ℕ) (e : Event) : Type 0 where
   pub register : IsFalse (breaks_register n e)
   pub colour : IsFalse (breaks_colour_value e)
 
-pub each_sound : (n : ℕ) (events : List Event) → BreaksNone n uncovered_rule events → AllByRecursion (IsSound n) events
+pub each_sound : (n : ℕ) (events : List Event) → BreaksNone n Uncovered events → AllByRecursion (IsSound n) events
 each_sound n events none = each_from_positions (IsSound n) events (λ j e here.
     let k : Keeps n (take j events) e = keeps_at n events none j e here in
     record { register = k.register; colour = k.colour_value })
@@ -40,7 +40,7 @@ below_count n e h = split (named_by e) h
     split (Some r) h = leb-false n r h
 
 -- a known register was named, so it is below n
-pub known_in_range : (n r i : ℕ) (events : List Event) → BreaksNone n uncovered_rule events
+pub known_in_range : (n r i : ℕ) (events : List Event) → BreaksNone n Uncovered events
     → known (take i events) ≡ Some r → r < n
 known_in_range n r i events none k =
     let before : List Event = take i events in

@@ -16,7 +16,7 @@ use Rattle.sixel_model.proofs.FirstLemmas.{earliest_later}
 use Rattle.sixel_model.proofs.PositionLemmas.{get_end, option_or_none}
 use Rattle.sixel_model.proofs.RuleLemmas.{Keeps, keeps_at}
 use Rattle.sixel_model.proofs.StepLemmas.{covered_push, raster_push}
-use Rattle.sixel_model.specs.RuleNumbers.{uncovered_rule}
+use Rattle.sixel_model.specs.declared.rule.Rule.TheVariants.{Uncovered}
 use Rattle.sixel_judge.specs.Laws.{AllCovered, FilledFirst}
 use Rattle.sixel_judge.proofs.OptionLemmas.{some_from}
 
@@ -78,7 +78,7 @@ box_before : (before : List Event) (eight : Bool)
 box_before before eight = raster_push before (Finish eight) ∙ option_or_none (raster_before before)
 
 -- the finish of a list in which no rule is broken keeps each rule
-keeps_end : (n : ℕ) (before : List Event) (eight : Bool) → BreaksNone n uncovered_rule (before ++ Finish eight ∷ [])
+keeps_end : (n : ℕ) (before : List Event) (eight : Bool) → BreaksNone n Uncovered (before ++ Finish eight ∷ [])
     → Keeps n before (Finish eight)
 keeps_end n before eight none =
     let k : Keeps n (take (length before) (before ++ Finish eight ∷ [])) (Finish eight)
@@ -86,7 +86,7 @@ keeps_end n before eight none =
     rw take-append_seam at k
 
 covered_whole : (n : ℕ) (before : List Event) (eight : Bool) (a : Attributes) (x y : ℕ)
-    → BreaksNone n uncovered_rule (before ++ Finish eight ∷ []) → raster_before (before ++ Finish eight ∷ []) ≡ Some a
+    → BreaksNone n Uncovered (before ++ Finish eight ∷ []) → raster_before (before ++ Finish eight ∷ []) ≡ Some a
     → is_in_box a x y ≡ true → is_covered (before ++ Finish eight ∷ []) x y ≡ true
 unfolding BreaksUncovered
 covered_whole n before eight a x y none box inside =
@@ -102,7 +102,7 @@ all_covered n events a x y whole none box inside =
     let is : events ≡ e.prefix ++ Finish e.eight ∷ [] = e.is in
     rw is (covered_whole n e.prefix e.eight a x y (rw is at none) (rw is at box) inside)
 
-box_at_end : (n : ℕ) (before : List Event) (eight : Bool) → BreaksNone n uncovered_rule (before ++ Finish eight ∷ [])
+box_at_end : (n : ℕ) (before : List Event) (eight : Bool) → BreaksNone n Uncovered (before ++ Finish eight ∷ [])
     → IsSome (raster_before (before ++ Finish eight ∷ []))
 unfolding breaks_raster_first
 box_at_end n before eight none =
@@ -111,14 +111,14 @@ box_at_end n before eight none =
     (sym (and-true (is_none (raster_before before))) ∙ (keeps_end n before eight none).raster_first))
 
 -- a whole list in which no rule is broken has a box
-pub box_there : (n : ℕ) (events : List Event) → AreWhole events → BreaksNone n uncovered_rule events
+pub box_there : (n : ℕ) (events : List Event) → AreWhole events → BreaksNone n Uncovered events
     → IsSome (raster_before events)
 box_there n events whole none =
     let e : EndsIn events = whole_ends events whole in
     let is : events ≡ e.prefix ++ Finish e.eight ∷ [] = e.is in
     rw is (box_at_end n e.prefix e.eight (rw is at none))
 
-pub has_box : (n : ℕ) (events : List Event) → AreWhole events → BreaksNone n uncovered_rule events
+pub has_box : (n : ℕ) (events : List Event) → AreWhole events → BreaksNone n Uncovered events
     → raster_before events ≡ None → ⊥
 has_box n events whole none bare =
     let some : IsSome {T = Attributes} None = rw bare at (box_there n events whole none) in cc

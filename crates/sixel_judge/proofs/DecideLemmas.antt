@@ -1,9 +1,9 @@
 -- A list has a verdict: a rule is broken, or none is.
-use Rattle.std.proofs.Common.{◌≡◌, ◌==◌, ◌<◌, ◌≤◌, ◌+◌, ◌*◌, ◌⊎◌, ℕ, zero, suc, Bool, true, false, nat_lt, inl, inr}
+use Rattle.std.proofs.Common.{◌≡◌, ◌<◌, ◌+◌, ◌-◌, ◌*◌, ◌⊎◌, ℕ, suc, Bool, true, false, nat_lt, inl, inr}
 use Rattle.std.proofs.Common.{Option, Some, None, List, length, take, refl, sym, ap, subst, ◌∙◌, arith}
 use Rattle.std.specs.Prelude.{IsSomeAnd, slice_get}
 use Rattle.std.specs.Option.{option_map}
-use Rattle.std.proofs.lemmas.Bool.{agree_below_at, and_parts, eqb-true, lt-ltb, ltb-true}
+use Rattle.std.proofs.lemmas.Bool.{and_parts, ltb-true}
 use Rattle.std.proofs.lemmas.List.{length-map}
 use Rattle.sixel_grammar.specs.declared.command.Event.{Event}
 use Rattle.sixel_grammar.specs.declared.command.Placed.{Placed}
@@ -12,20 +12,19 @@ use Rattle.sixel_model.specs.Events.{Attributes, bits_of, columns_of, is_finish,
 use Rattle.sixel_model.specs.Geometry.{band, column, falls, touches}
 use Rattle.sixel_model.specs.Positions.{HoldsAtPosition}
 use Rattle.sixel_model.specs.Rules.{Breaks, BreaksNone, BreaksOutside, BreaksUncovered, FallsOutside, IsFirstBroken}
-use Rattle.sixel_model.specs.Rules.{IsFirstPoint, StaysBlank, is_covered, picture_left, raster_before}
+use Rattle.sixel_model.specs.Rules.{IsFirstPoint, StaysBlank, is_covered, last_rule, picture_left, raster_before}
+use Rattle.sixel_model.specs.Rules.{number_of}
 use Rattle.sixel_model.proofs.CoverLemmas.{lies_under}
 use Rattle.sixel_model.proofs.LastLemmas.{item_there}
 use Rattle.sixel_model.proofs.PositionLemmas.{holds_within}
-use Rattle.sixel_model.proofs.RuleLemmas.{each_rule, no_more_rules}
-use Rattle.sixel_model.specs.RuleNumbers.{last_rule}
-use Rattle.sixel_judge.specs.declared.rule.Rule.{Rule}
-use Rattle.sixel_judge.specs.declared.rule.Rule.TheVariants.{Outside, Uncovered}
+use Rattle.sixel_model.proofs.RuleLemmas.{at_its_place, at_least_one, at_most_last, number_at, rule_at}
+use Rattle.sixel_model.specs.declared.rule.Rule.{Rule}
+use Rattle.sixel_model.specs.declared.rule.Rule.TheVariants.{Outside, Uncovered}
 use Rattle.sixel_judge.specs.declared.verdict.Verdict.{Verdict}
 use Rattle.sixel_judge.specs.declared.verdict.Verdict.TheVariants.{Portable, Broken}
-use Rattle.sixel_judge.specs.Verdicts.{IsPixel, IsVerdict, capped, number_of}
+use Rattle.sixel_judge.specs.Verdicts.{IsPixel, IsVerdict, capped}
 use Rattle.sixel_judge.proofs.SearchLemmas.{Decided, LeastBelow, Searchable, decide_true, first_point}
 use Rattle.sixel_judge.proofs.SearchLemmas.{least_below}
-use Rattle.sixel_judge.proofs.VerdictLemmas.{numbered}
 
 -- ---- the two rules on points
 
@@ -109,26 +108,14 @@ uncovered_decided before e = both_decided _ _ (decide_true (is_finish e)) (blank
 
 -- ---- the lowest-numbered rule that an event breaks
 
-unfoldable pub rule_decided : (registers n : ℕ) (before : List Event) (e : Event)
-    → Decided (Breaks registers n before e)
-rule_decided registers n before e =
-    each_rule Decided registers n before e (λ le b. decide_true b) (λ le. outside_decided before e)
-    (λ le. uncovered_decided before e) (inr (λ none. none))
-
--- each number from 1 to the last is that of a rule
-rule_of : (n : ℕ) → 1 ≤ n → n ≤ last_rule → (r : Rule) × (number_of r ≡ n)
-rule_of zero some most = absurd (omega arith)
-rule_of (suc n) some most = (
-  numbered (suc n),
-  eqb-true _ _
-      (agree_below_at (λ k. number_of (numbered (suc k)) == suc k) (λ k. true) last_rule n refl (omega arith)),
-)
-
-no_rule_zero : (registers : ℕ) (before : List Event) (e : Event) → ¬ Breaks registers 0 before e
+unfoldable pub rule_decided : (registers : ℕ) (rule : Rule) (before : List Event) (e : Event)
+    → Decided (Breaks registers rule before e)
 unfolding Breaks
-no_rule_zero registers before e h = h
+rule_decided registers Outside before e = outside_decided before e
+rule_decided registers Uncovered before e = uncovered_decided before e
+rule_decided registers _ before e = decide_true _
 
-pub pixel_of : (registers : ℕ) (r : Rule) (before : List Event) (e : Event) → Breaks registers (number_of r) before e
+pub pixel_of : (registers : ℕ) (r : Rule) (before : List Event) (e : Event) → Breaks registers r before e
     → (pixel : Option (ℕ × ℕ)) × IsPixel r pixel before e
 unfolding Breaks BreaksOutside BreaksUncovered
 pixel_of registers Outside before e h = elim (outside_first before e) [
@@ -143,61 +130,60 @@ pixel_of registers _ before e h = (None, refl)
 
 -- ---- the first event that breaks a rule
 
--- the lowest-numbered rule that is broken at position i
+-- the place in the order of the lowest-numbered rule that is broken at position i
 abbrev LeastAt : ℕ → List Event → ℕ → Type 0
-LeastAt registers events i = LeastBelow (λ n. HoldsAtPosition (Breaks registers n) events i) (suc last_rule)
+LeastAt registers events i = LeastBelow (λ k. HoldsAtPosition (Breaks registers (rule_at k)) events i) 13
 
-unfoldable pub held_decided : (registers n : ℕ) (events : List Event) (i : ℕ) (o : Option Event)
-    → slice_get events i ≡ o
-    → Decided (HoldsAtPosition (Breaks registers n) events i)
-held_decided registers n events i None is = inr (λ h. let bad : Some h.item ≡ None = sym h.here ∙ is in cc)
-held_decided registers n events i (Some e) is = elim (rule_decided registers n (take i events) e) [
+unfoldable pub held_decided : (registers : ℕ) (rule : Rule) (events : List Event) (i : ℕ) (o : Option Event)
+    → slice_get events i ≡ o → Decided (HoldsAtPosition (Breaks registers rule) events i)
+held_decided registers rule events i None is = inr (λ h. let bad : Some h.item ≡ None = sym h.here ∙ is in cc)
+held_decided registers rule events i (Some e) is = elim (rule_decided registers rule (take i events) e) [
   | inl b ↦ inl (record { item = e; here = is; holds = b })
   | inr not ↦ inr (λ h.
       let same : Some h.item ≡ Some e = sym h.here ∙ is in
       let item : h.item ≡ e = cc in
-      not (subst (Breaks registers n (take i events)) item h.holds))
+      not (subst (Breaks registers rule (take i events)) item h.holds))
 ]
 
+-- a broken rule is broken as the one at its place
+pub held_place : (registers : ℕ) (rule : Rule) (events : List Event) (i : ℕ)
+    → HoldsAtPosition (Breaks registers rule) events i
+    → HoldsAtPosition (Breaks registers (rule_at (number_of rule - 1))) events i
+held_place registers rule events i h =
+    subst (λ (r : Rule). HoldsAtPosition (Breaks registers r) events i) (sym (at_its_place rule)) h
+
 unfoldable pub position_decided : (registers : ℕ) (events : List Event) (i : ℕ)
-    → LeastAt registers events i ⊎ ((n : ℕ) → ¬ HoldsAtPosition (Breaks registers n) events i)
+    → LeastAt registers events i ⊎ ((rule : Rule) → ¬ HoldsAtPosition (Breaks registers rule) events i)
 position_decided registers events i =
-    elim (least_below (λ n. HoldsAtPosition (Breaks registers n) events i)
-    (λ n. held_decided registers n events i (slice_get events i) refl) (suc last_rule)) [
+    elim (least_below (λ k. HoldsAtPosition (Breaks registers (rule_at k)) events i)
+    (λ k. held_decided registers (rule_at k) events i (slice_get events i) refl) 13) [
       | inl f ↦ inl f
-      | inr none ↦ inr (λ n h. elim (decide_true (nat_lt n (suc last_rule))) [
-        | inl low ↦ none n (ltb-true n (suc last_rule) low) h
-        | inr high ↦
-            let above : ¬ (n < suc last_rule) = λ lt. high (lt-ltb n (suc last_rule) lt) in
-            no_more_rules registers n (take i events) h.item (omega (arith, above)) h.holds
-      ])
+      | inr none ↦ inr (λ rule h.
+          none (number_of rule - 1) (place_below rule) (held_place registers rule events i h))
     ]
+  where
+    place_below : (rule : Rule) → number_of rule - 1 < 13
+    place_below rule = let most = at_most_last rule in omega (arith, most)
 
 unfoldable pub broken_decided : (registers : ℕ) (events : List Event) (i : ℕ) → Decided (LeastAt registers events i)
 broken_decided registers events i = elim (position_decided registers events i) [
   | inl f ↦ inl f
-  | inr none ↦ inr (λ f. none f.number f.holds)
+  | inr none ↦ inr (λ f. none (rule_at f.number) f.holds)
 ]
 
 first_broken : (registers : ℕ) (events : List Event) (f : LeastBelow (LeastAt registers events) (length events))
-    → IsFirstBroken registers events f.holds.number f.number
+    → IsFirstBroken registers events (rule_at f.holds.number) f.number
 first_broken registers events f = record {
   broken = f.holds.holds;
   none_earlier = λ m j lt h. elim (position_decided registers events j) [
     | inl g ↦ f.least j lt g
     | inr none ↦ none m h
   ];
-  none_smaller = f.holds.least;
+  none_smaller = λ m lt h.
+      let low : number_of m < suc f.holds.number = rw (number_at f.holds.number f.holds.below) at lt in
+      let some = at_least_one m in
+      f.holds.least (number_of m - 1) (omega (arith, low, some)) (held_place registers m events f.number h);
 }
-
-least_rule : (registers : ℕ) (events : List Event) (i : ℕ) (f : LeastAt registers events i)
-    → (r : Rule) × (number_of r ≡ f.number)
-least_rule registers events i f =
-    let below : f.number < suc last_rule = f.below in
-    let not_zero : ¬ (f.number ≡ 0) = λ e.
-    no_rule_zero registers (take i events) f.holds.item
-    (subst (λ (n : ℕ). Breaks registers n (take i events) f.holds.item) e f.holds.holds) in
-    rule_of f.number (omega (arith, not_zero)) (omega (arith, below))
 
 pub place_of : (placed : List Placed) (i : ℕ) → i < length placed
     → (place : ℕ) × (option_map (λ (p : Placed). p.place) (slice_get placed i) ≡ Some place)
@@ -211,9 +197,9 @@ unfolding BreaksNone
 broken_or_none registers events =
     elim (least_below (LeastAt registers events) (broken_decided registers events) (length events)) [
       | inl f ↦ inl f
-      | inr none ↦ inr (λ n le i h. elim (position_decided registers events i) [
-        | inl g ↦ none i (holds_within (Breaks registers n) events i h) g
-        | inr not ↦ not n h
+      | inr none ↦ inr (λ rule le i h. elim (position_decided registers events i) [
+        | inl g ↦ none i (holds_within (Breaks registers rule) events i h) g
+        | inr not ↦ not rule h
       ])
     ]
 
@@ -223,18 +209,16 @@ verdict_exists registers placed =
     elim (broken_or_none registers events) [
       | inl f ↦
           let i : ℕ = f.number in
-          let rule = least_rule registers events i f.holds in
-          let held : HoldsAtPosition (Breaks registers f.holds.number) events i = f.holds.holds in
-          let pixel = pixel_of registers rule.0 (take i events) held.item
-          (subst (λ (n : ℕ). Breaks registers n (take i events) held.item) (sym rule.1) held.holds) in
+          let rule : Rule = rule_at f.holds.number in
+          let held : HoldsAtPosition (Breaks registers rule) events i = f.holds.holds in
+          let pixel = pixel_of registers rule (take i events) held.item held.holds in
           let place = place_of placed i
           (subst (λ (n : ℕ). i < n) (length-map placed (λ (p : Placed). p.event)) f.below) in (
-            Broken (record { rule = rule.0; place = place.0; pixel = pixel.0 }),
+            Broken (record { rule = rule; place = place.0; pixel = pixel.0 }),
             (
               i,
               record {
-                first = subst (λ (n : ℕ). IsFirstBroken registers events n i) (sym rule.1)
-                    (first_broken registers events f);
+                first = first_broken registers events f;
                 place = place.1;
                 pixel = record { item = held.item; here = held.here; holds = pixel.1 };
               },

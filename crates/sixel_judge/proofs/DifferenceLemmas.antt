@@ -20,9 +20,7 @@ use Rattle.sixel_model.specs.Pictures.{is_side, register_of}
 use Rattle.sixel_model.specs.Positions.{HoldsAtPosition, any_at, earliest, passes_at}
 use Rattle.sixel_model.specs.Rules.{Breaks, BreaksNone, BreaksUncovered, FallsOutside, IsFirstBroken, StaysBlank}
 use Rattle.sixel_model.specs.Rules.{breaks_box_size, breaks_eight_bit, breaks_raster_first, is_covered, picture_left}
-use Rattle.sixel_model.specs.Rules.{raster_before}
-use Rattle.sixel_model.specs.RuleNumbers.{raster_first_rule, box_size_rule, outside_rule, uncovered_rule}
-use Rattle.sixel_model.specs.RuleNumbers.{eight_bit_rule}
+use Rattle.sixel_model.specs.Rules.{number_of, raster_before}
 use Rattle.sixel_model.proofs.CoverLemmas.{any_below_at}
 use Rattle.sixel_model.proofs.FirstLemmas.{earliest_all}
 use Rattle.sixel_model.proofs.LastLemmas.{passes_there}
@@ -36,14 +34,14 @@ use Rattle.sixel_terminal.specs.Drawing.{IsPainted, filled_on, is_kept_on, is_se
 use Rattle.sixel_terminal.specs.Drawing.{shown_on, touches_on}
 use Rattle.sixel_terminal.proofs.ClipLemmas.{at_origin}
 use Rattle.sixel_terminal.proofs.ShownLemmas.{unpainted}
-use Rattle.sixel_judge.specs.declared.rule.Rule.{Rule}
-use Rattle.sixel_judge.specs.declared.rule.Rule.TheVariants.{Outside, Uncovered, EightBit}
+use Rattle.sixel_model.specs.declared.rule.Rule.{Rule}
+use Rattle.sixel_model.specs.declared.rule.Rule.TheVariants.{RasterFirst, BoxSize, Outside, Uncovered, EightBit}
 use Rattle.sixel_judge.specs.declared.verdict.Finding.{Finding}
 use Rattle.sixel_judge.specs.declared.verdict.Verdict.{Verdict}
 use Rattle.sixel_judge.specs.declared.verdict.Verdict.TheVariants.{Portable, Broken}
 use Rattle.sixel_judge.specs.Alarms.{IsPaintedUnlessClipped, IsUnseenWithoutEightBits, MattersUnlessConservative}
 use Rattle.sixel_judge.specs.Alarms.{StaysOnEach, WhatTerminalsDo}
-use Rattle.sixel_judge.specs.Verdicts.{IsFinding, IsVerdict, IsPixel, capped, number_of, greatest}
+use Rattle.sixel_judge.specs.Verdicts.{IsFinding, IsVerdict, IsPixel, capped, greatest}
 use Rattle.sixel_judge.proofs.AlarmLemmas.{below_first, finish_last, not_there, plain_up_to, same_up_to, taken_get}
 use Rattle.sixel_judge.proofs.AlarmLemmas.{taken_there, taken_twice}
 use Rattle.sixel_judge.proofs.CoverLemmas.{box_later, box_there}
@@ -80,13 +78,13 @@ touch_of t events before e x y ground some =
 -- ---- a box before each data command
 
 -- up to the first broken rule, a data command has a box before it
-box_up_to : {registers n i : ℕ} {events : List Event} → IsFirstBroken registers events n i → (j : ℕ) (e : Event)
-    → raster_first_rule < n → j ≤ i → slice_get events j ≡ Some e → is_data_command e ≡ true
+box_up_to : {registers i : ℕ} {rule : Rule} {events : List Event} → IsFirstBroken registers events rule i
+    → (j : ℕ) (e : Event) → number_of RasterFirst < number_of rule → j ≤ i → slice_get events j ≡ Some e → is_data_command e ≡ true
     → IsSome (raster_before (take j events))
 unfolding Breaks breaks_raster_first
-box_up_to {registers} {n} {i} {events} f j e lt le here is_data =
+box_up_to {registers} {i} {rule} {events} f j e lt le here is_data =
     let none = is_false _
-    (not_there registers raster_first_rule j events e (below_first f raster_first_rule j lt le) here)
+    (not_there registers RasterFirst j events e (below_first f RasterFirst j lt le) here)
     in some_from (raster_before (take j events)) (only_box _ _ _ _ is_data none)
   where
     only_box : (none given back ends : Bool) → given ≡ true → (none && (given || back || ends)) ≡ false → none ≡ false
@@ -111,7 +109,7 @@ covered_by i j events e x y lt here fell =
 
 -- on a terminal that keeps its ground, no event paints a pixel that stays unpainted
 none_painted : (registers i j x y : ℕ) (t : Display) (events : List Event) (e d : Event) (a : Attributes)
-    → AreWhole events → IsFirstBroken registers events uncovered_rule i → slice_get events i ≡ Some e
+    → AreWhole events → IsFirstBroken registers events Uncovered i → slice_get events i ≡ Some e
     → is_finish e ≡ true → StaysBlank (take i events) a x y → slice_get events j ≡ Some d
     → IsTouch t (take j events) d x y → ⊥
 unfolding touches_on
@@ -135,7 +133,7 @@ none_painted registers i j x y t events e d a whole f here ends blank there touc
     at_most is lt = omega (arith, is, lt)
 
 pub stays_on_each : (registers i x y : ℕ) (events : List Event) (e : Event) (a : Attributes) → AreWhole events
-    → IsFirstBroken registers events uncovered_rule i → slice_get events i ≡ Some e → is_finish e ≡ true
+    → IsFirstBroken registers events Uncovered i → slice_get events i ≡ Some e → is_finish e ≡ true
     → StaysBlank (take i events) a x y → StaysOnEach registers events x y
 unfolding IsPainted
 stays_on_each registers i x y events e a whole f here ends blank = λ t room ground.
@@ -154,14 +152,14 @@ unfolding is_kept_on
 none_clipped t before x y clips = rw clips refl
 
 touched_there : (registers i x y : ℕ) (t : Display) (events : List Event) (e : Event) (a : Attributes)
-    → IsFirstBroken registers events outside_rule i → slice_get events i ≡ Some e
+    → IsFirstBroken registers events Outside i → slice_get events i ≡ Some e
     → raster_before (take i events) ≡ Some a → FallsOutside (take i events) e a x y
     → touches_on t (take i events) e x y ≡ true
 touched_there registers i x y t events e a f here box out =
     same_up_to t events i i e x y (plain_up_to f (lit≤ tt)) (omega arith) here (rw box refl) ∙ out.painted
 
 painted_there : (registers i x y : ℕ) (t : Display) (events : List Event) (e : Event) (a : Attributes)
-    → IsFirstBroken registers events outside_rule i → slice_get events i ≡ Some e
+    → IsFirstBroken registers events Outside i → slice_get events i ≡ Some e
     → raster_before (take i events) ≡ Some a → FallsOutside (take i events) e a x y → t.choices.clips ≡ false
     → t.choices.eight_bit ≡ true
     → IsSome (paints_in t events (take i events) e (t.choices.origin_x + x) (t.choices.origin_y + y))
@@ -187,7 +185,7 @@ kept_in_box : (clips : Bool) (o : Option Attributes) (b : Attributes) (x y : ℕ
 kept_in_box clips o b x y is box h = rw (is, box) at h
 
 box_anywhere : {registers i : ℕ} {events : List Event} (j : ℕ) (d : Event) (a : Attributes)
-    → IsFirstBroken registers events outside_rule i → raster_before (take i events) ≡ Some a
+    → IsFirstBroken registers events Outside i → raster_before (take i events) ≡ Some a
     → slice_get events j ≡ Some d → is_data_command d ≡ true → i < j ⊎ j ≤ i → IsSome (raster_before (take j events))
 box_anywhere {registers} {i} {events} j d a f box there is_data (inr le) = box_up_to f j d (lit≤ tt) le there is_data
 box_anywhere {registers} {i} {events} j d a f box there is_data (inl lt) =
@@ -195,7 +193,7 @@ box_anywhere {registers} {i} {events} j d a f box there is_data (inl lt) =
 
 -- on a terminal that clips to the box, no event paints a point outside it
 none_outside : (registers i j x y : ℕ) (t : Display) (events : List Event) (d : Event) (a : Attributes)
-    → IsFirstBroken registers events outside_rule i → raster_before (take i events) ≡ Some a
+    → IsFirstBroken registers events Outside i → raster_before (take i events) ≡ Some a
     → is_in_box a x y ≡ false → t.choices.clips ≡ true → slice_get events j ≡ Some d
     → IsTouch t (take j events) d x y → ⊥
 unfolding touches_on is_kept_on
@@ -208,7 +206,7 @@ none_outside registers i j x y t events d a f box out clips there touch =
     both_ways (is_in_box a x y) out (rw (one_box i j events a b.0 box b.1) at inside)
 
 pub cut_off_by_some : (registers i x y : ℕ) (events : List Event) (e : Event) (a : Attributes)
-    → IsFirstBroken registers events outside_rule i → slice_get events i ≡ Some e
+    → IsFirstBroken registers events Outside i → slice_get events i ≡ Some e
     → raster_before (take i events) ≡ Some a → FallsOutside (take i events) e a x y
     → IsPaintedUnlessClipped registers events i x y
 unfolding IsPainted
@@ -238,16 +236,16 @@ none_seen t events i e here eight bits = rw (bits, any_there is_eight_bit events
 
 -- if the first broken rule is EightBit, at the finish, then no other rule is broken
 pub unbroken_but_last : {registers i : ℕ} (events : List Event) (e : Event) → AreWhole events
-    → IsFirstBroken registers events eight_bit_rule i → slice_get events i ≡ Some e → is_finish e ≡ true
-    → BreaksNone registers uncovered_rule events
+    → IsFirstBroken registers events EightBit i → slice_get events i ≡ Some e → is_finish e ≡ true
+    → BreaksNone registers Uncovered events
 unfolding BreaksNone
-unbroken_but_last {registers} {i} events e whole f here ends = λ n le j h.
+unbroken_but_last {registers} {i} events e whole f here ends = λ rule le j h.
     let last : length events ≡ suc i = finish_last events i e whole here ends in
-    let below : j < length events = holds_within (Breaks registers n) events j h in
-    below_first f n j (omega (arith, le)) (omega (arith, last, below)) h
+    let below : j < length events = holds_within (Breaks registers rule) events j h in
+    below_first f rule j (omega (arith, le)) (omega (arith, last, below)) h
 
 shown_left : (registers x y : ℕ) (t : Display) (events : List Event) (a : Attributes) → AreWhole events
-    → BreaksNone registers uncovered_rule events → is_seen_on t events ≡ true → registers ≤ registers_of t
+    → BreaksNone registers Uncovered events → is_seen_on t events ≡ true → registers ≤ registers_of t
     → raster_before events ≡ Some a → x < (picture_left registers events).width
     → y < (picture_left registers events).height
     → palette_at (picture_left registers events).palette (register_of (picture_left registers events) x y)
@@ -257,7 +255,7 @@ shown_left registers x y t events a whole drawn seen enough box p q =
     shows_left registers t events a x y whole drawn seen enough box (rw sides.0 at p) (rw sides.1 at q)
 
 pub unseen_by_some : (registers i : ℕ) (events : List Event) (e : Event) → AreWhole events
-    → IsFirstBroken registers events eight_bit_rule i → slice_get events i ≡ Some e → is_eight_bit e ≡ true
+    → IsFirstBroken registers events EightBit i → slice_get events i ≡ Some e → is_eight_bit e ≡ true
     → IsUnseenWithoutEightBits registers events i
 unfolding IsPainted
 unseen_by_some registers i events e whole f here eight = record {
@@ -288,23 +286,24 @@ sides_if : (o : Option Attributes) → option_map_or (λ a. not (has_sides a)) o
 sides_if None h = tt
 sides_if (Some a) h = not-false _ h
 
-prefix_sides : {registers n i : ℕ} {events : List Event} (k : ℕ) (a : Attributes) → IsFirstBroken registers events n i
-    → box_size_rule < n → k ≤ suc i → raster_before (take k events) ≡ Some a → has_sides a ≡ true
+prefix_sides : {registers i : ℕ} {rule : Rule} {events : List Event} (k : ℕ) (a : Attributes)
+    → IsFirstBroken registers events rule i → number_of BoxSize < number_of rule → k ≤ suc i
+    → raster_before (take k events) ≡ Some a → has_sides a ≡ true
 unfolding Breaks breaks_box_size raster_before
-prefix_sides {registers} {n} {i} {events} k a f lt le box =
+prefix_sides {registers} {i} {rule} {events} k a f lt le box =
     rw box at (earliest_each raster_of (λ a. has_sides a ≡ true) (take k events)
     (each_from_positions (λ e. IfSome (raster_of e) (λ a. has_sides a ≡ true)) (take k events)
     (λ j e here. let at = taken_there k j events e here in
-    sides_if (raster_of e) (is_false _ (not_there registers box_size_rule j events e
-    (below_first f box_size_rule j lt (omega (arith, at.0, le))) at.1)))))
+    sides_if (raster_of e) (is_false _ (not_there registers BoxSize j events e
+    (below_first f BoxSize j lt (omega (arith, at.0, le))) at.1)))))
 
-pub box_sides : {registers n i : ℕ} {events : List Event} (a : Attributes) → IsFirstBroken registers events n i
-    → box_size_rule < n → raster_before (take i events) ≡ Some a → has_sides a ≡ true
+pub box_sides : {registers i : ℕ} {rule : Rule} {events : List Event} (a : Attributes)
+    → IsFirstBroken registers events rule i → number_of BoxSize < number_of rule → raster_before (take i events) ≡ Some a → has_sides a ≡ true
 box_sides {i = i} a f lt box = prefix_sides i a f lt (omega arith) box
 
 -- the box of a list whose last event breaks EightBit, its first broken rule, has sides in range
 pub box_of_prefix : (registers i : ℕ) (events : List Event) (a : Attributes)
-    → IsFirstBroken registers events eight_bit_rule i → length events ≡ suc i → raster_before events ≡ Some a
+    → IsFirstBroken registers events EightBit i → length events ≡ suc i → raster_before events ≡ Some a
     → has_sides a ≡ true
 box_of_prefix registers i events a f last box =
     prefix_sides (suc i) a f (lit≤ tt) (omega arith) (rw (sym last) (rw (take-length events) box))
@@ -333,14 +332,14 @@ pub and_some : {A : Type 0} (o : Option A) (P : A → Type 0) → IsSomeAnd o P 
 and_some None P h = absurd h
 and_some (Some a) P h = (a, refl, h)
 
-ends_there : {registers i : ℕ} {events : List Event} (e : Event) → IsFirstBroken registers events uncovered_rule i
+ends_there : {registers i : ℕ} {events : List Event} (e : Event) → IsFirstBroken registers events Uncovered i
     → slice_get events i ≡ Some e → is_finish e ≡ true
 unfolding Breaks BreaksUncovered
 ends_there {registers} {i} {events} e f here =
     let same : f.broken.item ≡ e = same_value (slice_get events i) f.broken.item e f.broken.here here in
     rw same at f.broken.holds.0
 
-eight_there : {registers i : ℕ} {events : List Event} (e : Event) → IsFirstBroken registers events eight_bit_rule i
+eight_there : {registers i : ℕ} {events : List Event} (e : Event) → IsFirstBroken registers events EightBit i
     → slice_get events i ≡ Some e → is_eight_bit e ≡ true
 unfolding Breaks breaks_eight_bit
 eight_there {registers} {i} {events} e f here =
@@ -348,7 +347,7 @@ eight_there {registers} {i} {events} e f here =
     rw same at f.broken.holds
 
 uncovered_differs : (registers i : ℕ) (events : List Event) (pixel : Option (ℕ × ℕ)) → AreWhole events
-    → IsFirstBroken registers events uncovered_rule i → HoldsAtPosition (IsPixel Uncovered pixel) events i
+    → IsFirstBroken registers events Uncovered i → HoldsAtPosition (IsPixel Uncovered pixel) events i
     → WhatTerminalsDo registers events Uncovered pixel i
 uncovered_differs registers i events pixel whole f at =
     let x : ℕ = at.holds.0 in let y : ℕ = at.holds.1 in
@@ -359,7 +358,7 @@ uncovered_differs registers i events pixel whole f at =
     (stays_on_each registers i x y events at.item a.0 whole f at.here (ends_there at.item f at.here) blank)
 
 outside_differs : (registers i : ℕ) (events : List Event) (pixel : Option (ℕ × ℕ))
-    → IsFirstBroken registers events outside_rule i → HoldsAtPosition (IsPixel Outside pixel) events i
+    → IsFirstBroken registers events Outside i → HoldsAtPosition (IsPixel Outside pixel) events i
     → WhatTerminalsDo registers events Outside pixel i
 outside_differs registers i events pixel f at =
     let x : ℕ = at.holds.0 in let y : ℕ = at.holds.1 in
@@ -369,7 +368,7 @@ outside_differs registers i events pixel f at =
     (cut_off_by_some registers i x y events at.item a.0 f at.here a.1 a.2))
 
 difference_of : (registers i : ℕ) (events : List Event) (r : Rule) (pixel : Option (ℕ × ℕ)) → AreWhole events
-    → IsFirstBroken registers events (number_of r) i → HoldsAtPosition (IsPixel r pixel) events i
+    → IsFirstBroken registers events r i → HoldsAtPosition (IsPixel r pixel) events i
     → WhatTerminalsDo registers events r pixel i
 difference_of registers i events Uncovered pixel whole f at = uncovered_differs registers i events pixel whole f at
 difference_of registers i events Outside pixel whole f at = outside_differs registers i events pixel f at

@@ -11,6 +11,7 @@ use Rattle.sixel_grammar.specs.declared.command.Command.TheVariants.{Select, Def
 use Rattle.sixel_grammar.specs.declared.command.Event.{Event}
 use Rattle.sixel_grammar.specs.declared.command.Event.TheVariants.{Step}
 use Rattle.sixel_model.specs.declared.colour.Parts.{Parts}
+use Rattle.sixel_model.specs.declared.rule.Rule.TheVariants.{EightBit}
 use Rattle.sixel_model.specs.Colours.{colour_in, is_colour}
 use Rattle.sixel_model.specs.Events.{Definition, columns_of, definition_where, is_eight_bit, is_next_line}
 use Rattle.sixel_model.specs.Events.{is_painting, is_return, named_by, select_of}
@@ -18,7 +19,6 @@ use Rattle.sixel_model.specs.Geometry.{band, column}
 use Rattle.sixel_model.specs.Positions.{latest, since, any_at, any_below}
 use Rattle.sixel_model.specs.Rules.{Breaks, breaks_colour_value, breaks_eight_bit, breaks_register, breaks_undefined}
 use Rattle.sixel_model.specs.Rules.{definition_of, gives_colour}
-use Rattle.sixel_model.specs.RuleNumbers.{eight_bit_rule}
 use Rattle.sixel_model.specs.Rules.{is_painted_in, is_that, known, known_by, palette_left, colour_of}
 use Rattle.sixel_model.proofs.LeftLemmas.{left_define, left_idle, left_start, length_left}
 use Rattle.sixel_model.proofs.PositionLemmas.{latest_push}
@@ -34,13 +34,13 @@ use Rattle.sixel_judge.specs.Verdicts.{capped}
 -- an event that breaks no rule keeps each rule up to Uncovered
 pub keeps : {registers : ℕ} (before : List Event) (e : Event) → BreaksNoRule registers before e
     → Keeps registers before e
-keeps {registers} before e none = none_keeps registers before e (λ n le. none n (omega (arith, le)))
+keeps {registers} before e none = none_keeps registers before e (λ rule le. none rule)
 
 -- and isn't an 8-bit control
 pub seven_bits : (registers : ℕ) (before : List Event) (e : Event) → BreaksNoRule registers before e
     → IsFalse (is_eight_bit e)
 unfolding Breaks breaks_eight_bit
-seven_bits registers before e none = is_false (is_eight_bit e) (none eight_bit_rule (omega arith))
+seven_bits registers before e none = is_false (is_eight_bit e) (none EightBit)
 
 -- a column that is capped at each step is the capped column
 pub stopped : (b : Bool) (c w : ℕ) → cond b 0 (capped (capped c + w)) ≡ capped (cond b 0 (c + w))

@@ -1,5 +1,5 @@
 -- Events that are read may be pushed, in order.
-use Rattle.std.proofs.Common.{◌≡◌, ℕ, true, false, not, IsTrue, ◌⊎◌, inl, inr, List, [], ◌∷◌, ◌++◌, Result, Ok, Err, None, Option}
+use Rattle.std.proofs.Common.{◌≡◌, ℕ, true, false, not, IsTrue, ◌⊎◌, inl, inr, List, [], ◌∷◌, ◌++◌, Result, Ok, Err, None, Option, Some}
 use Rattle.std.proofs.Common.{sym, ◌∙◌, ap, subst, refl, arith, length, ◌+◌, ◌-◌, ◌<◌}
 use Rattle.std.specs.Prelude.{IfErr, OnErr, OnOk, replicate}
 use Rattle.std.proofs.lemmas.Bool.{and_from}
@@ -15,11 +15,13 @@ use Rattle.sixel_grammar.specs.Following.{AreFollowed, FollowsBytes, HaltsWithin
 use Rattle.sixel_grammar.specs.declared.fault.Fault.{Fault}
 use Rattle.sixel_grammar.specs.declared.following.Halt.TheVariants.{Refused, Stopped}
 use Rattle.sixel_grammar.specs.declared.reader.Reader.{Reader}
+use Rattle.sixel_grammar.specs.Standing.{fault_of}
 use Rattle.sixel_grammar.specs.Prefixes.{CompleteIn}
 use Rattle.sixel_grammar.specs.Source.{FollowsSource, HaltsSource, IsFollowed}
 use Rattle.sixel_grammar.specs.declared.source.SourceHalt.TheVariants.{Stopped as SourceStopped}
 use Rattle.sixel_grammar.specs.Spelling.{IsSpellable}
 use Rattle.sixel_grammar.specs.Stretches.{sixels_from}
+use Rattle.sixel_grammar.proofs.FollowingLemmas.{always_refused}
 use Rattle.sixel_grammar.proofs.StandLemmas.{read_complete}
 use Rattle.sixel_grammar.proofs.TotalLemmas.{complete_prefix, document_whole}
 use Rattle.sixel_grammar.proofs.WritableLemmas.{events_can}
@@ -134,15 +136,15 @@ ok_says P (Err e) h = tt
 abbrev pub HasTaken : CheckerValue → CheckerValue → List Placed → Type 0
 HasTaken first now seen = StandsAfter (length first.state.palette) now seen
 
-abbrev pub MayStop : {S : Type 0} → CheckerValue → S → List Placed → Type 0
-MayStop first stop seen = MayGrowAmong (length first.state.palette) seen
+abbrev pub MayStop : {S : Type 0} → CheckerValue → CheckerValue → S → List Placed → Type 0
+MayStop first now stop seen = MayGrowAmong (length first.state.palette) seen
 
-pub stops_one : {S : Type 0} (old : CheckerValue) (p : Placed) (result : Result (Unit {0}) S)
+pub stops_one : {S : Type 0} (old new : CheckerValue) (p : Placed) (result : Result (Unit {0}) S)
     → OnErr result ((registers : ℕ) (seen : List Placed) → StandsAfter registers old seen
     → MayGrow registers (events_of seen) p.event)
-    → IfErr result (StopsAmong HasTaken MayStop old (p ∷ []))
-stops_one old p (Ok u) grows = tt
-stops_one old p (Err s) grows = λ first seen h. record {
+    → IfErr result (StopsAmong HasTaken MayStop old new (p ∷ []))
+stops_one old new p (Ok u) grows = tt
+stops_one old new p (Err s) grows = λ first seen h. record {
   taken = p ∷ [];
   rest = [];
   are = refl;
@@ -187,17 +189,18 @@ grows_in n bytes h = record {
   grows = grows_among h.taken h.rest h.holds;
 }
 
-pub refuses_for : (S : Type 0) (n : ℕ) (reader r : Reader) (old : CheckerValue) (prefix more : List ℕ) (fault : Fault)
-    → HaltsWithin {S = S} HasTaken MayStop reader old r more (Refused fault)
+pub refuses_for : (S : Type 0) (n : ℕ) (reader r : Reader) (old new : CheckerValue) (prefix more : List ℕ)
+    (fault : Fault) → HaltsWithin {S = S} HasTaken MayStop reader old r new more (Refused fault)
     → AreFollowed (StandsAfter n) reader old prefix
-    → (rest : List ℕ) → IsFaultOf ((prefix ++ more) ++ rest) fault
-refuses_for S n reader r old prefix more fault halts a =
-    (halts (with_registers n old) prefix (had_first n reader old prefix a)).1
+    → (fault_of r ≡ Some fault) × ((rest : List ℕ) → IsFaultOf ((prefix ++ more) ++ rest) fault)
+refuses_for S n reader r old new prefix more fault halts a =
+    let refused = halts (with_registers n old) prefix (had_first n reader old prefix a) in
+    (refused.kept, always_refused (HasTaken (with_registers n old)) r new (prefix ++ more) fault refused)
 
-pub stops_for : {S : Type 0} (n : ℕ) (reader r : Reader) (old : CheckerValue) (prefix more : List ℕ) (stop : S)
-    → HaltsWithin HasTaken MayStop reader old r more (Stopped stop) → AreFollowed (StandsAfter n) reader old prefix
+pub stops_for : {S : Type 0} (n : ℕ) (reader r : Reader) (old new : CheckerValue) (prefix more : List ℕ) (stop : S)
+    → HaltsWithin HasTaken MayStop reader old r new more (Stopped stop) → AreFollowed (StandsAfter n) reader old prefix
     → MayGrowIn n (prefix ++ more)
-stops_for n reader r old prefix more stop halts a =
+stops_for n reader r old new prefix more stop halts a =
     grows_in n (prefix ++ more) (subst (λ (k : ℕ). HoldsIn (MayGrowAmong k) (prefix ++ more)) (registers_are n old)
     (halts (with_registers n old) prefix (had_first n reader old prefix a)))
 
@@ -222,8 +225,8 @@ source_for n old new known follows s =
     subst (λ (k : ℕ). IsFollowed (StandsAfter k) new known) (registers_are n old)
     (follows (with_registers n old) (had_none n old s))
 
-pub source_grows : {S : Type 0} (n : ℕ) (old : CheckerValue) (stop : S) (bytes : List ℕ)
-    → HaltsSource HasTaken MayStop old (SourceStopped stop) bytes → StandsAfter n old [] → MayGrowIn n bytes
-source_grows n old stop bytes halts s =
+pub source_grows : {S : Type 0} (n : ℕ) (old new : CheckerValue) (stop : S) (bytes : List ℕ)
+    → HaltsSource HasTaken MayStop old new (SourceStopped stop) bytes → StandsAfter n old [] → MayGrowIn n bytes
+source_grows n old new stop bytes halts s =
     grows_in n bytes (subst (λ (k : ℕ). HoldsIn (MayGrowAmong k) bytes) (registers_are n old)
     (halts (with_registers n old) (had_none n old s)))

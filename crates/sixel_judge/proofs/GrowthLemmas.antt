@@ -13,7 +13,7 @@ use Rattle.sixel_model.specs.Events.{raster_of}
 use Rattle.sixel_model.specs.Grids.{Grid}
 use Rattle.sixel_model.proofs.PositionLemmas.{holds_before, holds_end, holds_within}
 use Rattle.sixel_model.proofs.RuleLemmas.{none_push}
-use Rattle.sixel_model.specs.RuleNumbers.{last_rule}
+use Rattle.sixel_model.specs.Rules.{last_rule}
 use Rattle.sixel_judge.specs.declared.drawing_state.DrawingState.{DrawingState}
 use Rattle.sixel_judge.specs.Violations.{BreaksNoRule}
 use Rattle.sixel_judge.specs.Growth.{MayGrow, MayGrowAmong, MayGrowIn}

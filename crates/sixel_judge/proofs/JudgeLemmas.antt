@@ -7,17 +7,16 @@ use Rattle.std.proofs.lemmas.List.{map-append, length-map}
 use Rattle.sixel_grammar.specs.Document.{events_of}
 use Rattle.sixel_grammar.specs.declared.command.Placed.{Placed}
 use Rattle.sixel_model.specs.Positions.{last_at, last_below}
-use Rattle.sixel_model.specs.Rules.{register_at}
+use Rattle.sixel_model.specs.Rules.{last_rule, register_at}
 use Rattle.sixel_model.specs.Grids.{Grid}
 use Rattle.sixel_model.proofs.PositionLemmas.{get_before, get_end, holds_before, holds_end, holds_within}
 use Rattle.sixel_model.proofs.RuleLemmas.{first_push, first_there, none_of_none, none_push}
-use Rattle.sixel_model.specs.RuleNumbers.{last_rule}
 use Rattle.sixel_judge.specs.declared.violation.Violation.{Violation}
 use Rattle.sixel_judge.specs.declared.drawing_state.DrawingState.{DrawingState}
 use Rattle.sixel_judge.specs.declared.verdict.Finding.{Finding}
 use Rattle.sixel_judge.specs.Violations.{IsViolation, BreaksNoRule}
 use Rattle.sixel_judge.specs.Judging.{IsStateAfter, IsGridAfter, JudgesAfter, StandsUnbroken}
-use Rattle.sixel_judge.specs.Verdicts.{IsFinding, IsPixel, number_of}
+use Rattle.sixel_judge.specs.Verdicts.{IsFinding, IsPixel}
 use Rattle.sixel_judge.proofs.DrawLemmas.{coloured_push}
 use Rattle.sixel_judge.proofs.DrawnLemmas.{undrawn_empty}
 use Rattle.sixel_judge.proofs.DrawingStateLemmas.{keeps, seven_bits}
@@ -49,7 +48,7 @@ judge_broken {registers} seen p f found =
       found.0,
       record {
         first = rw (events_push seen p)
-            (first_push registers (number_of f.rule) found.0 (events_of seen) p.event finding.first);
+            (first_push registers f.rule found.0 (events_of seen) p.event finding.first);
         place = ap (option_map (λ (q : Placed). q.place)) (get_before seen (p ∷ []) found.0 low_seen) ∙ finding.place;
         pixel = rw (events_push seen p)
             (holds_before (IsPixel f.rule f.pixel) (events_of seen) p.event found.0 low finding.pixel);
@@ -65,7 +64,7 @@ judge_finds {registers} state grid seen p b s violation = (
   length (events_of seen),
   record {
     first = rw (events_push seen p)
-        (first_there registers (number_of b.rule) (events_of seen) p.event s.unbroken violation.broken
+        (first_there registers b.rule (events_of seen) p.event s.unbroken violation.broken
         violation.none_smaller);
     place =
         ap (λ (n : ℕ). option_map (λ (q : Placed). q.place) (slice_get (seen ++ p ∷ []) n)) (length_events seen)

@@ -8,14 +8,14 @@ use Rattle.sixel_model.specs.Events.{is_eight_bit, is_finish}
 use Rattle.sixel_model.specs.Rules.{Breaks, BreaksOutside, BreaksUncovered, FallsOutside, StaysBlank}
 use Rattle.sixel_model.specs.Rules.{breaks_eight_bit, raster_before}
 use Rattle.sixel_model.specs.Grids.{Grid}
-use Rattle.sixel_model.specs.RuleNumbers.{outside_rule, uncovered_rule, eight_bit_rule}
+use Rattle.sixel_model.specs.declared.rule.Rule.{Rule}
+use Rattle.sixel_model.specs.declared.rule.Rule.TheVariants.{Outside, Uncovered, EightBit}
 use Rattle.sixel_judge.specs.declared.drawing_state.DrawingState.{DrawingState}
-use Rattle.sixel_judge.specs.declared.rule.Rule.{Rule}
-use Rattle.sixel_judge.specs.declared.rule.Rule.TheVariants.{Outside, Uncovered, EightBit}
+use Rattle.sixel_model.proofs.RuleLemmas.{at_most_last}
 use Rattle.sixel_judge.specs.Violations.{IsViolation, BreaksNoRule, NoneBelow, rule_in}
 use Rattle.sixel_judge.specs.Judging.{IsStateAfter, IsDrawn, IsGridAfter, box_of}
 use Rattle.sixel_judge.specs.Outside.{IsFirstIfAny}
-use Rattle.sixel_judge.proofs.ViolationLemmas.{IsLeast, IsLeastOf, least_rule, none_more}
+use Rattle.sixel_judge.proofs.ViolationLemmas.{IsLeast, IsLeastOf, least_rule, none_more, none_up_to}
 
 -- a violation of a rule that doesn't look at pixels
 pub violation_without_pixel : {registers : ℕ} (before : List Event) (e : Event) (rule : Rule)
@@ -25,7 +25,7 @@ violation_without_pixel before e rule l = record
     { broken = l.broken; none_smaller = l.none_smaller; pixel = l.no_pixel }
 
 pub violation_outside : {registers : ℕ} {kept : ℕ → ℕ} (before : List Event) (e : Event) (s : Grid) (pixel : ℕ × ℕ) → IsDrawn kept s before
-    → NoneBelow registers outside_rule before e → IsFirstIfAny (FallsOutside before e (box_of s)) (Some pixel)
+    → NoneBelow registers Outside before e → IsFirstIfAny (FallsOutside before e (box_of s)) (Some pixel)
     → IsViolation registers before e (record { rule = Outside; pixel = Some pixel })
 unfolding Breaks BreaksOutside
 violation_outside before e s pixel d none first = record {
@@ -35,14 +35,14 @@ violation_outside before e s pixel d none first = record {
 }
 
 pub none_outside : {kept : ℕ → ℕ} (registers : ℕ) (before : List Event) (e : Event) (s : Grid) → IsDrawn kept s before
-    → NoneBelow registers outside_rule before e → IsFirstIfAny (FallsOutside before e (box_of s)) None
-    → NoneBelow registers uncovered_rule before e
+    → NoneBelow registers Outside before e → IsFirstIfAny (FallsOutside before e (box_of s)) None
+    → NoneBelow registers Uncovered before e
 unfolding Breaks BreaksOutside
-none_outside registers before e s d none first = none_more _ before e outside_rule none
+none_outside registers before e s d none first = none_more _ before e Outside Uncovered refl none
     (λ broken. let point = rw d.box at broken in first point.0 point.1 point.2)
 
 pub violation_uncovered : {registers : ℕ} {kept : ℕ → ℕ} (before : List Event) (e : Event) (s : Grid) (pixel : ℕ × ℕ)
-    → is_finish e ≡ true → IsDrawn kept s before → NoneBelow registers uncovered_rule before e
+    → is_finish e ≡ true → IsDrawn kept s before → NoneBelow registers Uncovered before e
     → IsFirstIfAny (StaysBlank before (box_of s)) (Some pixel)
     → IsViolation registers before e (record { rule = Uncovered; pixel = Some pixel })
 unfolding Breaks BreaksUncovered
@@ -53,38 +53,38 @@ violation_uncovered before e s pixel end d none first = record {
 }
 
 pub none_uncovered : {kept : ℕ → ℕ} (registers : ℕ) (before : List Event) (e : Event) (s : Grid) → IsDrawn kept s before
-    → NoneBelow registers uncovered_rule before e
-    → IsFirstIfAny (StaysBlank before (box_of s)) None → NoneBelow registers eight_bit_rule before e
+    → NoneBelow registers Uncovered before e
+    → IsFirstIfAny (StaysBlank before (box_of s)) None → NoneBelow registers EightBit before e
 unfolding Breaks BreaksUncovered
-none_uncovered registers before e s d none first = none_more _ before e uncovered_rule none
+none_uncovered registers before e s d none first = none_more _ before e Uncovered EightBit refl none
     (λ broken. let point = rw d.box at broken.1 in first point.0 point.1 point.2)
 
 -- an event that isn't the finish doesn't break Uncovered
 pub none_before_end : (registers : ℕ) (before : List Event) (e : Event) → is_finish e ≡ false
-    → NoneBelow registers uncovered_rule before e → NoneBelow registers eight_bit_rule before e
+    → NoneBelow registers Uncovered before e → NoneBelow registers EightBit before e
 unfolding Breaks BreaksUncovered
-none_before_end registers before e goes_on none = none_more _ before e uncovered_rule none
+none_before_end registers before e goes_on none = none_more _ before e Uncovered EightBit refl none
     (λ broken. both_ways (is_finish e) goes_on broken.0)
 
 -- without a box, no rule on pixels is broken
 pub none_without_box : (registers : ℕ) (before : List Event) (e : Event) → raster_before before ≡ None
-    → NoneBelow registers outside_rule before e → NoneBelow registers eight_bit_rule before e
+    → NoneBelow registers Outside before e → NoneBelow registers EightBit before e
 unfolding Breaks BreaksOutside BreaksUncovered
 none_without_box registers before e is none =
-    none_more _ before e uncovered_rule (none_more _ before e outside_rule none (λ broken. rw is at broken))
+    none_more _ before e Uncovered EightBit refl (none_more _ before e Outside Uncovered refl none (λ broken. rw is at broken))
     (λ broken. rw is at broken.1)
 
 pub violation_eight_bit : {registers : ℕ} (before : List Event) (e : Event) → is_eight_bit e ≡ true
-    → NoneBelow registers eight_bit_rule before e
+    → NoneBelow registers EightBit before e
     → IsViolation registers before e (record { rule = EightBit; pixel = None })
 unfolding Breaks breaks_eight_bit
 violation_eight_bit before e eight none = record { broken = eight; none_smaller = none; pixel = refl }
 
 pub none_eight_bit : (registers : ℕ) (before : List Event) (e : Event) → is_eight_bit e ≡ false
-    → NoneBelow registers eight_bit_rule before e → BreaksNoRule registers before e
+    → NoneBelow registers EightBit before e → BreaksNoRule registers before e
 unfolding Breaks breaks_eight_bit
-none_eight_bit registers before e seven none = none_more _ before e eight_bit_rule none
-    (λ broken. both_ways (is_eight_bit e) seven broken)
+none_eight_bit registers before e seven none rule =
+    none_up_to _ before e EightBit none (λ broken. both_ways (is_eight_bit e) seven broken) rule (at_most_last rule)
 
 -- there is a grid exactly if there is a box
 pub box_there : (kept : ℕ → ℕ) (grid : Option Grid) (before : List Event) → IsGridAfter kept grid before

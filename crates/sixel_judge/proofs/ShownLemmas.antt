@@ -10,17 +10,17 @@ use Rattle.sixel_grammar.specs.declared.command.Event.{Event}
 use Rattle.sixel_grammar.specs.Document.{AreWhole}
 use Rattle.sixel_model.specs.declared.colour.Parts.{Parts}
 use Rattle.sixel_model.specs.declared.colour.Parts.TheVariants.{Rgb}
+use Rattle.sixel_model.specs.declared.rule.Rule.TheVariants.{Uncovered}
 use Rattle.sixel_model.specs.Colours.{palette_at}
 use Rattle.sixel_model.specs.Events.{Attributes, is_data_command, is_eight_bit, is_in_box, raster_of}
 use Rattle.sixel_model.specs.Geometry.{falls}
 use Rattle.sixel_model.specs.Pictures.{register_of}
 use Rattle.sixel_model.specs.Positions.{any_at, at_position, last_at, last_below, passes_at}
 use Rattle.sixel_model.specs.Rules.{BreaksNone, breaks_unselected, is_covered, known, picture_left, raster_before}
-use Rattle.sixel_model.specs.Rules.{register_at}
+use Rattle.sixel_model.specs.Rules.{last_rule, register_at}
 use Rattle.sixel_model.proofs.LastLemmas.{IsLast, at_there, is_last, item_there, last_is, passes_there, some_last}
 use Rattle.sixel_model.proofs.RuleLemmas.{Keeps, keeps_at, none_drawn, seven_bits_at}
 use Rattle.sixel_model.proofs.GridLemmas.{get_rows}
-use Rattle.sixel_model.specs.RuleNumbers.{uncovered_rule, last_rule}
 use Rattle.sixel_terminal.specs.Displays.{Display, registers_of}
 use Rattle.sixel_terminal.specs.Drawing.{inked_on, is_kept_on, is_seen_on, map_on, paint_at, paints_in, paints_on}
 use Rattle.sixel_terminal.specs.Drawing.{selected_on, shown_on, touches_on}
@@ -96,7 +96,7 @@ unfolding register_at last_at
 register_painting events x y r found = last_painting events x y (Some r) (flat_some _ r found)
 
 -- a covered pixel has a register
-has_register : (n : ℕ) (events : List Event) (x y : ℕ) → BreaksNone n uncovered_rule events
+has_register : (n : ℕ) (events : List Event) (x y : ℕ) → BreaksNone n Uncovered events
     → is_covered events x y ≡ true
     → IsSome (register_at events x y)
 unfolding is_covered any_at register_at last_at
@@ -125,7 +125,7 @@ unfolding falls
 falls_data before e x y h = touches_data 0 1 before e x y h
 
 -- there is a box before the last event that paints the point
-box_at_painting : (n : ℕ) (events : List Event) (x y r : ℕ) → BreaksNone n uncovered_rule events
+box_at_painting : (n : ℕ) (events : List Event) (x y r : ℕ) → BreaksNone n Uncovered events
     → (p : IsLastPainting events x y (Some r))
     → IsSome (raster_before (take p.at events))
 box_at_painting n events x y r none p =
@@ -133,7 +133,7 @@ box_at_painting n events x y r none p =
     (falls_data (take p.at events) p.event x y p.fell)
 
 -- on a terminal, the last painting of a pixel is in the known register
-paint_last : (n : ℕ) (t : Display) (events : List Event) (x y r : ℕ) → BreaksNone n uncovered_rule events
+paint_last : (n : ℕ) (t : Display) (events : List Event) (x y r : ℕ) → BreaksNone n Uncovered events
     → n ≤ registers_of t
     → (p : IsLastPainting events x y (Some r)) → paint_at t (take p.at events) p.event x y ≡ Some r
 paint_last n t events x y r none enough p =
@@ -148,7 +148,7 @@ paint_last n t events x y r none enough p =
     rw (same, kept, selected) refl
 
 -- and no event after it paints the pixel
-paint_after : (n : ℕ) (t : Display) (events : List Event) (x y r : ℕ) → BreaksNone n uncovered_rule events
+paint_after : (n : ℕ) (t : Display) (events : List Event) (x y r : ℕ) → BreaksNone n Uncovered events
     → (p : IsLastPainting events x y (Some r)) (j : ℕ) (e : Event) → p.at < j → slice_get events j ≡ Some e
     → paint_at t (take j events) e x y ≡ None
 paint_after n t events x y r none p j e lt here =
@@ -172,7 +172,7 @@ in_seen : (t : Display) (events before : List Event) (e : Event) (x y : ℕ) →
 in_seen t events before e x y seen = rw seen refl
 
 -- the ink of the pixel at the last painting, and after it
-inked_at : (n : ℕ) (t : Display) (events : List Event) (x y r : ℕ) → BreaksNone n uncovered_rule events
+inked_at : (n : ℕ) (t : Display) (events : List Event) (x y r : ℕ) → BreaksNone n Uncovered events
     → is_seen_on t events ≡ true → n ≤ registers_of t
     → (p : IsLastPainting events x y (Some r))
     → IsLast (at_position (inked_on t events (t.choices.origin_x + x) (t.choices.origin_y + y)) events) (length events)
@@ -195,7 +195,7 @@ inked_at n t events x y r none seen enough p =
     }
 
 -- a terminal that sees the string shows the colour of the register that painted the pixel last
-shown_is : (n : ℕ) (t : Display) (events : List Event) (x y r : ℕ) → BreaksNone n uncovered_rule events
+shown_is : (n : ℕ) (t : Display) (events : List Event) (x y r : ℕ) → BreaksNone n Uncovered events
     → is_seen_on t events ≡ true → n ≤ registers_of t
     → register_at events x y ≡ Some r
     → palette_at (picture_left n events).palette r
@@ -221,7 +221,7 @@ register_left n events a x y r box p q found =
 
 -- each terminal with enough registers that sees the string shows it in the box
 pub shows_left : (n : ℕ) (t : Display) (events : List Event) (a : Attributes) (x y : ℕ) → AreWhole events
-    → BreaksNone n uncovered_rule events → is_seen_on t events ≡ true → n ≤ registers_of t
+    → BreaksNone n Uncovered events → is_seen_on t events ≡ true → n ≤ registers_of t
     → raster_before events ≡ Some a → x < a.width → y < a.height
     → palette_at (picture_left n events).palette (register_of (picture_left n events) x y)
     ≡ Some (shown_on t events (t.choices.origin_x + x) (t.choices.origin_y + y))
@@ -252,7 +252,7 @@ seen_everywhere n t events none =
 box_is_portable : (n : ℕ) (events : List Event) (a : Attributes) → AreWhole events → BreaksNone n last_rule events
     → raster_before events ≡ Some a → IsPortable n events (picture_left n events)
 box_is_portable n events a whole none box =
-    let drawn : BreaksNone n uncovered_rule events = none_drawn n events none in
+    let drawn : BreaksNone n Uncovered events = none_drawn n events none in
     let w : (picture_left n events).width ≡ a.width = (size_left n events a box).0 in
     let v : (picture_left n events).height ≡ a.height = (size_left n events a box).1 in
     record {

@@ -20,7 +20,7 @@ use Rattle.sixel_model.proofs.LatestLemmas.{take_one_more}
 use Rattle.sixel_model.proofs.LeftLemmas.{left_at}
 use Rattle.sixel_model.proofs.RuleLemmas.{Keeps, keeps_at}
 use Rattle.sixel_model.proofs.StepLemmas.{definition_push, painted_in_push}
-use Rattle.sixel_model.specs.RuleNumbers.{uncovered_rule}
+use Rattle.sixel_model.specs.declared.rule.Rule.TheVariants.{Uncovered}
 use Rattle.sixel_terminal.specs.Drawing.{map_on}
 use Rattle.sixel_judge.specs.Laws.{PaintedColourIsLeft}
 use Rattle.sixel_judge.proofs.ColourLemmas.{IsSound, each_sound, known_in_range, made, map_defined}
@@ -77,7 +77,7 @@ steady_push n r before x d k s = record {
 }
 
 -- the same up to any later position
-steady_on : (n r : ℕ) (events : List Event) (d : Definition) → BreaksNone n uncovered_rule events → (i k : ℕ)
+steady_on : (n r : ℕ) (events : List Event) (d : Definition) → BreaksNone n Uncovered events → (i k : ℕ)
     → i + k ≤ length events
     → IsSteady r d (take i events) → IsSteady r d (take (i + k) events)
 steady_on n r events d none i zero le s = rw (add-zero i) s
@@ -111,7 +111,7 @@ steady_start r before e d p h defined = record {
 }
 
 -- the definition of a register that a command paints in stays the same to the end
-pub steady_end : (n r i : ℕ) (events : List Event) (e : Event) (d : Definition) → BreaksNone n uncovered_rule events
+pub steady_end : (n r i : ℕ) (events : List Event) (e : Event) (d : Definition) → BreaksNone n Uncovered events
     → slice_get events i ≡ Some e → is_painting e ≡ true → known (take i events) ≡ Some r
     → definition_of (take i events) r ≡ Some d → IsSteady r d events
 steady_end n r i events e d none here p k defined =

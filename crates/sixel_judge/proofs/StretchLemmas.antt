@@ -26,6 +26,7 @@ use Rattle.sixel_model.specs.Pictures.{is_side, most_side}
 use Rattle.sixel_model.specs.Rules.{breaks_box_size, breaks_colour_value, breaks_ratio, breaks_register}
 use Rattle.sixel_model.specs.Rules.{breaks_repeat_zero}
 use Rattle.sixel_model.specs.Grids.{Grid, cell}
+use Rattle.sixel_model.specs.declared.rule.Rule.TheVariants.{Undefined, Unselected}
 use Rattle.sixel_plane.specs.Covers.{kept_by}
 use Rattle.sixel_plane.specs.Stretches.{sixel_of, stretched_grid}
 use Rattle.sixel_plane.proofs.PlaneStretchLemmas.{stretched_blank, stretched_height, stretched_length, stretched_more}
@@ -33,7 +34,6 @@ use Rattle.sixel_plane.proofs.PlaneStretchLemmas.{stretched_none, stretched_widt
 use Rattle.sixel_judge.specs.declared.drawing_state.DrawingState.{DrawingState}
 use Rattle.sixel_judge.specs.declared.progress.Progress.{Progress}
 use Rattle.sixel_judge.specs.declared.progress.Progress.TheVariants.{Begun, Whole}
-use Rattle.sixel_judge.specs.declared.rule.Rule.TheVariants.{Undefined, Unselected}
 use Rattle.sixel_judge.specs.declared.verdict.Finding.{Finding}
 use Rattle.sixel_judge.specs.Violations.{BreaksNoRule, rule_in, undefined_in, unselected_in}
 use Rattle.sixel_judge.specs.Judging.{IsStateAfter, IsDrawn, JudgesAfter, StandsUnbroken, box_of}

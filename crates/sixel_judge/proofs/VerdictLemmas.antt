@@ -1,38 +1,21 @@
 -- A list has at most one verdict.
-use Rattle.std.proofs.Common.{◌≡◌, ◌==◌, ◌<◌, ◌⊎◌, ℕ, nat_lt, inl, inr, Option, Some, List, take, refl, sym, ap, subst}
-use Rattle.std.proofs.Common.{◌∙◌, ◌∷◌, [], ◌-◌, get_or, arith}
+use Rattle.std.proofs.Common.{◌≡◌, ◌==◌, ◌<◌, ◌⊎◌, ℕ, nat_lt, inl, inr, Option, Some, List, take, sym, ap, subst}
+use Rattle.std.proofs.Common.{◌∙◌, arith}
 use Rattle.std.specs.Prelude.{IsSomeAnd, IsTrue, slice_get}
 use Rattle.std.proofs.lemmas.Bool.{and_from, eq-eqb, lt-ltb, or_left, or_right}
 use Rattle.sixel_grammar.specs.declared.command.Event.{Event}
 use Rattle.sixel_grammar.specs.declared.command.Placed.{Placed}
 use Rattle.sixel_grammar.specs.Document.{events_of}
 use Rattle.sixel_model.specs.Positions.{HoldsAtPosition}
-use Rattle.sixel_model.specs.Rules.{FallsOutside, IsFirstPoint, StaysBlank, is_before, raster_before}
-use Rattle.sixel_model.proofs.RuleLemmas.{nowhere}
-use Rattle.sixel_judge.specs.declared.rule.Rule.{Rule}
-use Rattle.sixel_judge.specs.declared.rule.Rule.TheVariants.{RasterFirst, RasterTwice, Ratio, BoxSize, Register}
-use Rattle.sixel_judge.specs.declared.rule.Rule.TheVariants.{ColourValue, RepeatZero, Unselected, Undefined, Redefined}
-use Rattle.sixel_judge.specs.declared.rule.Rule.TheVariants.{Outside, Uncovered, EightBit}
+use Rattle.sixel_model.specs.Rules.{FallsOutside, IsFirstPoint, StaysBlank, is_before, number_of, raster_before}
+use Rattle.sixel_model.proofs.RuleLemmas.{nowhere, same_rule}
+use Rattle.sixel_model.specs.declared.rule.Rule.{Rule}
+use Rattle.sixel_model.specs.declared.rule.Rule.TheVariants.{Outside, Uncovered}
 use Rattle.sixel_judge.specs.declared.verdict.Finding.{Finding}
 use Rattle.sixel_judge.specs.declared.verdict.Verdict.{Verdict}
 use Rattle.sixel_judge.specs.declared.verdict.Verdict.TheVariants.{Portable, Broken}
-use Rattle.sixel_judge.specs.Verdicts.{IsFinding, IsFirstPixel, IsPixel, IsVerdict, capped, number_of}
+use Rattle.sixel_judge.specs.Verdicts.{IsFinding, IsFirstPixel, IsPixel, IsVerdict, capped}
 use Rattle.sixel_judge.proofs.OptionLemmas.{same_value}
-
--- ---- one rule
-
--- the rule with this number
-abbrev pub numbered : ℕ → Rule
-numbered n =
-    get_or (RasterFirst ∷ RasterTwice ∷ Ratio ∷ BoxSize ∷ Register ∷ ColourValue ∷ RepeatZero ∷ Unselected ∷ Undefined
-    ∷ Redefined ∷ Outside ∷ Uncovered ∷ []) (n - 1) EightBit
-
-numbered_is : (r : Rule) → numbered (number_of r) ≡ r
-numbered_is RasterFirst = refl
-numbered_is _ = refl
-
-pub same_rule : (r q : Rule) → number_of r ≡ number_of q → r ≡ q
-same_rule r q e = sym (numbered_is r) ∙ ap numbered e ∙ numbered_is q
 
 -- ---- one pixel
 
@@ -82,8 +65,8 @@ found_once : (registers : ℕ) (placed : List Placed) (f g : Finding) (i : ℕ) 
 unfolding make
 found_once registers placed f g i a b =
     let n : ℕ = number_of f.rule in let m : ℕ = number_of g.rule in
-    let not_less : ¬ (n < m) = λ lt. b.first.none_smaller n lt a.first.broken in
-    let not_more : ¬ (m < n) = λ lt. a.first.none_smaller m lt b.first.broken in
+    let not_less : ¬ (n < m) = λ lt. b.first.none_smaller f.rule lt a.first.broken in
+    let not_more : ¬ (m < n) = λ lt. a.first.none_smaller g.rule lt b.first.broken in
     let rule : f.rule ≡ g.rule = same_rule f.rule g.rule (omega (arith, not_less, not_more)) in
     let place : f.place ≡ g.place = same_value _ f.place g.place a.place b.place in
     let pixel : f.pixel ≡ g.pixel =
@@ -95,8 +78,8 @@ found_once registers placed f g i a b =
 finding_once : (registers : ℕ) (placed : List Placed) (f g : Finding) (i j : ℕ) → IsFinding registers placed f i
     → IsFinding registers placed g j → f ≡ g
 finding_once registers placed f g i j a b =
-    let not_less : ¬ (i < j) = λ lt. b.first.none_earlier (number_of f.rule) i lt a.first.broken in
-    let not_more : ¬ (j < i) = λ lt. a.first.none_earlier (number_of g.rule) j lt b.first.broken in
+    let not_less : ¬ (i < j) = λ lt. b.first.none_earlier f.rule i lt a.first.broken in
+    let not_more : ¬ (j < i) = λ lt. a.first.none_earlier g.rule j lt b.first.broken in
     let same : i ≡ j = omega (arith, not_less, not_more) in
     found_once registers placed f g j (subst (IsFinding registers placed f) same a) b
 
@@ -106,8 +89,8 @@ pub verdict_once : (registers : ℕ) (placed : List Placed) (v w : Verdict) → 
     → IsVerdict registers placed w → v ≡ w
 verdict_once registers placed (Portable p) (Portable q) a b = ap (λ r. Portable r) (a.1 ∙ sym b.1)
 verdict_once registers placed (Portable p) (Broken g) a b =
-    absurd (nowhere registers (number_of g.rule) b.0 (events_of placed) a.0 (b.1).first.broken)
+    absurd (nowhere registers g.rule b.0 (events_of placed) a.0 (b.1).first.broken)
 verdict_once registers placed (Broken f) (Portable q) a b =
-    absurd (nowhere registers (number_of f.rule) a.0 (events_of placed) b.0 (a.1).first.broken)
+    absurd (nowhere registers f.rule a.0 (events_of placed) b.0 (a.1).first.broken)
 verdict_once registers placed (Broken f) (Broken g) a b =
     ap (λ h. Broken h) (finding_once registers placed f g a.0 b.0 a.1 b.1)

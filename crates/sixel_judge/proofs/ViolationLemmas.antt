@@ -1,10 +1,11 @@
 -- On the rules that don't look at pixels, and on the lowest-numbered broken one.
-use Rattle.std.proofs.Common.{◌≡◌, ◌≢◌, ℕ, zero, suc, ◌<◌, ◌≤◌, ◌==◌, ◌&&◌, Bool, true, false, Option, Some, None}
+use Rattle.std.proofs.Common.{◌≡◌, ℕ, zero, suc, inl, inr, ◌<◌, ◌≤◌, ◌==◌, ◌&&◌, Bool, true, false, Option, Some, None}
 use Rattle.std.proofs.Common.{IsTrue, List, [], ◌∷◌, length, get_or, set, refl, sym, ap, ◌∙◌, subst, arith}
 use Rattle.std.specs.Prelude.{IfSome, IsSome, not, nat_lt, is_none, is_some, if◌then◌else◌}
 use Rattle.std.specs.Option.{option_and_then, option_flatten, option_map_or}
 use Rattle.std.proofs.lemmas.Bool.{eq-eqb, eqb-true, eqb-false, ne_eqb, ltb-true, ltb-false, not-false}
 use Rattle.std.proofs.lemmas.Option.{slice_get_past}
+use Rattle.std.proofs.Math.Nat.{eq-or-lt_of_le}
 use Rattle.sixel_grammar.specs.declared.command.Command.TheVariants.{Define}
 use Rattle.sixel_grammar.specs.declared.command.Event.{Event}
 use Rattle.sixel_grammar.specs.declared.command.Event.TheVariants.{Step}
@@ -15,60 +16,63 @@ use Rattle.sixel_model.specs.Events.{Definition, is_painting, is_same_definition
 use Rattle.sixel_model.specs.Rules.{Breaks, breaks_raster_first, breaks_raster_twice, breaks_ratio, breaks_box_size}
 use Rattle.sixel_model.specs.Rules.{breaks_register, breaks_colour_value, breaks_repeat_zero, breaks_unselected}
 use Rattle.sixel_model.specs.Rules.{breaks_undefined, breaks_redefined, colour_by, colour_of, definition_of}
-use Rattle.sixel_model.specs.Rules.{is_painted_in, raster_before}
+use Rattle.sixel_model.specs.Rules.{is_painted_in, number_of, raster_before}
+use Rattle.sixel_model.specs.declared.rule.Rule.{Rule}
+use Rattle.sixel_model.specs.declared.rule.Rule.TheVariants.{RasterFirst, RasterTwice, Ratio, BoxSize, Register}
+use Rattle.sixel_model.specs.declared.rule.Rule.TheVariants.{ColourValue, RepeatZero, Unselected, Undefined, Redefined}
+use Rattle.sixel_model.specs.declared.rule.Rule.TheVariants.{Outside}
 use Rattle.sixel_model.proofs.LeftLemmas.{left_at, length_left}
 use Rattle.sixel_model.proofs.PositionLemmas.{and_false}
-use Rattle.sixel_model.specs.RuleNumbers.{raster_first_rule, outside_rule}
+use Rattle.sixel_model.proofs.RuleLemmas.{at_least_one, same_rule}
 use Rattle.sixel_judge.specs.declared.drawing_state.DrawingState.{DrawingState}
-use Rattle.sixel_judge.specs.declared.rule.Rule.{Rule}
-use Rattle.sixel_judge.specs.declared.rule.Rule.TheVariants.{RasterFirst, RasterTwice, Ratio, BoxSize, Register}
-use Rattle.sixel_judge.specs.declared.rule.Rule.TheVariants.{ColourValue, RepeatZero, Unselected, Undefined, Redefined}
 use Rattle.sixel_judge.specs.Violations.{BreaksNoRule, NoneBelow, is_colour_of, raster_first_in, raster_twice_in}
 use Rattle.sixel_judge.specs.Violations.{redefined_in, rule_in, undefined_in, unselected_in}
 use Rattle.sixel_judge.specs.Judging.{IsStateAfter, IsGood}
 use Rattle.sixel_judge.specs.DrawingState.{IsColouredIfPainted, known_in, next_painted, next_palette}
-use Rattle.sixel_judge.specs.Verdicts.{IsPixel, number_of}
+use Rattle.sixel_judge.specs.Verdicts.{IsPixel}
 use Rattle.sixel_judge.proofs.DrawingStateLemmas.{given, keeps, known_below, known_is}
 
 -- ---- the lowest-numbered rule
 
 -- the rule is the lowest-numbered broken one, and has no pixel; (IsLeastOf) or none of the first ten is broken
 pub record IsLeast (registers : ℕ) (before : List Event) (e : Event) (rule : Rule) : Type 0 where
-  pub broken : Breaks registers (number_of rule) before e
-  pub none_smaller : NoneBelow registers (number_of rule) before e
+  pub broken : Breaks registers rule before e
+  pub none_smaller : NoneBelow registers rule before e
   pub no_pixel : IsPixel rule None before e
 
 abbrev pub IsLeastOf : ℕ → List Event → Event → Option Rule → Type 0
-IsLeastOf registers before e None = NoneBelow registers outside_rule before e
+IsLeastOf registers before e None = NoneBelow registers Outside before e
 IsLeastOf registers before e (Some rule) = IsLeast registers before e rule
 
--- if no rule below n is broken, and n isn't, then none below n + 1 is
-pub none_more : (registers : ℕ) (before : List Event) (e : Event) (n : ℕ) → NoneBelow registers n before e
-    → ¬ Breaks registers n before e → NoneBelow registers (suc n) before e
-none_more registers before e n below none m lt h =
-    split (m == n) refl
-  where
-    split : (b : Bool) → (m == n) ≡ b → ⊥
-    split true q = let same : m ≡ n = eqb-true m n q in none (subst (λ (k : ℕ). Breaks registers k before e) same h)
-    split false q = let other : m ≢ n = eqb-false m n q in
-        let smaller : m < n = omega (arith, lt, other) in
-        below m smaller h
+-- if no rule below this one is broken, and it isn't, then none up to it is
+pub none_up_to : (registers : ℕ) (before : List Event) (e : Event) (rule : Rule) → NoneBelow registers rule before e
+    → ¬ Breaks registers rule before e → (m : Rule) → number_of m ≤ number_of rule → ¬ Breaks registers m before e
+none_up_to registers before e rule below none m le h =
+    elim (eq-or-lt_of_le le) [
+      | inl same ↦ none (subst (λ (r : Rule). Breaks registers r before e) (same_rule m rule same) h)
+      | inr less ↦ below m less h
+    ]
 
-find : (registers : ℕ) (before : List Event) (e : Event) (rule : Rule) (o : Option Rule) (noted b : Bool) → noted ≡ b
-    → (IsTrue b → Breaks registers (number_of rule) before e)
-    → (Breaks registers (number_of rule) before e → IsTrue b)
-    → IsPixel rule None before e → NoneBelow registers (number_of rule) before e
-    → (NoneBelow registers (suc (number_of rule)) before e → IsLeastOf registers before e o)
+-- and none below the next
+pub none_more : (registers : ℕ) (before : List Event) (e : Event) (rule next : Rule)
+    → number_of next ≡ suc (number_of rule) → NoneBelow registers rule before e → ¬ Breaks registers rule before e
+    → NoneBelow registers next before e
+none_more registers before e rule next is below none m lt =
+    none_up_to registers before e rule below none m (omega (arith, is, lt))
+
+find : (registers : ℕ) (before : List Event) (e : Event) (rule next : Rule) (o : Option Rule) (noted b : Bool)
+    → number_of next ≡ suc (number_of rule) → noted ≡ b
+    → (IsTrue b → Breaks registers rule before e) → (Breaks registers rule before e → IsTrue b)
+    → IsPixel rule None before e → NoneBelow registers rule before e
+    → (NoneBelow registers next before e → IsLeastOf registers before e o)
     → IsLeastOf registers before e (if noted then Some rule else o)
-find registers before e rule o true b same holds is pixel below more =
+find registers before e rule next o true b is same holds broken pixel below more =
     record { broken = holds (sym same); none_smaller = below; no_pixel = pixel }
-find registers before e rule o false b same holds is pixel below more =
-    more (none_more _ before e (number_of rule) below (λ h. let both : false ≡ true = same ∙ is h in cc))
+find registers before e rule next o false b is same holds broken pixel below more =
+    more (none_more _ before e rule next is below (λ h. let both : false ≡ true = same ∙ broken h in cc))
 
-none_below_one : (registers : ℕ) (before : List Event) (e : Event) → NoneBelow registers raster_first_rule before e
-unfolding Breaks
-none_below_one registers before e zero lt h = h
-none_below_one registers before e (suc m) lt h = absurd (omega arith)
+none_below_first : (registers : ℕ) (before : List Event) (e : Event) → NoneBelow registers RasterFirst before e
+none_below_first registers before e m lt h = let some = at_least_one m in absurd (omega (arith, lt, some))
 
 -- ---- each rule, by the drawing state
 
@@ -282,15 +286,15 @@ least_rule {registers} n before e has_box box s =
     let unselected = unselected_is n before e s in
     let undefined = undefined_is n before e s in
     let redefined = redefined_is n before e s in
-    find _ before e RasterFirst _ (raster_first_in has_box e) _ first (λ h. h) (λ h. h) refl
-    (none_below_one _ before e) (λ n1.
-    find _ before e RasterTwice _ (raster_twice_in has_box e) _ twice (λ h. h) (λ h. h) refl n1 (λ n2.
-    find _ before e Ratio _ (breaks_ratio e) _ refl (λ h. h) (λ h. h) refl n2 (λ n3.
-    find _ before e BoxSize _ (breaks_box_size e) _ refl (λ h. h) (λ h. h) refl n3 (λ n4.
-    find _ before e Register _ (breaks_register (length n.palette) e) _
+    find _ before e RasterFirst RasterTwice _ (raster_first_in has_box e) _ refl first (λ h. h) (λ h. h) refl
+    (none_below_first _ before e) (λ n1.
+    find _ before e RasterTwice Ratio _ (raster_twice_in has_box e) _ refl twice (λ h. h) (λ h. h) refl n1 (λ n2.
+    find _ before e Ratio BoxSize _ (breaks_ratio e) _ refl refl (λ h. h) (λ h. h) refl n2 (λ n3.
+    find _ before e BoxSize Register _ (breaks_box_size e) _ refl refl (λ h. h) (λ h. h) refl n3 (λ n4.
+    find _ before e Register ColourValue _ (breaks_register (length n.palette) e) _ refl
     (ap (λ (m : ℕ). breaks_register m e) long) (λ h. h) (λ h. h) refl n4 (λ n5.
-    find _ before e ColourValue _ (breaks_colour_value e) _ refl (λ h. h) (λ h. h) refl n5 (λ n6.
-    find _ before e RepeatZero _ (breaks_repeat_zero e) _ refl (λ h. h) (λ h. h) refl n6 (λ n7.
-    find _ before e Unselected _ (unselected_in n e) _ unselected (λ h. h) (λ h. h) refl n7 (λ n8.
-    find _ before e Undefined _ (undefined_in n e) _ undefined (λ h. h) (λ h. h) refl n8 (λ n9.
-    find _ before e Redefined None (redefined_in n e) _ redefined (λ h. h) (λ h. h) refl n9 (λ n10. n10))))))))))
+    find _ before e ColourValue RepeatZero _ (breaks_colour_value e) _ refl refl (λ h. h) (λ h. h) refl n5 (λ n6.
+    find _ before e RepeatZero Unselected _ (breaks_repeat_zero e) _ refl refl (λ h. h) (λ h. h) refl n6 (λ n7.
+    find _ before e Unselected Undefined _ (unselected_in n e) _ refl unselected (λ h. h) (λ h. h) refl n7 (λ n8.
+    find _ before e Undefined Redefined _ (undefined_in n e) _ refl undefined (λ h. h) (λ h. h) refl n8 (λ n9.
+    find _ before e Redefined Outside None (redefined_in n e) _ refl redefined (λ h. h) (λ h. h) refl n9 (λ n10. n10))))))))))

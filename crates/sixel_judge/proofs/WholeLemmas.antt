@@ -14,10 +14,9 @@ use Rattle.sixel_model.specs.Colours.{palette_at}
 use Rattle.sixel_model.specs.Events.{Definition}
 use Rattle.sixel_model.specs.Pictures.{is_side, picture_fault}
 use Rattle.sixel_model.specs.Rules.{BreaksNone, StaysBlank, colour_by, colour_of, definition_of, is_covered}
-use Rattle.sixel_model.specs.Rules.{palette_left, picture_left}
+use Rattle.sixel_model.specs.Rules.{last_rule, palette_left, picture_left}
 use Rattle.sixel_model.specs.Grids.{IsFull, Grid, first_blank}
 use Rattle.sixel_model.proofs.LeftLemmas.{left_at}
-use Rattle.sixel_model.specs.RuleNumbers.{last_rule}
 use Rattle.sixel_judge.specs.Judging.{AreColoured, IsStateAfter, IsDrawn, IsGood, box_of}
 use Rattle.sixel_model.proofs.RuleLemmas.{none_drawn}
 use Rattle.sixel_judge.specs.Outside.{IsFirstIfAny}

@@ -14,7 +14,7 @@ use Rattle.sixel_model.specs.Rules.{BreaksNone, BreaksOutside, breaks_ratio, bre
 use Rattle.sixel_model.proofs.FirstLemmas.{earliest_all, earliest_there}
 use Rattle.sixel_model.proofs.LatestLemmas.{each_from_positions}
 use Rattle.sixel_model.proofs.RuleLemmas.{Keeps, keeps_at}
-use Rattle.sixel_model.specs.RuleNumbers.{uncovered_rule}
+use Rattle.sixel_model.specs.declared.rule.Rule.TheVariants.{Uncovered}
 use Rattle.sixel_terminal.specs.declared.choices.Ground.{Ground}
 use Rattle.sixel_terminal.specs.declared.choices.Ground.TheVariants.{Kept, Filled}
 use Rattle.sixel_terminal.specs.Displays.{Display, clipping}
@@ -49,7 +49,7 @@ pub square_if : (o : Option Attributes) → option_map_or (λ a. not (is_square 
 square_if None h = tt
 square_if (Some a) h = not-false _ h
 
-pub plain : (n : ℕ) (events : List Event) → BreaksNone n uncovered_rule events → IsPlain events
+pub plain : (n : ℕ) (events : List Event) → BreaksNone n Uncovered events → IsPlain events
 unfolding breaks_ratio breaks_repeat_zero
 plain n events none = record {
   no_repeat_of_zero = each_from_positions (λ e. IsFalse (is_repeat_of_zero e)) events
@@ -81,7 +81,7 @@ inside_box before e a x y k box fell =
 
 -- every point that a data command paints on a terminal lies in the box
 data_inside : (n : ℕ) (t : Display) (events : List Event) (a : Attributes) (i : ℕ) (e : Event) (x y : ℕ)
-    → BreaksNone n uncovered_rule events → raster_before events ≡ Some a → slice_get events i ≡ Some e
+    → BreaksNone n Uncovered events → raster_before events ≡ Some a → slice_get events i ≡ Some e
     → touches_on t (take i events) e x y ≡ true → is_in_box a x y ≡ true
 unfolding touches_on
 data_inside n t events a i e x y none box here touched =
@@ -107,7 +107,7 @@ kept_inside t before a x y box inside = rw (box, inside) (either_true (not t.cho
 
 -- clipping cuts off no point that a data command touches
 pub data_kept : (n : ℕ) (t u : Display) (events : List Event) (i : ℕ) (e : Event) (x y : ℕ)
-    → BreaksNone n uncovered_rule events → slice_get events i ≡ Some e → touches_on t (take i events) e x y ≡ true
+    → BreaksNone n Uncovered events → slice_get events i ≡ Some e → touches_on t (take i events) e x y ≡ true
     → is_kept_on u (take i events) x y ≡ true
 unfolding touches_on
 data_kept n t u events i e x y none here touched =
@@ -125,7 +125,7 @@ inside_if r false s = cc
 
 -- every point that a filled ground fills lies in the box
 filled_inside : (n : ℕ) (ground : Ground) (events : List Event) (a : Attributes) (i : ℕ) (e : Event) (x y : ℕ)
-    → BreaksNone n uncovered_rule events → raster_before events ≡ Some a → slice_get events i ≡ Some e
+    → BreaksNone n Uncovered events → raster_before events ≡ Some a → slice_get events i ≡ Some e
     → IsSome (filled_on ground e x y) → is_in_box a x y ≡ true
 filled_inside n Kept events a i e x y none box here f = cc
 filled_inside n (Filled r) events a i e x y none box here f = of_attributes (raster_of e) refl f
@@ -141,7 +141,7 @@ filled_inside n (Filled r) events a i e x y none box here f = of_attributes (ras
         rw (← same) (inside_if r _ s)
 
 paint_inside : (n : ℕ) (t : Display) (events : List Event) (a : Attributes) (i : ℕ) (e : Event) (x y : ℕ)
-    → BreaksNone n uncovered_rule events → raster_before events ≡ Some a → slice_get events i ≡ Some e
+    → BreaksNone n Uncovered events → raster_before events ≡ Some a → slice_get events i ≡ Some e
     → IsSome (paint_at t (take i events) e x y) → is_in_box a x y ≡ true
 paint_inside n t events a i e x y none box here p =
     split (touches_on t (take i events) e x y && is_kept_on t (take i events) x y) refl p
@@ -188,7 +188,7 @@ paints_same true false r f h = let no : false ≡ true = h refl in cc
 paints_same false kept r f h = refl
 
 paint_same : (n : ℕ) (t : Display) (events : List Event) (i : ℕ) (e : Event) (x y : ℕ)
-    → BreaksNone n uncovered_rule events → slice_get events i ≡ Some e
+    → BreaksNone n Uncovered events → slice_get events i ≡ Some e
     → paint_at (clipping true t) (take i events) e x y ≡ paint_at (clipping false t) (take i events) e x y
 unfolding touches_on height_of selected_on is_kept_on
 paint_same n t events i e x y none here =

@@ -6,8 +6,7 @@ use Rattle.sixel_grammar.specs.Document.{events_of}
 use Rattle.sixel_grammar.specs.Prefixes.{CompleteIn}
 use Rattle.sixel_model.specs.Events.{raster_of}
 use Rattle.sixel_model.specs.Positions.{HoldsAtPosition}
-use Rattle.sixel_model.specs.Rules.{BreaksNone, raster_before}
-use Rattle.sixel_model.specs.RuleNumbers.{last_rule}
+use Rattle.sixel_model.specs.Rules.{BreaksNone, last_rule, raster_before}
 
 -- the event is the first raster attributes, and no rule is broken before it or by it
 pub record MayGrow (registers : ℕ) (before : List Event) (e : Event) : Type 0 where

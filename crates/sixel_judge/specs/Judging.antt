@@ -10,9 +10,8 @@ use Rattle.sixel_model.specs.Geometry.{band, column}
 use Rattle.sixel_model.specs.Pictures.{is_side}
 use Rattle.sixel_model.specs.Positions.{latest}
 use Rattle.sixel_model.specs.Rules.{BreaksNone, definition_of, gives_colour, is_covered, is_painted_in, palette_left}
-use Rattle.sixel_model.specs.Rules.{raster_before, register_at}
+use Rattle.sixel_model.specs.Rules.{last_rule, raster_before, register_at}
 use Rattle.sixel_model.specs.Grids.{Grid, cell}
-use Rattle.sixel_model.specs.RuleNumbers.{last_rule}
 use Rattle.sixel_judge.specs.declared.drawing_state.DrawingState.{DrawingState}
 use Rattle.sixel_judge.specs.declared.verdict.Finding.{Finding}
 use Rattle.sixel_judge.specs.Verdicts.{IsFinding, capped}

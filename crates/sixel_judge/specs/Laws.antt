@@ -9,8 +9,8 @@ use Rattle.sixel_grammar.specs.Prefixes.{CompleteIn}
 use Rattle.sixel_model.specs.Colours.{palette_at}
 use Rattle.sixel_model.specs.Events.{Attributes, is_data_command, is_in_box, is_painting, raster_of}
 use Rattle.sixel_model.specs.Pictures.{PictureValue}
-use Rattle.sixel_model.specs.Rules.{BreaksNone, is_covered, known, picture_left, raster_before}
-use Rattle.sixel_model.specs.RuleNumbers.{uncovered_rule, last_rule}
+use Rattle.sixel_model.specs.Rules.{BreaksNone, is_covered, known, last_rule, picture_left, raster_before}
+use Rattle.sixel_model.specs.declared.rule.Rule.TheVariants.{Uncovered}
 use Rattle.sixel_terminal.specs.Displays.{Display, clipping, registers_of}
 use Rattle.sixel_terminal.specs.Drawing.{IsPainted, map_on, paints_in}
 use Rattle.sixel_judge.specs.declared.verdict.Verdict.{Verdict}
@@ -32,31 +32,31 @@ pub record HasColourLeft (registers : ℕ) (t : Display) (events : List Event) (
 abbrev pub PaintedColourIsLeft : ℕ → Type 0
 PaintedColourIsLeft registers =
     (t : Display) (events : List Event) (i : ℕ) (e : Event) (r : ℕ) → registers ≤ registers_of t
-    → BreaksNone registers uncovered_rule events → slice_get events i ≡ Some e → IsTrue (is_painting e)
+    → BreaksNone registers Uncovered events → slice_get events i ≡ Some e → IsTrue (is_painting e)
     → known (take i events) ≡ Some r → HasColourLeft registers t events i r
 
 -- if no drawing rule is broken, no raster attributes follow a data command
 abbrev pub FilledFirst : ℕ → Type 0
 FilledFirst registers =
-    (events : List Event) (i j : ℕ) (d e : Event) → BreaksNone registers uncovered_rule events → i < j
+    (events : List Event) (i j : ℕ) (d e : Event) → BreaksNone registers Uncovered events → i < j
     → slice_get events i ≡ Some d → IsTrue (is_data_command d) → slice_get events j ≡ Some e → raster_of e ≡ None
 
 -- if no drawing rule is broken in a whole list, each pixel of the box is covered by some event
 abbrev pub AllCovered : ℕ → Type 0
 AllCovered registers =
-    (events : List Event) (a : Attributes) (x y : ℕ) → AreWhole events → BreaksNone registers uncovered_rule events
+    (events : List Event) (a : Attributes) (x y : ℕ) → AreWhole events → BreaksNone registers Uncovered events
     → raster_before events ≡ Some a → IsTrue (is_in_box a x y) → IsTrue (is_covered events x y)
 
 -- if no drawing rule is broken, no event paints a pixel outside the box, on any terminal
 abbrev pub NonePaintedOutside : ℕ → Type 0
 NonePaintedOutside registers =
-    (t : Display) (events : List Event) (a : Attributes) (x y : ℕ) → BreaksNone registers uncovered_rule events
+    (t : Display) (events : List Event) (a : Attributes) (x y : ℕ) → BreaksNone registers Uncovered events
     → raster_before events ≡ Some a → ¬ IsInBoxOn t a.width a.height x y → ¬ IsPainted t events x y
 
 -- if no drawing rule is broken, clipping changes nothing: each event paints the same pixels, in the same registers
 abbrev pub ClippingChangesNothing : ℕ → Type 0
 ClippingChangesNothing registers =
-    (t : Display) (events : List Event) (i : ℕ) (e : Event) (x y : ℕ) → BreaksNone registers uncovered_rule events
+    (t : Display) (events : List Event) (i : ℕ) (e : Event) (x y : ℕ) → BreaksNone registers Uncovered events
     → slice_get events i ≡ Some e
     → paints_in (clipping true t) events (take i events) e x y
     ≡ paints_in (clipping false t) events (take i events) e x y

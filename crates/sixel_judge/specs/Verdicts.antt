@@ -6,36 +6,14 @@ use Rattle.sixel_grammar.specs.declared.command.Placed.{Placed}
 use Rattle.sixel_grammar.specs.Document.{events_of}
 use Rattle.sixel_model.specs.Positions.{HoldsAtPosition}
 use Rattle.sixel_model.specs.Rules.{BreaksNone, FallsOutside, IsFirstBroken, IsFirstPoint, StaysBlank, picture_left}
-use Rattle.sixel_model.specs.Rules.{raster_before}
-use Rattle.sixel_model.specs.RuleNumbers.{raster_first_rule, raster_twice_rule, ratio_rule, box_size_rule}
-use Rattle.sixel_model.specs.RuleNumbers.{register_rule, colour_value_rule, repeat_zero_rule, unselected_rule}
-use Rattle.sixel_model.specs.RuleNumbers.{undefined_rule, redefined_rule, outside_rule, uncovered_rule}
-use Rattle.sixel_model.specs.RuleNumbers.{eight_bit_rule, last_rule}
-use Rattle.sixel_judge.specs.declared.rule.Rule.{Rule}
-use Rattle.sixel_judge.specs.declared.rule.Rule.TheVariants.{RasterFirst, RasterTwice, Ratio, BoxSize, Register}
-use Rattle.sixel_judge.specs.declared.rule.Rule.TheVariants.{ColourValue, RepeatZero, Unselected, Undefined, Redefined}
-use Rattle.sixel_judge.specs.declared.rule.Rule.TheVariants.{Outside, Uncovered, EightBit}
+use Rattle.sixel_model.specs.Rules.{last_rule, raster_before}
+use Rattle.sixel_model.specs.declared.rule.Rule.{Rule}
+use Rattle.sixel_model.specs.declared.rule.Rule.TheVariants.{Outside, Uncovered}
 use Rattle.sixel_judge.specs.declared.verdict.Finding.{Finding}
 use Rattle.sixel_judge.specs.declared.verdict.Verdict.{Verdict}
 use Rattle.sixel_judge.specs.declared.verdict.Verdict.TheVariants.{Portable, Broken}
 use Rattle.sixel_judge.specs.declared.verdict.Outcome.{Outcome}
 use Rattle.sixel_judge.specs.declared.verdict.Outcome.TheVariants.{Portable as PortableSize, Broken as BrokenRule}
-
--- the number of each rule
-abbrev pub number_of : Rule → ℕ
-number_of RasterFirst = raster_first_rule
-number_of RasterTwice = raster_twice_rule
-number_of Ratio = ratio_rule
-number_of BoxSize = box_size_rule
-number_of Register = register_rule
-number_of ColourValue = colour_value_rule
-number_of RepeatZero = repeat_zero_rule
-number_of Unselected = unselected_rule
-number_of Undefined = undefined_rule
-number_of Redefined = redefined_rule
-number_of Outside = outside_rule
-number_of Uncovered = uncovered_rule
-number_of EightBit = eight_bit_rule
 
 -- the greatest 64-bit number, the cap of a pixel's coordinates
 abbrev pub greatest : ℕ
@@ -60,7 +38,7 @@ IsPixel _ pixel before e = pixel ≡ None
 
 -- the finding is the first broken rule, and its event has position i
 pub record IsFinding (registers : ℕ) (placed : List Placed) (f : Finding) (i : ℕ) : Type 0 where
-  pub first : IsFirstBroken registers (events_of placed) (number_of f.rule) i
+  pub first : IsFirstBroken registers (events_of placed) f.rule i
   pub place : option_map (λ (p : Placed). p.place) (slice_get placed i) ≡ Some f.place
   pub pixel : HoldsAtPosition (IsPixel f.rule f.pixel) (events_of placed) i
 

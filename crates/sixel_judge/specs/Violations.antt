@@ -1,6 +1,6 @@
 -- The lowest-numbered rule that an event breaks, computed from the drawing state.
 use Rattle.std.specs.Prelude.{◌==◌, ◌&&◌, ◌||◌, ◌<◌, ℕ, Bool, false, not, Option, Some, None, List, is_none, is_some}
-use Rattle.std.specs.Prelude.{suc, length, slice_index_or, if◌then◌else◌}
+use Rattle.std.specs.Prelude.{length, slice_index_or, if◌then◌else◌}
 use Rattle.std.specs.Option.{option_map_or}
 use Rattle.sixel_grammar.specs.declared.command.Event.{Event}
 use Rattle.sixel_grammar.specs.declared.command.Event.TheVariants.{Step}
@@ -10,15 +10,14 @@ use Rattle.sixel_model.specs.declared.colour.Parts.TheVariants.{Rgb, Hls}
 use Rattle.sixel_model.specs.Colours.{palette_at}
 use Rattle.sixel_model.specs.Events.{is_data_command, is_finish, is_painting, is_return, raster_of}
 use Rattle.sixel_model.specs.Rules.{Breaks, breaks_box_size, breaks_colour_value, breaks_ratio, breaks_register}
-use Rattle.sixel_model.specs.Rules.{breaks_repeat_zero}
-use Rattle.sixel_model.specs.RuleNumbers.{last_rule}
+use Rattle.sixel_model.specs.Rules.{breaks_repeat_zero, number_of}
+use Rattle.sixel_model.specs.declared.rule.Rule.{Rule}
+use Rattle.sixel_model.specs.declared.rule.Rule.TheVariants.{RasterFirst, RasterTwice, Ratio, BoxSize, Register}
+use Rattle.sixel_model.specs.declared.rule.Rule.TheVariants.{ColourValue, RepeatZero, Unselected, Undefined, Redefined}
 use Rattle.sixel_judge.specs.declared.violation.Violation.{Violation}
 use Rattle.sixel_judge.specs.declared.drawing_state.DrawingState.{DrawingState}
-use Rattle.sixel_judge.specs.declared.rule.Rule.{Rule}
-use Rattle.sixel_judge.specs.declared.rule.Rule.TheVariants.{RasterFirst, RasterTwice, Ratio, BoxSize, Register}
-use Rattle.sixel_judge.specs.declared.rule.Rule.TheVariants.{ColourValue, RepeatZero, Unselected, Undefined, Redefined}
 use Rattle.sixel_judge.specs.DrawingState.{known_in}
-use Rattle.sixel_judge.specs.Verdicts.{IsPixel, number_of}
+use Rattle.sixel_judge.specs.Verdicts.{IsPixel}
 
 -- ---- the rules, by the drawing state after the events before
 
@@ -63,18 +62,18 @@ rule_in n has_box e =
 
 -- ---- what is found
 
--- no rule with a number below n is broken
-abbrev pub NoneBelow : ℕ → ℕ → List Event → Event → Type 0
-NoneBelow registers n before e = (m : ℕ) → m < n → ¬ Breaks registers m before e
+-- no rule with a smaller number than this one is broken
+abbrev pub NoneBelow : ℕ → Rule → List Event → Event → Type 0
+NoneBelow registers rule before e = (m : Rule) → number_of m < number_of rule → ¬ Breaks registers m before e
 
 -- no rule is broken
 abbrev pub BreaksNoRule : ℕ → List Event → Event → Type 0
-BreaksNoRule registers before e = NoneBelow registers (suc last_rule) before e
+BreaksNoRule registers before e = (rule : Rule) → ¬ Breaks registers rule before e
 
 -- the violation has the lowest-numbered broken rule, and its pixel
 pub record IsViolation (registers : ℕ) (before : List Event) (e : Event) (b : Violation) : Type 0 where
-  pub broken : Breaks registers (number_of b.rule) before e
-  pub none_smaller : NoneBelow registers (number_of b.rule) before e
+  pub broken : Breaks registers b.rule before e
+  pub none_smaller : NoneBelow registers b.rule before e
   pub pixel : IsPixel b.rule b.pixel before e
 
 -- the violation is that of the event, or there is none and no rule is broken

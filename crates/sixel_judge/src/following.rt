@@ -55,7 +55,7 @@ impl<P: Cover> Follower for Checker<P> {
 
     ghost has_taken = { λ first now seen. StandsAfter (length first.state.palette) now seen };
 
-    ghost may_stop = { λ first stop seen. MayGrowAmong (length first.state.palette) seen };
+    ghost may_stop = { λ first now stop seen. MayGrowAmong (length first.state.palette) seen };
 
     #[inline(never)]
     fn take(&mut self, placed: &Placed) -> Result<(), AllocError> {

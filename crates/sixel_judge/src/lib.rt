@@ -14,12 +14,11 @@ pub mod outside;
 mod pixels;
 mod progress;
 mod pushing;
-mod rule;
 pub mod rules;
 mod stretch;
 mod verdict;
 mod violation;
 
 pub use checker::Checker;
-pub use rule::Rule;
+pub use sixel_model::Rule;
 pub use verdict::{Finding, Outcome, Verdict};

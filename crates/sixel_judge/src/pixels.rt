@@ -6,9 +6,9 @@ ghost use Rattle.std.specs.Option.{option_map};
 ghost use Rattle.sixel_grammar.specs.declared.command.Event.{Event as EventValue};
 ghost use Rattle.sixel_grammar.specs.Spelling.{IsSpellable};
 ghost use Rattle.sixel_model.specs.Events.{raster_of};
-ghost use Rattle.sixel_model.specs.RuleNumbers.{eight_bit_rule, outside_rule, uncovered_rule};
 ghost use Rattle.sixel_model.specs.Rules.{FallsOutside, StaysBlank, palette_left, picture_left};
 ghost use Rattle.sixel_model.specs.Grids.{IsFull};
+ghost use Rattle.sixel_model.specs.declared.rule.Rule.TheVariants.{Outside, Uncovered, EightBit};
 ghost use Rattle.sixel_plane.specs.Covers.{kept_by};
 ghost use Rattle.sixel_judge.specs.Violations.{BreaksNoRule, IsViolationOf, NoneBelow};
 ghost use Rattle.sixel_judge.specs.Judging.{IsStateAfter, IsDrawn, IsGridAfter, IsUndrawn, StandsUnbroken, box_of};
@@ -18,11 +18,10 @@ ghost use Rattle.sixel_judge.specs.DrawingState.{IsBelow};
 use crate::drawing_state::DrawingState;
 use crate::events::{bits_of, columns_of, is_eight_bit, is_finish, is_painting, sides_of};
 use crate::outside::outside_pixel;
-use crate::rule::Rule;
 use crate::rules::broken_rule;
 use crate::violation::Violation;
 use sixel_grammar::Event;
-use sixel_model::{Palette, Picture};
+use sixel_model::{Palette, Picture, Rule};
 use sixel_plane::{Cover, Plane};
 use std::alloc::{AllocError, Global};
 
@@ -56,7 +55,7 @@ fn pixel_blank<P: Cover>(plane: &P) -> Option<(u64, u64)>
 /// A violation of `EightBit`, the rule that is tested last.
 #[inline]
 fn violation_of_eight_bit(event: &Event) -> Option<Violation>
-    ensures { (registers : ℕ) (before : List EventValue) → NoneBelow registers eight_bit_rule before event.now
+    ensures { (registers : ℕ) (before : List EventValue) → NoneBelow registers EightBit before event.now
         → IsViolationOf registers before event.now result }
 {
     if is_eight_bit(event) {
@@ -73,7 +72,7 @@ fn violation_of_eight_bit(event: &Event) -> Option<Violation>
 #[inline(always)]
 fn violation_of_end<P: Cover>(plane: &P, event: &Event) -> Option<Violation>
     ensures { (registers : ℕ) (before : List EventValue) → IsDrawn (kept_by P.keeps) (P.grid plane.now) before
-        → NoneBelow registers uncovered_rule before event.now → IsViolationOf registers before event.now result }
+        → NoneBelow registers Uncovered before event.now → IsViolationOf registers before event.now result }
 {
     if !is_finish(event) {
         return violation_of_eight_bit(event);
@@ -95,7 +94,7 @@ fn violation_of_pixels<P: Cover>(
     event: &Event,
 ) -> Option<Violation>
     ensures { (registers : ℕ) (before : List EventValue) → IsStateAfter registers state.now before
-        → IsDrawn (kept_by P.keeps) (P.grid plane.now) before → NoneBelow registers outside_rule before event.now
+        → IsDrawn (kept_by P.keeps) (P.grid plane.now) before → NoneBelow registers Outside before event.now
         → IsViolationOf registers before event.now result }
 {
     match pixel_outside(state, plane, event) {

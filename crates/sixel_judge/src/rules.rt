@@ -10,9 +10,8 @@ use crate::drawing_state::DrawingState;
 use crate::events::{
     is_data_command, is_finish, is_painting, is_raster, is_repeat_of_zero, is_return, named_by,
 };
-use crate::rule::Rule;
 use sixel_grammar::{Command, Event};
-use sixel_model::MOST_REGISTERS;
+use sixel_model::{MOST_REGISTERS, Rule};
 
 /// The greatest side of a box, in pixels.
 const MOST_SIDE: u16 = 2048;

@@ -1,7 +1,6 @@
 //! The result of a check.
 
-use crate::rule::Rule;
-use sixel_model::Picture;
+use sixel_model::{Picture, Rule};
 
 /// The first broken rule: of the earliest event that breaks any rule, the lowest-numbered rule that it breaks.
 #[derive(Clone, Copy, Debug, PartialEq, Eq, Drop)]

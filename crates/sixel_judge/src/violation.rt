@@ -1,6 +1,6 @@
 //! The rule that one event breaks.
 
-use crate::rule::Rule;
+use sixel_model::Rule;
 
 /// A broken rule, and its pixel as in `Finding`.
 #[derive(Clone, Copy, Debug)]

@@ -35,13 +35,6 @@ depth_within bits m below =
       | inr enough ↦ enough
     ]
 
--- nor does one of fewer bits
-pub depth_of_less : (bits m n : ℕ) → bits ≤ n → n < 64 → n % 64 < 2 ^ m → depth bits ≤ m
-depth_of_less bits m n less few below =
-    let same : n % 64 ≡ n = omega (arith, few) in
-    let own : bits % 64 ≡ bits = omega (arith, less, few) in
-    depth_within bits m (omega (arith, same, own, less, below))
-
 deep_enough : (bits m : ℕ) → 2 ^ m ≤ 2 * (bits % 64) + 1 → bits % 64 < 2 ^ m → m ≤ depth bits
 deep_enough bits zero least below = omega arith
 deep_enough bits (suc j) least below =

@@ -9,6 +9,9 @@ use Rattle.sixel_grammar.specs.declared.command.Command.{Command}
 use Rattle.sixel_grammar.specs.declared.command.Command.TheVariants.{Sixel}
 use Rattle.sixel_grammar.specs.declared.command.Event.{Event}
 use Rattle.sixel_grammar.specs.declared.command.Event.TheVariants.{Start, Step, Finish}
+use Rattle.sixel_grammar.specs.declared.command.Placed.{Placed}
+use Rattle.sixel_grammar.specs.Document.{events_of}
+use Rattle.sixel_grammar.specs.Stretches.{sixels_from}
 use Rattle.sixel_model.specs.Events.{bits_of, columns_of, is_next_line, is_return, raster_of}
 use Rattle.sixel_model.specs.Geometry.{band, column}
 use Rattle.sixel_model.specs.Positions.{earliest, since}
@@ -16,6 +19,7 @@ use Rattle.sixel_model.specs.Rules.{raster_before}
 use Rattle.sixel_model.proofs.StepLemmas.{band_push, column_push, raster_push}
 use Rattle.sixel_terminal.specs.Stretches.{sixels_of}
 use Rattle.sixel_terminal.proofs.DrawLemmas.{or_none}
+use Rattle.sixel_terminal.proofs.FollowLemmas.{events_then, sixels_are}
 use Rattle.sixel_terminal.proofs.StandLemmas.{map_or}
 use Rattle.sixel_mend.specs.declared.extent.Extent.{Extent}
 use Rattle.sixel_mend.specs.declared.extent.Sides.{Sides}
@@ -142,3 +146,17 @@ measures_stretch (b ∷ bytes) e before s across down =
     let count : e.column + 1 + length bytes ≡ e.column + length (b ∷ bytes) = omega arith in
     subst (λ (n : ℕ). Measures (record e { column = n }) (before ++ sixels_of (b ∷ bytes))) count
     (subst (Measures (moved (moved e 1) (length bytes))) (append_assoc before (sixel ∷ []) (sixels_of bytes)) all)
+
+-- ---- events with their offsets
+
+pub measures_one : (e : Extent) (seen : List Placed) (p : Placed) → Measures e (events_of seen ++ p.event ∷ [])
+    → Measures e (events_of (seen ++ p ∷ []))
+measures_one e seen p s = subst (Measures e) (sym (events_then seen (p ∷ []))) s
+
+pub measures_sixels : (e : Extent) (seen : List Placed) (place : ℕ) (bytes : List ℕ)
+    → Measures e (events_of seen ++ sixels_of bytes) → Measures e (events_of (seen ++ sixels_from place bytes))
+measures_sixels e seen place bytes s =
+    subst (Measures e)
+    (ap (λ (es : List Event). events_of seen ++ es) (sym (sixels_are place bytes))
+    ∙ sym (events_then seen (sixels_from place bytes)))
+    s

@@ -1,46 +1,62 @@
 -- Measuring a document while its bytes come.
-use Rattle.std.proofs.Common.{◌≡◌, ℕ, ◌++◌, List, Ok, Err, IfErr, MatchResult, OnOk, Some, subst}
-use Rattle.std.specs.Prelude.{Result}
-use Rattle.sixel_grammar.specs.declared.command.Event.{Event}
+use Rattle.std.proofs.Common.{◌≡◌, ℕ, ◌++◌, List, None, Some, Result, Ok, Err, IfErr, OnOk, inl, inr, refl, subst, sym}
+use Rattle.std.specs.Prelude.{IsSome}
 use Rattle.sixel_grammar.specs.declared.command.Placed.{Placed}
 use Rattle.sixel_grammar.specs.declared.fault.Fault.{Fault}
-use Rattle.sixel_grammar.specs.Document.{Document}
+use Rattle.sixel_grammar.specs.declared.following.Halt.{Halt}
+use Rattle.sixel_grammar.specs.declared.following.Halt.TheVariants.{Refused, Stopped}
+use Rattle.sixel_grammar.specs.Document.{events_of}
 use Rattle.sixel_grammar.specs.Faults.{IsFaultOf}
-use Rattle.sixel_grammar.specs.declared.reader.Reader.{Reader}
+use Rattle.sixel_grammar.specs.Following.{FollowsBytes, HaltsWithin}
 use Rattle.sixel_grammar.specs.Standing.{fault_of}
+use Rattle.sixel_grammar.proofs.FollowingLemmas.{always_refused}
 use Rattle.sixel_mend.specs.declared.extent.Extent.{Extent}
-use Rattle.sixel_mend.specs.Following.{FollowsBytes, RefusesBytes, StopsAt}
 use Rattle.sixel_mend.specs.Measures.{Measures}
-use Rattle.sixel_mend.specs.Measuring.{HasMeasured, Measured}
-use Rattle.sixel_mend.proofs.FollowLemmas.{Judges}
+use Rattle.sixel_mend.specs.Measuring.{HasMeasured, HasStood, Measured}
 
-abbrev measures : Extent → Extent → List Event → Type 0
-measures first extent events = Measures extent events
+-- what an extent has taken, and that it never stops
+abbrev takes : Extent → Extent → List Placed → Type 0
+takes first extent seen = Measures extent (events_of seen)
+
+abbrev stops : {S : Type 0} → Extent → Extent → S → List Placed → Type 0
+stops first now stop seen = ⊥
+
+-- without a fault it has read some bytes
+pub stands_after : (m : Measured) → HasStood m.reader m.extent → fault_of m.reader ≡ None
+    → (first : Extent) × (bytes : List ℕ) × HasMeasured m bytes
+stands_after m (inl some) none = let no : IsSome {T = Fault} None = subst IsSome none some in cc
+stands_after m (inr h) none = (m.extent, h.0, h.1)
+
+-- a reader that had read some bytes has read some or has a fault after a piece, too
+pub stands_still : {S : Type 0} (result : Result (Unit {0}) (Halt S)) (m new : Measured) (before bytes : List ℕ)
+    → HasMeasured m before
+    → OnOk result (FollowsBytes takes m.reader m.extent new.reader new.extent bytes)
+    → IfErr result (HaltsWithin takes stops m.reader m.extent new.reader new.extent bytes)
+    → HasStood new.reader new.extent
+stands_still (Ok u) m new before bytes measured followed halted =
+    inr (before ++ bytes, followed m.extent before measured)
+stands_still (Err (Refused fault)) m new before bytes measured followed halted =
+    inl (subst IsSome (sym (halted m.extent before measured).kept) refl)
+stands_still (Err (Stopped stop)) m new before bytes measured followed halted =
+    absurd (halted m.extent before measured).holds
 
 -- what was followed are all of the bytes
-pub measured_more : (result : Result (Unit {0}) Fault) (now next : Measured) (followed bytes : List ℕ)
-    → OnOk result (FollowsBytes measures now.reader now.extent next.reader next.extent followed) → followed ≡ bytes
-    → OnOk result ((before : List ℕ) → HasMeasured now before → HasMeasured next (before ++ bytes))
-measured_more (Ok u) now next followed bytes h all = λ before a.
-    subst (λ (t : List ℕ). HasMeasured next (before ++ t)) all (h now.extent before a)
-measured_more (Err f) now next followed bytes h all = tt
+pub measured_more : (m new : Measured) (followed bytes before : List ℕ)
+    → FollowsBytes takes m.reader m.extent new.reader new.extent followed → followed ≡ bytes → HasMeasured m before
+    → HasMeasured new (before ++ bytes)
+measured_more m new followed bytes before follows all measured =
+    subst (λ (t : List ℕ). HasMeasured new (before ++ t)) all (follows m.extent before measured)
 
-pub measured_refused : (result : Result (Unit {0}) Fault) (now : Measured) (followed bytes : List ℕ)
-    → IfErr result (RefusesBytes measures now.reader now.extent followed) → followed ≡ bytes
-    → IfErr result (λ fault. (before : List ℕ) → HasMeasured now before → (rest : List ℕ)
-    → IsFaultOf ((before ++ bytes) ++ rest) fault)
-measured_refused (Ok u) now followed bytes h all = tt
-measured_refused (Err f) now followed bytes h all = λ before a rest.
-    subst (λ (t : List ℕ). IsFaultOf ((before ++ t) ++ rest) f) all (h now.extent before a rest)
-
-pub measured_stopped : (result : Result (Unit {0}) Fault) (now : Measured) (r : Reader)
-    → IfErr result (StopsAt measures now.reader now.extent r)
-    → IfErr result (λ fault. (before : List ℕ) → HasMeasured now before → fault_of r ≡ Some fault)
-measured_stopped (Ok u) now r h = tt
-measured_stopped (Err f) now r h = λ before a. h now.extent before a
-
-pub measured_whole : (result : Result (Unit {0}) Fault) (now : Measured) (bytes : List ℕ) → Judges now.reader result
-    → HasMeasured now bytes
-    → MatchResult result (λ _. (events : List Placed) × Document events bytes) (IsFaultOf bytes)
-measured_whole (Ok u) now bytes judges a = (a.events, judges a.events bytes a.read)
-measured_whole (Err f) now bytes judges a = (judges a.events bytes a.read).0
+-- the fault that ended it
+pub measuring_refused : {S : Type 0} (m new : Measured) (followed bytes before : List ℕ) (halt : Halt S)
+    (fault : Fault) → HaltsWithin takes stops m.reader m.extent new.reader new.extent followed halt → followed ≡ bytes
+    → halt ≡ Refused fault → HasMeasured m before
+    → (fault_of new.reader ≡ Some fault) × ((rest : List ℕ) → IsFaultOf ((before ++ bytes) ++ rest) fault)
+measuring_refused m new followed bytes before halt fault halts all is measured =
+    let halted = subst (HaltsWithin takes stops m.reader m.extent new.reader new.extent followed) is halts in
+    let here = halted m.extent before measured in (
+      here.kept,
+      λ rest.
+          subst (λ (t : List ℕ). IsFaultOf ((before ++ t) ++ rest) fault) all
+          (always_refused (takes m.extent) new.reader new.extent (before ++ followed) fault here rest),
+    )

@@ -1,15 +1,12 @@
 -- Pixels whose colours were seen.
-use Rattle.std.proofs.Common.{◌≡◌, ℕ, true, List, Option, Some, get_or, refl, subst, sym}
+use Rattle.std.proofs.Common.{◌≡◌, ℕ, true, List, Option, Some, refl, subst, sym}
 use Rattle.std.specs.List.{list_any}
 use Rattle.sixel_model.specs.Colours.{is_same}
 use Rattle.sixel_model.specs.declared.colour.Parts.{Parts}
-use Rattle.sixel_model.specs.declared.colour.Parts.TheVariants.{Rgb, Hls}
 use Rattle.sixel_ppm.specs.declared.ppm.colours.Colours.{Colours}
 use Rattle.sixel_ppm.specs.PpmColours.{Fills, HasRegister}
 use Rattle.sixel_ppm.specs.PpmReading.{register_among, with_colour}
 use Rattle.sixel_terminal.specs.declared.pixel.Ink.{Ink}
-use Rattle.sixel_terminal.specs.declared.pixel.Ink.TheVariants.{Fixed, Bound}
-use Rattle.sixel_terminal.specs.Pixels.{bytes_of, is_rgb_ink}
 use Rattle.sixel_terminal.specs.Screens.{colour_in_ink}
 use Rattle.sixel_mend.specs.declared.numbering.Numbered.{Numbered}
 use Rattle.sixel_mend.specs.Numbering.{KnowsLast}
@@ -36,10 +33,3 @@ pub repeats : (c : Colours) (seen : List Parts) (last : Option Numbered) (ink : 
 repeats c seen last ink register is fills knows =
     let known = subst (λ (o : Option Numbered). KnowsLast o seen) is knows in
     seen_again c seen last ink register known fills knows
-
--- the colour of an RGB pixel, by its bytes
-pub colour_of_bytes : (ink : Ink) (bytes : List ℕ) → is_rgb_ink ink ≡ true → bytes ≡ bytes_of ink
-    → colour_in_ink ink ≡ Rgb (get_or bytes 0 0) (get_or bytes 1 0) (get_or bytes 2 0)
-colour_of_bytes (Fixed (Rgb red green blue)) bytes rgb is = rw is refl
-colour_of_bytes (Fixed (Hls hue lightness saturation)) bytes rgb is = cc
-colour_of_bytes (Bound register) bytes rgb is = cc

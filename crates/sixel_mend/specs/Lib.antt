@@ -3,7 +3,6 @@ pub mod Sizes
 pub mod Mended
 pub mod Extents
 pub mod Measures
-pub mod Following
 pub mod Measuring
 pub mod Numbering
 pub mod Judging

@@ -5,6 +5,7 @@ ghost use Rattle.std.specs.Prelude.{slice_index};
 ghost use Rattle.sixel_grammar.specs.declared.command.Event.{Event as AnEvent};
 ghost use Rattle.sixel_grammar.specs.declared.command.Event.TheVariants.{Step};
 ghost use Rattle.sixel_grammar.specs.Bytes.{is_data};
+ghost use Rattle.sixel_grammar.specs.Document.{events_of};
 ghost use Rattle.sixel_model.specs.Geometry.{band_rows};
 ghost use Rattle.sixel_terminal.specs.Stretches.{sixels_of};
 ghost use Rattle.sixel_mend.specs.Extents.{depth, reached};
@@ -12,9 +13,9 @@ ghost use Rattle.sixel_mend.specs.declared.mending.Mending.{Mending as AMending}
 ghost use Rattle.sixel_mend.specs.Measures.{IsSized, Measures, most, next_band, next_column, next_declared, reached_column};
 ghost use Rattle.sixel_mend.specs.Measures.{reached_row};
 
-use crate::following::Follower;
-use sixel_grammar::{Command, Event};
+use sixel_grammar::{Command, Event, Follower, Placed};
 use sixel_model::BAND_ROWS;
+use std::convert::Infallible;
 
 /// The sides of a declared box, in pixels.
 #[derive(Clone, Copy, Debug, PartialEq, Eq)]
@@ -179,6 +180,19 @@ impl Extent {
             *self = self.with(&Event::Step(Command::Sixel(byte - b'?')));
         }
     }
+
+    /// Follows the sixels of these data bytes, in order.
+    fn follow_stretch(&mut self, bytes: &[u8])
+        requires { (k : ℕ) → k < length bytes.now → IsTrue (is_data (slice_index bytes.now k)) }
+        ensures { (before : List AnEvent) → Measures self.old before
+            → Measures self.new (before ++ sixels_of bytes.now) }
+    {
+        if self.has_room(bytes) {
+            self.column += bytes.len() as u32;
+        } else {
+            self.follow_each(bytes);
+        }
+    }
 }
 
 /// The greater of a side and a declared one.
@@ -206,18 +220,41 @@ impl Extent {
 }
 
 impl Follower for Extent {
-    ghost has_followed = { λ _ extent events. Measures extent events };
+    type Stop = Infallible;
 
-    #[inline(always)]
-    fn follow(&mut self, event: &Event) {
-        *self = self.with(event);
+    ghost has_taken = { λ first now seen. Measures now (events_of seen) };
+
+    ghost may_stop = { λ first now stop seen. ⊥ };
+
+    #[tactic(auto, using(crate::proofs::MeasureLemmas::measures_one))]
+    fn take(&mut self, placed: &Placed) -> Result<(), Infallible> {
+        *self = self.with(&placed.event);
+        Ok(())
     }
 
-    fn follow_stretch(&mut self, bytes: &[u8]) {
-        if self.has_room(bytes) {
-            self.column += bytes.len() as u32;
-        } else {
-            self.follow_each(bytes);
-        }
+    #[inline(always)]
+    #[tactic(auto, using(crate::proofs::MeasureLemmas::measures_one))]
+    fn take_command(&mut self, _place: u64, command: Command) -> Result<(), Infallible> {
+        *self = self.with(&Event::Step(command));
+        Ok(())
+    }
+
+    #[inline(always)]
+    #[tactic(auto, using(crate::proofs::MeasureLemmas::measures_one))]
+    fn take_select(&mut self, _place: u64, register: u16) -> Result<(), Infallible> {
+        *self = self.with(&Event::Step(Command::Select(register)));
+        Ok(())
+    }
+
+    #[inline(always)]
+    #[tactic(auto, using(crate::proofs::MeasureLemmas::measures_one))]
+    fn take_repeat(&mut self, _place: u64, count: u16, bits: u8) -> Result<(), Infallible> {
+        *self = self.with(&Event::Step(Command::Repeat { count, bits }));
+        Ok(())
+    }
+
+    fn take_stretch(&mut self, _place: u64, bytes: &[u8], count: usize) -> Result<(), Infallible> {
+        self.follow_stretch(&bytes[..count]);
+        Ok(())
     }
 }

@@ -2,14 +2,12 @@
 #![tactic(auto)]
 
 mod extent;
-mod following;
 mod making;
 mod measuring;
 mod mending;
 mod numbering;
 mod terminal;
 
-pub use following::{Follower, follow_bytes};
 pub use making::{mend, mend_measured, size_of};
 pub use measuring::Measurer;
 pub use mending::{MendFault, Mending};

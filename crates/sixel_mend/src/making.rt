@@ -6,35 +6,20 @@ ghost use Rattle.sixel_grammar.specs.declared.command.Placed.{Placed as Place};
 ghost use Rattle.sixel_grammar.specs.Document.{Document, events_of};
 ghost use Rattle.sixel_model.specs.Pictures.{is_side};
 ghost use Rattle.sixel_model.specs.Profiles.{count_of};
-ghost use Rattle.sixel_mend.specs.Following.{HasDrawnOn};
 ghost use Rattle.sixel_mend.specs.declared.mending.Mending.{Mending as AMending};
 ghost use Rattle.sixel_mend.specs.Judging.{IsReadingFault, judged};
 ghost use Rattle.sixel_mend.specs.Measuring.{HasMeasured};
 ghost use Rattle.sixel_mend.specs.Mended.{Mends, mended_colours};
 ghost use Rattle.sixel_mend.specs.Sizes.{IsSize};
 
-use crate::following::{Follower, follow_document};
 use crate::measuring::Measurer;
 use crate::mending::{MendFault, Mending};
 use crate::numbering::picture_of;
 use crate::terminal::terminal_of;
-use sixel_grammar::Event;
+use sixel_grammar::follow_document;
 use sixel_model::{MOST_SIDE, Picture, Profile};
 use sixel_terminal::{Drawing, Screen};
 use std::alloc::Global;
-
-impl Follower for Drawing {
-    ghost has_followed = { HasDrawnOn };
-
-    #[inline(always)]
-    fn follow(&mut self, event: &Event) {
-        self.push(event);
-    }
-
-    fn follow_stretch(&mut self, bytes: &[u8]) {
-        self.push_stretch(bytes);
-    }
-}
 
 /// Makes a portable picture of a sixel string: what a terminal shows of it, on a screen that has all of its paint and its
 /// declared box. `encode` writes it as text.
@@ -111,6 +96,6 @@ fn screen_of(
     ensures refused { IfErr result (IsReadingFault bytes.now) }
 {
     let mut drawing = Drawing::new(alloc, terminal_of(alloc, mending, width, height)?)?;
-    follow_document(&mut drawing, bytes)?;
+    follow_document(bytes, &mut drawing)?;
     Ok(drawing.finish())
 }

@@ -7,19 +7,32 @@ ghost use Rattle.sixel_grammar.specs.Document.{Document, events_of};
 ghost use Rattle.sixel_grammar.specs.Faults.{IsFaultOf};
 ghost use Rattle.sixel_grammar.specs.Standing.{fault_of};
 ghost use Rattle.sixel_mend.specs.Measures.{Measures};
-ghost use Rattle.sixel_mend.specs.Measuring.{HasMeasured};
+ghost use Rattle.sixel_mend.specs.Measuring.{HasMeasured, HasStood};
 
 use crate::extent::Extent;
-use crate::following::follow_bytes;
-use sixel_grammar::{Fault, Reader};
+use sixel_grammar::{Fault, Reader, follow_bytes};
 use std::marker::Model;
+
+/// A reader, and the extent of the events that it has read.
+#[derive(Debug, Drop)]
+struct Standing {
+    reader: Reader,
+    extent: Extent,
+    ghost stood: { ∥ HasStood reader extent ∥₁ },
+}
+
+impl Standing {
+    /// The field says only that there is a proof, and this gives one.
+    fn stood(&self)
+        ensures { HasStood self.now.reader self.now.extent }
+    {}
+}
 
 /// Reads a document piece by piece, and measures the picture that `mend` makes of it. `mend_measured` makes the picture
 /// without reading it for its size again.
 #[derive(Debug, Drop)]
 pub struct Measurer {
-    reader: Reader,
-    extent: Extent,
+    standing: Standing,
 }
 
 impl Model for Measurer {
@@ -27,7 +40,7 @@ impl Model for Measurer {
 
     ghost Value = { Measured };
 
-    ghost view = { λ m. record { reader = m.reader; extent = m.extent } };
+    ghost view = { λ m. record { reader = m.standing.reader; extent = m.standing.extent } };
 }
 
 impl Measurer {
@@ -36,8 +49,10 @@ impl Measurer {
         ensures { HasMeasured result [] }
     {
         Measurer {
-            reader: Reader::new(),
-            extent: Extent::new(),
+            standing: Standing {
+                reader: Reader::new(),
+                extent: Extent::new(),
+            },
         }
     }
 
@@ -53,7 +68,14 @@ impl Measurer {
         ensures again { 0 < length bytes.now → IfSome (fault_of self.old.reader) (λ fault. result ≡ Err fault) }
         ensures kept { IsSome (fault_of self.old.reader) → self.new ≡ self.old }
     {
-        follow_bytes(&mut self.reader, &mut self.extent, bytes)
+        self.standing.stood();
+        match self.standing.reader.fault() {
+            Some(fault) => Err(fault),
+            None => {
+                let standing = &mut self.standing;
+                Ok(follow_bytes(&mut standing.reader, &mut standing.extent, bytes)?)
+            }
+        }
     }
 
     /// Checks whether the bytes so far are a document, and returns their fault if not.
@@ -62,7 +84,7 @@ impl Measurer {
         ensures answer { (bytes : List ℕ) → HasMeasured self.now bytes → MatchResult result
             (λ _. (events : List Place) × Document events bytes) (IsFaultOf bytes) }
     {
-        self.reader.finish()
+        self.standing.reader.finish()
     }
 
     /// The extent of a document.
@@ -72,7 +94,8 @@ impl Measurer {
         ensures refused { IfErr result (λ fault. (bytes : List ℕ) → HasMeasured self.now bytes
             → IsFaultOf bytes fault) }
     {
-        self.reader.finish()?;
-        Ok(self.extent)
+        let standing = &self.standing;
+        standing.reader.finish()?;
+        Ok(standing.extent)
     }
 }

@@ -1,8 +1,9 @@
 //! What is chosen of the terminal that shows a string, and why a string isn't mended.
 
-use sixel_grammar::Fault;
+use sixel_grammar::{Fault, Halt};
 use sixel_model::Colour;
 use std::alloc::AllocError;
+use std::convert::Infallible;
 
 /// What is chosen of the terminal that shows the string. The rest is fixed: 256 registers that begin as the VT340's own
 /// 16 colours, over and over; a screen of the picture's size; no ground.
@@ -39,6 +40,19 @@ impl From<Fault> for MendFault {
 
     fn from(fault: Fault) -> MendFault {
         MendFault::Grammar(fault)
+    }
+}
+
+impl From<Halt<Infallible>> for MendFault {
+    ghost use Rattle.std.specs.Prelude.{◌≡◌};
+    ghost use Rattle.sixel_grammar.specs.declared.fault.Fault.{Fault as AFault};
+    ghost use Rattle.sixel_grammar.specs.declared.following.Halt.TheVariants.{Refused};
+    ghost use Rattle.sixel_mend.specs.declared.mending.MendFault.TheVariants.{Grammar};
+
+    ghost from_gives = { λ halt result. (fault : AFault) × (halt ≡ Refused fault) × (result ≡ Grammar fault) };
+
+    fn from(halt: Halt<Infallible>) -> MendFault {
+        MendFault::Grammar(halt.into())
     }
 }
 

@@ -16,8 +16,7 @@ use Rattle.sixel_model.specs.Colours.{IsColour, palette_at}
 use Rattle.sixel_model.specs.Events.{Attributes}
 use Rattle.sixel_model.specs.Pictures.{IsPicture, PictureValue, is_side, most_side, register_of}
 use Rattle.sixel_model.specs.Profiles.{count_of}
-use Rattle.sixel_model.specs.Rules.{BreaksNone, picture_left, raster_before}
-use Rattle.sixel_model.specs.RuleNumbers.{last_rule}
+use Rattle.sixel_model.specs.Rules.{BreaksNone, last_rule, picture_left, raster_before}
 use Rattle.sixel_model.proofs.GridLemmas.{length_rows}
 use Rattle.sixel_model.proofs.PictureLemmas.{at_most_256}
 use Rattle.sixel_ppm.specs.PpmReading.{distinct, picture_of}

@@ -14,6 +14,7 @@ use Rattle.sixel_grammar.specs.Document.{AreWhole}
 use Rattle.sixel_model.specs.declared.profile.Profile.{Profile}
 use Rattle.sixel_model.specs.declared.colour.Parts.{Parts}
 use Rattle.sixel_model.specs.declared.colour.Parts.TheVariants.{Rgb}
+use Rattle.sixel_model.specs.declared.rule.Rule.TheVariants.{Uncovered}
 use Rattle.sixel_model.specs.Colours.{is_entry, palette_at}
 use Rattle.sixel_model.specs.Events.{Attributes, has_sides, raster_of}
 use Rattle.sixel_model.specs.Grids.{row_by_row}
@@ -21,7 +22,7 @@ use Rattle.sixel_model.specs.Pictures.{PictureValue, is_side, most_side, registe
 use Rattle.sixel_model.specs.Positions.{earliest}
 use Rattle.sixel_model.specs.Profiles.{count_of}
 use Rattle.sixel_model.specs.Rules.{BreaksNone, breaks_box_size, colour_of, palette_left, picture_left, raster_before}
-use Rattle.sixel_model.specs.RuleNumbers.{last_rule, uncovered_rule}
+use Rattle.sixel_model.specs.Rules.{last_rule}
 use Rattle.sixel_model.proofs.GridLemmas.{get_index, length_rows}
 use Rattle.sixel_model.proofs.LatestLemmas.{each_from_positions}
 use Rattle.sixel_model.proofs.PictureLemmas.{at_most_256}
@@ -60,7 +61,7 @@ sides_if : (o : Option Attributes) → option_map_or (λ a. not (has_sides a)) o
 sides_if None h = tt
 sides_if (Some a) h = not-false _ h
 
-earliest_sides : (n : ℕ) (events : List Event) (a : Attributes) → BreaksNone n uncovered_rule events
+earliest_sides : (n : ℕ) (events : List Event) (a : Attributes) → BreaksNone n Uncovered events
     → raster_before events ≡ Some a → has_sides a ≡ true
 unfolding breaks_box_size raster_before
 earliest_sides n events a none box =

@@ -6,8 +6,7 @@ use Rattle.sixel_grammar.specs.Document.{AreWhole, Document, events_of}
 use Rattle.sixel_model.specs.declared.colour.Parts.{Parts}
 use Rattle.sixel_model.specs.Colours.{IsColour, palette_at}
 use Rattle.sixel_model.specs.Pictures.{PictureValue, register_of}
-use Rattle.sixel_model.specs.Rules.{BreaksNone, picture_left}
-use Rattle.sixel_model.specs.RuleNumbers.{last_rule}
+use Rattle.sixel_model.specs.Rules.{BreaksNone, last_rule, picture_left}
 use Rattle.sixel_terminal.specs.Drawing.{shown_on}
 use Rattle.sixel_judge.specs.declared.verdict.Verdict.TheVariants.{Portable}
 use Rattle.sixel_judge.specs.Portable.{IsPortable}

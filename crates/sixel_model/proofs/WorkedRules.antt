@@ -5,15 +5,14 @@ use Rattle.sixel_grammar.specs.declared.command.Event.{Event}
 use Rattle.sixel_grammar.specs.declared.command.Event.TheVariants.{Start, Step, Finish}
 use Rattle.sixel_grammar.specs.declared.command.Command.TheVariants.{Sixel, Repeat, Raster, Select, Define}
 use Rattle.sixel_model.specs.declared.colour.Parts.TheVariants.{Rgb}
+use Rattle.sixel_model.specs.declared.rule.Rule.TheVariants.{RasterFirst, RasterTwice, Ratio, BoxSize, Register}
+use Rattle.sixel_model.specs.declared.rule.Rule.TheVariants.{ColourValue, RepeatZero, Unselected, Undefined, Redefined}
+use Rattle.sixel_model.specs.declared.rule.Rule.TheVariants.{Outside, Uncovered, EightBit}
 use Rattle.sixel_model.specs.Geometry.{band, column, covers, touches, falls}
 use Rattle.sixel_model.specs.Positions.{latest, earliest, since, any_below, last_below, at_position, passes_at}
 use Rattle.sixel_model.specs.Positions.{last_at, any_at, HoldsAtPosition}
 use Rattle.sixel_model.specs.Rules
 use Rattle.sixel_model.specs.Grids.{row_by_row}
-use Rattle.sixel_model.specs.RuleNumbers.{raster_first_rule, raster_twice_rule, ratio_rule, box_size_rule}
-use Rattle.sixel_model.specs.RuleNumbers.{register_rule, colour_value_rule, repeat_zero_rule, unselected_rule}
-use Rattle.sixel_model.specs.RuleNumbers.{undefined_rule, redefined_rule, outside_rule, uncovered_rule}
-use Rattle.sixel_model.specs.RuleNumbers.{eight_bit_rule}
 
 abbrev start : Event
 start = Start false (record { items = 0 ∷ [] })
@@ -27,7 +26,7 @@ covered_there : Rules.is_covered uncovered 0 0 ≡ true
 unfolding Rules.is_covered any_at any_below passes_at falls touches covers column band since
 covered_there = refl
 
-uncovered_there : HoldsAtPosition (Rules.Breaks 16 uncovered_rule) uncovered 5
+uncovered_there : HoldsAtPosition (Rules.Breaks 16 Uncovered) uncovered 5
 unfolding Rules.Breaks Rules.BreaksUncovered Rules.raster_before earliest Rules.is_covered any_at any_below passes_at
     falls touches covers column band since
 uncovered_there = record {
@@ -41,7 +40,7 @@ uncovered_there = record {
 abbrev unselected : List Event
 unselected = start ∷ Step (Raster 1 1 1 1) ∷ Step (Define 0 2 0 0 0) ∷ Step (Sixel 1) ∷ Finish false ∷ []
 
-unselected_there : HoldsAtPosition (Rules.Breaks 16 unselected_rule) unselected 3
+unselected_there : HoldsAtPosition (Rules.Breaks 16 Unselected) unselected 3
 unfolding Rules.Breaks Rules.breaks_unselected Rules.known latest
 unselected_there = record { item = Step (Sixel 1); here = refl; holds = refl }
 
@@ -52,7 +51,7 @@ named =
     ∷ Step (Sixel 1)
     ∷ Finish false ∷ []
 
-named_there : HoldsAtPosition (Rules.Breaks 16 unselected_rule) named 5
+named_there : HoldsAtPosition (Rules.Breaks 16 Unselected) named 5
 unfolding Rules.Breaks Rules.breaks_unselected Rules.known latest
 named_there = record { item = Step (Sixel 1); here = refl; holds = refl }
 
@@ -83,7 +82,7 @@ left_there = refl
 abbrev undefined : List Event
 undefined = start ∷ Step (Raster 1 1 1 1) ∷ Step (Select 0) ∷ Step (Sixel 1) ∷ Finish false ∷ []
 
-undefined_there : HoldsAtPosition (Rules.Breaks 16 undefined_rule) undefined 3
+undefined_there : HoldsAtPosition (Rules.Breaks 16 Undefined) undefined 3
 unfolding Rules.Breaks Rules.breaks_undefined Rules.definition_of Rules.known latest
 undefined_there = record { item = Step (Sixel 1); here = refl; holds = refl }
 
@@ -94,7 +93,7 @@ redefined =
     ∷ Step (Sixel 1)
     ∷ Step (Select 1) ∷ Step (Sixel 1) ∷ Step (Define 0 2 1 0 0) ∷ Finish false ∷ []
 
-redefined_there : HoldsAtPosition (Rules.Breaks 16 redefined_rule) redefined 8
+redefined_there : HoldsAtPosition (Rules.Breaks 16 Redefined) redefined 8
 unfolding Rules.Breaks Rules.breaks_redefined Rules.is_painted_in any_at any_below passes_at Rules.known latest
     Rules.definition_of
 redefined_there = record { item = Step (Define 0 2 1 0 0); here = refl; holds = refl }
@@ -109,7 +108,7 @@ defined_again = refl
 abbrev below : List Event
 below = start ∷ Step (Raster 1 1 1 1) ∷ Step (Define 0 2 0 0 0) ∷ Step (Select 0) ∷ Step (Sixel 2) ∷ Finish false ∷ []
 
-below_there : HoldsAtPosition (Rules.Breaks 16 outside_rule) below 4
+below_there : HoldsAtPosition (Rules.Breaks 16 Outside) below 4
 unfolding Rules.Breaks Rules.BreaksOutside Rules.raster_before earliest falls touches covers column band since any_below
 below_there = record { item = Step (Sixel 2); here = refl; holds = (0, 1, record { painted = refl; outside = refl }) }
 
@@ -118,7 +117,7 @@ abbrev outside : List Event
 outside = start ∷ Step (Raster 1 1 1 1) ∷ Step (Define 0 2 0 0 0) ∷ Step (Select 0) ∷ Step (Repeat 2 1) ∷ Finish false
     ∷ []
 
-outside_there : HoldsAtPosition (Rules.Breaks 16 outside_rule) outside 4
+outside_there : HoldsAtPosition (Rules.Breaks 16 Outside) outside 4
 unfolding Rules.Breaks Rules.BreaksOutside Rules.raster_before earliest falls touches covers column band since any_below
 outside_there = record {
   item = Step (Repeat 2 1);
@@ -131,16 +130,16 @@ outside_there = record {
 abbrev empty : List Event
 empty = start ∷ Finish false ∷ []
 
-empty_there : HoldsAtPosition (Rules.Breaks 16 raster_first_rule) empty 1
+empty_there : HoldsAtPosition (Rules.Breaks 16 RasterFirst) empty 1
 unfolding Rules.Breaks Rules.breaks_raster_first Rules.raster_before earliest
 empty_there = record { item = Finish false; here = refl; holds = refl }
 
 -- !0@, #16, #0;3;0;0;0, #0;2;101;0;0
-repeat_there : Rules.Breaks 16 repeat_zero_rule (start ∷ []) (Step (Repeat 0 1))
+repeat_there : Rules.Breaks 16 RepeatZero (start ∷ []) (Step (Repeat 0 1))
 unfolding Rules.Breaks Rules.breaks_repeat_zero
 repeat_there = refl
 
-register_there : Rules.Breaks 16 register_rule (start ∷ []) (Step (Select 16))
+register_there : Rules.Breaks 16 Register (start ∷ []) (Step (Select 16))
 unfolding Rules.Breaks Rules.breaks_register
 register_there = refl
 
@@ -148,11 +147,11 @@ last_register : Rules.breaks_register 16 (Step (Select 15)) ≡ false
 unfolding Rules.breaks_register
 last_register = refl
 
-system_there : Rules.Breaks 16 colour_value_rule (start ∷ []) (Step (Define 0 3 0 0 0))
+system_there : Rules.Breaks 16 ColourValue (start ∷ []) (Step (Define 0 3 0 0 0))
 unfolding Rules.Breaks Rules.breaks_colour_value
 system_there = refl
 
-percent_there : Rules.Breaks 16 colour_value_rule (start ∷ []) (Step (Define 0 2 101 0 0))
+percent_there : Rules.Breaks 16 ColourValue (start ∷ []) (Step (Define 0 2 101 0 0))
 unfolding Rules.Breaks Rules.breaks_colour_value
 percent_there = refl
 
@@ -161,28 +160,28 @@ unfolding Rules.breaks_colour_value
 hue_in_range = refl
 
 -- "2;1;0;1 and "1;1;0;1 and "1;1;2049;1
-ratio_there : Rules.Breaks 16 ratio_rule (start ∷ []) (Step (Raster 2 1 0 1))
+ratio_there : Rules.Breaks 16 Ratio (start ∷ []) (Step (Raster 2 1 0 1))
 unfolding Rules.Breaks Rules.breaks_ratio
 ratio_there = refl
 
-no_width_there : Rules.Breaks 16 box_size_rule (start ∷ []) (Step (Raster 1 1 0 1))
+no_width_there : Rules.Breaks 16 BoxSize (start ∷ []) (Step (Raster 1 1 0 1))
 unfolding Rules.Breaks Rules.breaks_box_size
 no_width_there = refl
 
-wide_there : Rules.Breaks 16 box_size_rule (start ∷ []) (Step (Raster 1 1 2049 1))
+wide_there : Rules.Breaks 16 BoxSize (start ∷ []) (Step (Raster 1 1 2049 1))
 unfolding Rules.Breaks Rules.breaks_box_size
 wide_there = refl
 
 -- "1;1;1;1"1;1;1;1
-twice_there : Rules.Breaks 16 raster_twice_rule (start ∷ Step (Raster 1 1 1 1) ∷ []) (Step (Raster 1 1 1 1))
+twice_there : Rules.Breaks 16 RasterTwice (start ∷ Step (Raster 1 1 1 1) ∷ []) (Step (Raster 1 1 1 1))
 unfolding Rules.Breaks Rules.breaks_raster_twice Rules.raster_before earliest
 twice_there = refl
 
 -- the byte 90 before q, and the byte 9C at the end
-introducer_there : Rules.Breaks 16 eight_bit_rule [] (Start true (record { items = 0 ∷ [] }))
+introducer_there : Rules.Breaks 16 EightBit [] (Start true (record { items = 0 ∷ [] }))
 unfolding Rules.Breaks Rules.breaks_eight_bit
 introducer_there = refl
 
-terminator_there : Rules.Breaks 16 eight_bit_rule (start ∷ []) (Finish true)
+terminator_there : Rules.Breaks 16 EightBit (start ∷ []) (Finish true)
 unfolding Rules.Breaks Rules.breaks_eight_bit
 terminator_there = refl

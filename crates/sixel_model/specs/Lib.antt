@@ -6,6 +6,5 @@ pub mod Positions
 pub mod Events
 pub mod Geometry
 pub mod Grids
-pub mod RuleNumbers
 pub mod Rules
 pub mod Laws

@@ -2,14 +2,19 @@
 --
 -- Each rule sees an event and the events before it. The box is that of the first raster attributes before the event.
 use Rattle.std.specs.Prelude.{◌==◌, ◌<◌, ◌≤◌, ◌&&◌, ◌||◌, ℕ, Bool, true, false, not, nat_le, nat_lt, is_none, is_some}
-use Rattle.std.specs.Prelude.{Option, Some, None, IsTrue, IsFalse, IsSomeAnd, List, map, unwrap_or, if◌then◌else◌}
-use Rattle.std.specs.Bool.{MatchBool, then_some}
+use Rattle.std.specs.Prelude.{Option, Some, None, IsTrue, IsFalse, IsSomeAnd, List, [], ◌∷◌, map, unwrap_or}
+use Rattle.std.specs.Prelude.{if◌then◌else◌}
+use Rattle.std.specs.Bool.{then_some}
 use Rattle.std.specs.List.{range_with_len}
 use Rattle.std.specs.Option.{option_and_then, option_flatten, option_map_or}
 use Rattle.sixel_grammar.specs.declared.command.Event.{Event}
 use Rattle.sixel_grammar.specs.declared.command.Event.TheVariants.{Step}
 use Rattle.sixel_grammar.specs.declared.command.Command.TheVariants.{Define}
 use Rattle.sixel_model.specs.declared.colour.Parts.{Parts}
+use Rattle.sixel_model.specs.declared.rule.Rule.{Rule}
+use Rattle.sixel_model.specs.declared.rule.Rule.TheVariants.{RasterFirst, RasterTwice, Ratio, BoxSize, Register}
+use Rattle.sixel_model.specs.declared.rule.Rule.TheVariants.{ColourValue, RepeatZero, Unselected, Undefined, Redefined}
+use Rattle.sixel_model.specs.declared.rule.Rule.TheVariants.{Outside, Uncovered, EightBit}
 use Rattle.sixel_model.specs.Colours.{colour_in, is_colour}
 use Rattle.sixel_model.specs.Events.{Attributes, Definition, definition_where, has_sides, is_data_command, is_finish}
 use Rattle.sixel_model.specs.Events.{is_eight_bit, is_in_box, is_painting, is_repeat_of_zero, is_return}
@@ -18,10 +23,6 @@ use Rattle.sixel_model.specs.Geometry.{falls}
 use Rattle.sixel_model.specs.Pictures.{PictureValue, picture_of_parts}
 use Rattle.sixel_model.specs.Positions.{HoldsAtPosition, HoldsNowhere, any_at, earliest, last_at, latest}
 use Rattle.sixel_model.specs.Grids.{row_by_row}
-use Rattle.sixel_model.specs.RuleNumbers.{raster_first_rule, raster_twice_rule, ratio_rule, box_size_rule}
-use Rattle.sixel_model.specs.RuleNumbers.{register_rule, colour_value_rule, repeat_zero_rule, unselected_rule}
-use Rattle.sixel_model.specs.RuleNumbers.{undefined_rule, redefined_rule, outside_rule, uncovered_rule}
-use Rattle.sixel_model.specs.RuleNumbers.{eight_bit_rule}
 
 -- ---- what holds before an event
 
@@ -140,34 +141,60 @@ BreaksUncovered before e =
 unfoldable pub breaks_eight_bit : Event → Bool
 breaks_eight_bit e = is_eight_bit e
 
--- the event breaks the rule with number n, if there are `registers` registers
-unfoldable pub Breaks : ℕ → ℕ → List Event → Event → Type 0
-Breaks registers n before e =
-    MatchBool (n == raster_first_rule) (IsTrue (breaks_raster_first before e))
-    (MatchBool (n == raster_twice_rule) (IsTrue (breaks_raster_twice before e))
-    (MatchBool (n == ratio_rule) (IsTrue (breaks_ratio e))
-    (MatchBool (n == box_size_rule) (IsTrue (breaks_box_size e))
-    (MatchBool (n == register_rule) (IsTrue (breaks_register registers e))
-    (MatchBool (n == colour_value_rule) (IsTrue (breaks_colour_value e))
-    (MatchBool (n == repeat_zero_rule) (IsTrue (breaks_repeat_zero e))
-    (MatchBool (n == unselected_rule) (IsTrue (breaks_unselected before e))
-    (MatchBool (n == undefined_rule) (IsTrue (breaks_undefined before e))
-    (MatchBool (n == redefined_rule) (IsTrue (breaks_redefined before e))
-    (MatchBool (n == outside_rule) (BreaksOutside before e)
-    (MatchBool (n == uncovered_rule) (BreaksUncovered before e)
-    (MatchBool (n == eight_bit_rule) (IsTrue (breaks_eight_bit e)) ⊥))))))))))))
+-- the event breaks the rule, if there are `registers` registers
+unfoldable pub Breaks : ℕ → Rule → List Event → Event → Type 0
+Breaks registers RasterFirst before e = IsTrue (breaks_raster_first before e)
+Breaks registers RasterTwice before e = IsTrue (breaks_raster_twice before e)
+Breaks registers Ratio before e = IsTrue (breaks_ratio e)
+Breaks registers BoxSize before e = IsTrue (breaks_box_size e)
+Breaks registers Register before e = IsTrue (breaks_register registers e)
+Breaks registers ColourValue before e = IsTrue (breaks_colour_value e)
+Breaks registers RepeatZero before e = IsTrue (breaks_repeat_zero e)
+Breaks registers Unselected before e = IsTrue (breaks_unselected before e)
+Breaks registers Undefined before e = IsTrue (breaks_undefined before e)
+Breaks registers Redefined before e = IsTrue (breaks_redefined before e)
+Breaks registers Outside before e = BreaksOutside before e
+Breaks registers Uncovered before e = BreaksUncovered before e
+Breaks registers EightBit before e = IsTrue (breaks_eight_bit e)
 
 -- ---- the first broken rule
 
--- no event breaks a rule whose number is at most `last`
-unfoldable pub BreaksNone : ℕ → ℕ → List Event → Type 0
-BreaksNone registers last events = (n : ℕ) → n ≤ last → HoldsNowhere (Breaks registers n) events
+-- the number of each rule; if an event breaks several rules, the one with the least number is reported
+abbrev pub number_of : Rule → ℕ
+number_of RasterFirst = 1
+number_of RasterTwice = 2
+number_of Ratio = 3
+number_of BoxSize = 4
+number_of Register = 5
+number_of ColourValue = 6
+number_of RepeatZero = 7
+number_of Unselected = 8
+number_of Undefined = 9
+number_of Redefined = 10
+number_of Outside = 11
+number_of Uncovered = 12
+number_of EightBit = 13
 
--- rule n is broken at position i; no rule is broken earlier, and no rule with a smaller number is broken there
-pub record IsFirstBroken (registers : ℕ) (events : List Event) (n i : ℕ) : Type 0 where
-  pub broken : HoldsAtPosition (Breaks registers n) events i
-  pub none_earlier : (m j : ℕ) → j < i → ¬ HoldsAtPosition (Breaks registers m) events j
-  pub none_smaller : (m : ℕ) → m < n → ¬ HoldsAtPosition (Breaks registers m) events i
+-- the rule with the greatest number
+abbrev pub last_rule : Rule
+last_rule = EightBit
+
+-- the rules, in order of number
+abbrev pub all_rules : List Rule
+all_rules =
+    RasterFirst ∷ RasterTwice ∷ Ratio ∷ BoxSize ∷ Register ∷ ColourValue ∷ RepeatZero ∷ Unselected ∷ Undefined
+    ∷ Redefined ∷ Outside ∷ Uncovered ∷ EightBit ∷ []
+
+-- no event breaks a rule whose number is at most that of `last`
+unfoldable pub BreaksNone : ℕ → Rule → List Event → Type 0
+BreaksNone registers last events =
+    (rule : Rule) → number_of rule ≤ number_of last → HoldsNowhere (Breaks registers rule) events
+
+-- the rule is broken at position i; no rule is broken earlier, and no rule with a smaller number is broken there
+pub record IsFirstBroken (registers : ℕ) (events : List Event) (rule : Rule) (i : ℕ) : Type 0 where
+  pub broken : HoldsAtPosition (Breaks registers rule) events i
+  pub none_earlier : (m : Rule) (j : ℕ) → j < i → ¬ HoldsAtPosition (Breaks registers m) events j
+  pub none_smaller : (m : Rule) → number_of m < number_of rule → ¬ HoldsAtPosition (Breaks registers m) events i
 
 -- the point u v comes before the point x y in row order
 abbrev pub is_before : ℕ → ℕ → ℕ → ℕ → Bool

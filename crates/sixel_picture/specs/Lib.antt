@@ -6,7 +6,6 @@ pub use Rattle.sixel_model.specs.Positions
 pub use Rattle.sixel_model.specs.Events
 pub use Rattle.sixel_model.specs.Geometry
 pub use Rattle.sixel_model.specs.Grids
-pub use Rattle.sixel_model.specs.RuleNumbers
 pub use Rattle.sixel_model.specs.Rules
 pub use Rattle.sixel_plane.specs.Stretches
 pub use Rattle.sixel_plane.specs.BytePlanes

@@ -3,7 +3,7 @@ use Rattle.std.proofs.Common.{◌≡◌, ◌∙◌, ◌∷◌, ◌++◌, ◌⊎�
 use Rattle.std.proofs.lemmas.List.{map-append}
 use Rattle.std.specs.Prelude.{decimal}
 use Rattle.std.specs.Char.{to_ascii_lowercase}
-use Rattle.sixel_judge.specs.declared.rule.Rule.{Rule as ARule}
+use Rattle.sixel_model.specs.declared.rule.Rule.{Rule as ARule}
 use Rattle.sixel_survey.specs.declared.entry.Entry.{Entry}
 use Rattle.sixel_run.specs.Texts.{Text, entry_line, pixel_parts, rule_name, spaced}
 use Rattle.sixel_explain.specs.declared.explanations.Topic.TheVariants as topic

@@ -23,8 +23,8 @@ use Rattle.sixel_grammar.proofs.PrefixLemmas.{nothing as none_yet}
 use Rattle.sixel_grammar.proofs.ViableLemmas.{complete}
 use Rattle.sixel_model.specs.Profiles.{count_of}
 use Rattle.sixel_model.specs.declared.profile.Profile.{Profile}
+use Rattle.sixel_model.specs.declared.rule.Rule.{Rule}
 use Rattle.sixel_run.proofs.StringLemmas.{none_given}
-use Rattle.sixel_judge.specs.declared.rule.Rule.{Rule}
 use Rattle.sixel_program.specs.declared.exit.Exit.{Exit}
 use Rattle.sixel_program.specs.declared.exit.Exit.TheVariants as exit
 use Rattle.sixel_run.specs.declared.fault.RunFault.{RunFault}

@@ -9,8 +9,8 @@ use Rattle.std.proofs.lemmas.List.Elements.{All-append, All-cons, All-nil}
 use Rattle.sixel_io.specs.Devices.{ReadsToEnd}
 use Rattle.sixel_grammar.specs.declared.fault.Reason.{Reason}
 use Rattle.sixel_grammar.specs.declared.fault.Reason.TheVariants as reason
-use Rattle.sixel_judge.specs.declared.rule.Rule.{Rule}
-use Rattle.sixel_judge.specs.declared.rule.Rule.TheVariants as rule
+use Rattle.sixel_model.specs.declared.rule.Rule.{Rule}
+use Rattle.sixel_model.specs.declared.rule.Rule.TheVariants as rule
 use Rattle.sixel_judge.specs.declared.verdict.Outcome.{Outcome}
 use Rattle.sixel_judge.specs.declared.verdict.Outcome.TheVariants.{Portable, Broken}
 use Rattle.sixel_survey.specs.declared.entry.Entry.{Entry}

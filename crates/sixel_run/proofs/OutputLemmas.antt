@@ -1,32 +1,39 @@
 -- The text of `list`, and what it wrote if a device failed.
 use Rattle.std.proofs.Common.{◌≡◌, ◌∙◌, ℕ, ◌≤◌, List, [], ◌∷◌, ◌++◌, length, take, Option, Some, None, refl, sym, ap}
-use Rattle.std.proofs.Common.{subst, append_assoc, arith, length-append}
+use Rattle.std.proofs.Common.{subst, append_assoc, drop}
 use Rattle.std.specs.Prelude.{Result, Ok, Err, IfSome}
 use Rattle.std.specs.Io.KnownBytes.{Appends, Consumes, IsAtEnd, Keeps}
-use Rattle.std.proofs.lemmas.List.{append-nil}
+use Rattle.std.proofs.lemmas.List.{append-nil, take-append-drop}
 use Rattle.std.proofs.Math.Seq.{take-append_seam}
 use Rattle.sixel_grammar.specs.declared.command.Placed.{Placed}
 use Rattle.sixel_grammar.specs.declared.fault.Fault.{Fault}
+use Rattle.sixel_grammar.specs.declared.following.Halt.{Halt}
+use Rattle.sixel_grammar.specs.declared.following.Halt.TheVariants.{Refused, Stopped}
 use Rattle.sixel_grammar.specs.declared.reader.Reader.{Reader}
 use Rattle.sixel_grammar.specs.Document.{Document, most_bytes}
 use Rattle.sixel_grammar.specs.Prefixes.{CompleteIn}
 use Rattle.sixel_grammar.specs.Faults.{IsFaultOf}
+use Rattle.sixel_grammar.specs.Following.{AreFollowed, HaltsWithin}
 use Rattle.sixel_grammar.specs.Standing.{StandsAfter}
-use Rattle.sixel_io.proofs.DeviceLemmas.{Appends-then}
+use Rattle.sixel_io.specs.Devices.{SinkState}
+use Rattle.sixel_io.specs.declared.device.DeviceFault.{DeviceFault}
+use Rattle.sixel_io.proofs.DeviceLemmas.{Keeps-refl}
+use Rattle.sixel_io.proofs.SinkLemmas.{through-failed}
 use Rattle.sixel_grammar.proofs.SourceLemmas.{consumes-then, all_read, take_none}
 use Rattle.sixel_grammar.proofs.StandLemmas.{read_complete, read_short}
 use Rattle.sixel_grammar.proofs.TotalLemmas.{before_fault, place_past}
-use Rattle.sixel_grammar.proofs.UniqueLemmas.{complete_stays, document_complete, fault_stays}
+use Rattle.sixel_grammar.proofs.UniqueLemmas.{complete_stays, document_complete}
 use Rattle.sixel_run.specs.declared.fault.RunFault.{RunFault}
 use Rattle.sixel_run.specs.declared.fault.RunFault.TheVariants.{Grammar, OutOfMemory, Read, Write}
 use Rattle.sixel_run.specs.declared.task.Status.{Status}
 use Rattle.sixel_run.specs.declared.task.Status.TheVariants.{Done}
-use Rattle.sixel_run.specs.declared.task.Task.TheVariants.{List as Listing}
-use Rattle.sixel_run.specs.Feeding.{Feeds}
-use Rattle.sixel_run.specs.Outputs.{ListGives, Wrote, failures_by}
+use Rattle.sixel_run.specs.declared.task.Task.TheVariants.{List as Listed}
+use Rattle.sixel_run.specs.declared.running.list.Listing.{Listing}
+use Rattle.sixel_run.specs.Listings.{HasListed, IsDrained, MayFail, fault_of_halt}
+use Rattle.sixel_run.specs.Outputs.{CountsWrites, ListGives, Wrote, failures_by}
 use Rattle.sixel_run.specs.Texts.{Text, BeginsWith, list_text}
 use Rattle.sixel_run.proofs.ListingLemmas.{list_text-append}
-use Rattle.sixel_run.proofs.PutLemmas.{begins-then}
+use Rattle.sixel_run.proofs.PutLemmas.{begins-then, drained}
 
 -- the text of `list` begins with the lines of the events that are complete in a viable prefix
 pub gives-begins : (bytes read more : List ℕ) (events : List Placed) → bytes ≡ read ++ more → CompleteIn events read
@@ -55,7 +62,7 @@ faulty-lists bytes read more events r fault is h place s =
 -- reading failed
 pub unread : (a b c had has : Option (List ℕ)) (given : List ℕ) (events : List Placed) (r : Reader)
     → Consumes a b given → Keeps b c → StandsAfter r events given
-    → Appends had has (list_text events) → IfSome a (λ (bytes : List ℕ). Wrote Listing bytes c (Err Read) had has)
+    → Appends had has (list_text events) → IfSome a (λ (bytes : List ℕ). Wrote Listed bytes c (Err Read) had has)
 unread None b c had has given events r consumed kept s put = tt
 unread (Some x) None c had has given events r consumed kept s put = absurd consumed
 unread (Some x) (Some y) None had has given events r consumed kept s put = absurd kept
@@ -77,79 +84,106 @@ ended a b c bytes piece n P consumed last zero at_end p =
 pub ended-well : (a b c had has : Option (List ℕ)) (bytes piece : List ℕ) (n : ℕ) (events : List Placed)
     → Consumes a b bytes → Consumes b c (take n piece) → n ≡ 0 → IsAtEnd c
     → Document events bytes → Appends had has (list_text events)
-    → IfSome a (λ (bytes : List ℕ). Wrote Listing bytes c (Ok Done) had has)
+    → IfSome a (λ (bytes : List ℕ). Wrote Listed bytes c (Ok Done) had has)
 ended-well a b c had has bytes piece n events consumed last zero at_end d put =
-    ended a b c bytes piece n (λ (bytes : List ℕ). Wrote Listing bytes c (Ok Done) had has) consumed last zero at_end
+    ended a b c bytes piece n (λ (bytes : List ℕ). Wrote Listed bytes c (Ok Done) had has) consumed last zero at_end
     (list_text events, (refl, (events, d, refl)), put)
 
 pub ended-early : (a b c had has : Option (List ℕ)) (bytes piece : List ℕ) (n : ℕ) (events : List Placed) (r : Reader)
     (fault : Fault) → Consumes a b bytes → Consumes b c (take n piece)
     → n ≡ 0 → IsAtEnd c → StandsAfter r events bytes → IsFaultOf bytes fault → fault.place ≡ length bytes
     → Appends had has (list_text events)
-    → IfSome a (λ (bytes : List ℕ). Wrote Listing bytes c (Err (Grammar fault)) had has)
+    → IfSome a (λ (bytes : List ℕ). Wrote Listed bytes c (Err (Grammar fault)) had has)
 ended-early a b c had has bytes piece n events r fault consumed last zero at_end s h place put =
-    ended a b c bytes piece n (λ (bytes : List ℕ). Wrote Listing bytes c (Err (Grammar fault)) had has) consumed last
+    ended a b c bytes piece n (λ (bytes : List ℕ). Wrote Listed bytes c (Err (Grammar fault)) had has) consumed last
     zero at_end
     (list_text events, faulty-lists bytes bytes [] events r fault (sym (append-nil bytes)) h place s, put)
 
-split-piece : (bytes read piece prefix tail rest : List ℕ) → bytes ≡ (read ++ piece) ++ rest → piece ≡ prefix ++ tail
-    → bytes ≡ (read ++ prefix) ++ (tail ++ rest)
-split-piece bytes read piece prefix tail rest is e =
-    is ∙ ap (λ (t : List ℕ). (read ++ t) ++ rest) e
-    ∙ ap (λ (t : List ℕ). t ++ rest) (sym (append_assoc read prefix tail)) ∙ append_assoc (read ++ prefix) tail rest
+-- a listing that began with an empty block has put these lines, and nothing waits
+pub all-written : {K : Type 0} (state : K → SinkState) (first now : Listing K) (events : List Placed)
+    → first.lines.now ≡ [] → now.lines.now ≡ [] → HasListed state first now events
+    → Appends (state first.out.now).taken (state now.out.now).taken (list_text events)
+all-written state first now events none empty p =
+    drained (state first.out.now).taken (state now.out.now).taken (state now.out.now).taken first.lines.now
+    now.lines.now now.lines.now (list_text events) none empty p.put.put (Keeps-refl _)
 
 -- the piece that was read last has a fault, or its lines couldn't be written
-stopped-in : (bytes read piece rest : List ℕ) (left had mid has : Option (List ℕ)) (events : List Placed) (r : Reader)
-    (fault : RunFault) → bytes ≡ (read ++ piece) ++ rest
-    → Appends had mid (list_text events) → Feeds {A = Unit {0}} (Err fault) r piece mid has events read
-    → Wrote Listing bytes left (Err fault) had has
-stopped-in bytes read piece rest left had mid has events r (Grammar fault) is put fed =
-    let split : bytes ≡ (read ++ fed.prefix) ++ (fed.byte ∷ fed.rest ++ rest) = split-piece bytes read piece fed.prefix
-    (fed.byte ∷ fed.rest) rest is fed.piece_is in
-    let at : bytes ≡ ((read ++ fed.prefix) ++ fed.byte ∷ []) ++ (fed.rest ++ rest) = split
-    ∙ sym (append_assoc (read ++ fed.prefix) (fed.byte ∷ []) (fed.rest ++ rest)) in
-    let faulty = fault_stays ((read ++ fed.prefix) ++ fed.byte ∷ []) (fed.rest ++ rest) fault fed.fault_is
-    (let len = length-append (read ++ fed.prefix) (fed.byte ∷ []) in let k = fed.place in omega arith) in (
-      list_text (events ++ fed.more),
-      faulty-lists bytes (read ++ fed.prefix) (fed.byte ∷ fed.rest ++ rest) (events ++ fed.more) fed.before fault split
-          (subst (λ (t : List ℕ). IsFaultOf t fault) (sym at) faulty) fed.place fed.stands,
-      Appends-then had mid has _ _ _ put fed.lines (list_text-append events fed.more),
+stopped-in : {K : Type 0} (state : K → SinkState) (first mid now : Listing K) (reader r : Reader)
+    (bytes read piece rest : List ℕ) (left : Option (List ℕ)) (halt : Halt DeviceFault)
+    → bytes ≡ (read ++ piece) ++ rest → first.lines.now ≡ [] → AreFollowed (HasListed state first) reader mid read
+    → HaltsWithin (HasListed state) (MayFail state) reader mid r now piece halt
+    → IsDrained (Err halt) now.lines.now
+    → Wrote Listed bytes left (Err (fault_of_halt halt)) (state first.out.now).taken (state now.out.now).taken
+stopped-in state first mid now reader r bytes read piece rest left (Refused fault) is none followed halts empty =
+    let h = halts first read followed in
+    let split : bytes ≡ h.read ++ (h.byte ∷ (h.unread ++ rest)) =
+    is ∙ ap (λ (t : List ℕ). t ++ rest) h.bytes_are ∙ append_assoc h.read (h.byte ∷ h.unread) rest in (
+      list_text h.followed.events,
+      faulty-lists bytes h.read (h.byte ∷ (h.unread ++ rest)) h.followed.events h.before fault split
+          (subst (λ (t : List ℕ). IsFaultOf t fault) (sym split) (h.is_fault (h.unread ++ rest))) h.place
+          h.followed.read,
+      all-written state first now h.followed.events none empty h.followed.taken,
     )
-stopped-in bytes read piece rest left had mid has events r Write is put fed =
-    let at : bytes ≡ (read ++ fed.prefix) ++ (fed.rest ++ rest) = split-piece bytes read piece fed.prefix fed.rest rest
-    is fed.piece_is in (
-      list_text events ++ fed.part,
-      Appends-then had mid has _ _ _ put fed.lines refl,
+stopped-in state first mid now reader r bytes read piece rest left (Stopped stop) is none followed halts empty =
+    let h = halts first read followed in
+    let split : bytes ≡ h.read ++ (h.unread ++ rest) =
+    is ∙ ap (λ (t : List ℕ). t ++ rest) h.bytes_are ∙ append_assoc h.read h.unread rest in
+    let put = through-failed {B = Unit {0}} {f = stop} none h.holds.put in
+    let part = take put.taken.0 (list_text h.taken) in (
+      part,
+      put.taken.1,
       λ text answer g.
-          let begins = gives-begins bytes (read ++ fed.prefix) (fed.rest ++ rest) (events ++ fed.more) at
-          (read_complete fed.before _ _ fed.stands) (read_short fed.before _ _ fed.stands) text answer g in
-          begins-then text (list_text (events ++ fed.more)) (list_text events ++ fed.part) begins (
-            fed.begins.0,
-            list_text-append events fed.more ∙ ap (λ (t : Text). list_text events ++ t) fed.begins.1
-                ∙ sym (append_assoc (list_text events) fed.part fed.begins.0),
+          begins-then text (list_text (h.taken ++ h.rest)) part
+          (gives-begins bytes h.read (h.unread ++ rest) (h.taken ++ h.rest) split
+          (read_complete h.reader _ _ h.stands) (read_short h.reader _ _ h.stands) text answer g) (
+            drop put.taken.0 (list_text h.taken) ++ list_text h.rest,
+            list_text-append h.taken h.rest
+                ∙ ap (λ (t : Text). t ++ list_text h.rest) (sym (take-append-drop put.taken.0 (list_text h.taken)))
+                ∙ append_assoc part (drop put.taken.0 (list_text h.taken)) (list_text h.rest),
           ),
     )
-stopped-in bytes read piece rest left had mid has events r _ is put fed = absurd fed
 
-pub stopped : (a b c had mid has : Option (List ℕ)) (read piece : List ℕ) (events : List Placed) (r : Reader)
-    (fault : RunFault) → Consumes a b read → Consumes b c piece
-    → Appends had mid (list_text events) → Feeds {A = Unit {0}} (Err fault) r piece mid has events read
-    → IfSome a (λ (bytes : List ℕ). Wrote Listing bytes c (Err fault) had has)
-stopped None b c had mid has read piece events r fault first last put fed = tt
-stopped (Some x) None c had mid has read piece events r fault first last put fed = absurd first
-stopped (Some x) (Some y) None had mid has read piece events r fault first last put fed = absurd last
-stopped (Some x) (Some y) (Some z) had mid has read piece events r fault first last put fed =
-    stopped-in x read piece z (Some z) had mid has events r fault
-    (first ∙ ap (λ (t : List ℕ). read ++ t) last ∙ sym (append_assoc read piece z)) put fed
+pub stopped : {K : Type 0} (state : K → SinkState) (first mid now : Listing K) (reader r : Reader)
+    (a b c : Option (List ℕ)) (read piece : List ℕ) (halt : Halt DeviceFault) → Consumes a b read → Consumes b c piece
+    → first.lines.now ≡ [] → AreFollowed (HasListed state first) reader mid read
+    → HaltsWithin (HasListed state) (MayFail state) reader mid r now piece halt
+    → IsDrained (Err halt) now.lines.now
+    → IfSome a (λ (bytes : List ℕ).
+    Wrote Listed bytes c (Err (fault_of_halt halt)) (state first.out.now).taken (state now.out.now).taken)
+stopped state first mid now reader r None b c read piece halt one two none followed halts empty = tt
+stopped state first mid now reader r (Some x) None c read piece halt one two none followed halts empty = absurd one
+stopped state first mid now reader r (Some x) (Some y) None read piece halt one two none followed halts empty =
+    absurd two
+stopped state first mid now reader r (Some x) (Some y) (Some z) read piece halt one two none followed halts empty =
+    stopped-in state first mid now reader r x read piece z (Some z) halt
+    (one ∙ ap (λ (t : List ℕ). read ++ t) two ∙ sym (append_assoc read piece z)) none followed halts empty
 
 -- a piece never fails with OutOfMemory or Read
-pub unrefused : (fault : RunFault) (r : Reader) (piece : List ℕ) (mid has : Option (List ℕ)) (events : List Placed)
-    (read : List ℕ) → Feeds {A = Unit {0}} (Err fault) r piece mid has events read
-    → (fault ≡ OutOfMemory → ⊥) × (fault ≡ Read → ⊥)
-unrefused (Grammar f) r piece mid has events read fed = ((λ e. cc), (λ e. cc))
-unrefused Write r piece mid has events read fed = ((λ e. cc), (λ e. cc))
-unrefused _ r piece mid has events read fed = absurd fed
+pub no-memory : {A S : Type 0} (halt : Halt S)
+    → (let r : Result A RunFault = Err (fault_of_halt halt) in r) ≡ Err OutOfMemory → ⊥
+no-memory (Refused fault) e = cc
+no-memory (Stopped stop) e = cc
 
-pub not-read : (fault : RunFault) (n : ℕ) → (fault ≡ Read → ⊥) → failures_by {A = Status} Read (Err fault) n ≡ n
-not-read Read n other = absurd (other refl)
-not-read _ n other = refl
+pub no-read : {S : Type 0} (halt : Halt S) (n : ℕ) → failures_by {A = Status} Read (Err (fault_of_halt halt)) n ≡ n
+no-read (Refused fault) n = refl
+no-read (Stopped stop) n = refl
+
+-- the sink failed exactly if the answer is Write
+pub halt-writes : {K : Type 0} (state : K → SinkState) (first mid now : Listing K) (reader r : Reader)
+    (read piece : List ℕ) (halt : Halt DeviceFault) → AreFollowed (HasListed state first) reader mid read
+    → HaltsWithin (HasListed state) (MayFail state) reader mid r now piece halt
+    → CountsWrites {A = Status} (Err (fault_of_halt halt)) (state first.out.now).failures (state now.out.now).failures
+halt-writes state first mid now reader r read piece (Refused fault) followed halts =
+    (halts first read followed).followed.taken.put.failures
+halt-writes state first mid now reader r read piece (Stopped stop) followed halts =
+    (halts first read followed).holds.put.failures
+
+-- it is the sink of what was `first`
+pub halt-same : {K : Type 0} (state : K → SinkState) (first mid now : Listing K) (reader r : Reader)
+    (read piece : List ℕ) (halt : Halt DeviceFault) → AreFollowed (HasListed state first) reader mid read
+    → HaltsWithin (HasListed state) (MayFail state) reader mid r now piece halt
+    → now.out.ghost_name ≡ first.out.ghost_name
+halt-same state first mid now reader r read piece (Refused fault) followed halts =
+    (halts first read followed).followed.taken.same_out
+halt-same state first mid now reader r read piece (Stopped stop) followed halts =
+    (halts first read followed).holds.same_out

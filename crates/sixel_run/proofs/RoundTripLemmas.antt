@@ -8,8 +8,7 @@ use Rattle.sixel_grammar.proofs.UniqueLemmas.{fault_no_document}
 use Rattle.sixel_grammar.specs.Document.{events_of, most_bytes}
 use Rattle.sixel_grammar.specs.FixedText.{fixed_places}
 use Rattle.sixel_grammar.specs.Spelling.{fixed_spelling}
-use Rattle.sixel_model.specs.Rules.{BreaksNone, picture_left}
-use Rattle.sixel_model.specs.RuleNumbers.{last_rule}
+use Rattle.sixel_model.specs.Rules.{BreaksNone, last_rule, picture_left}
 use Rattle.sixel_judge.specs.declared.verdict.Verdict.TheVariants.{Portable}
 use Rattle.sixel_judge.specs.Portable.{IsPortable}
 use Rattle.sixel_judge.proofs.ShownLemmas.{left_is_portable}

@@ -1,21 +1,17 @@
 -- A document whose declared box gives the sides of the screen, while it is read.
 use Rattle.std.proofs.Common.{◌≡◌, ◌∙◌, ◌++◌, ◌∷◌, ◌+◌, [], ℕ, List, Option, Some, None, false, refl, sym, true}
-use Rattle.std.proofs.Common.{ap, ap₂, append_assoc, subst}
+use Rattle.std.proofs.Common.{ap, append_assoc, subst}
 use Rattle.std.specs.Prelude.{option_and_then, option_map, IfSome, IsSome}
 use Rattle.std.specs.Io.KnownBytes.{Consumes}
 use Rattle.std.specs.Option.{option_or}
 use Rattle.std.proofs.lemmas.List.{append-nil}
 use Rattle.sixel_grammar.specs.declared.command.Event.{Event}
 use Rattle.sixel_grammar.specs.declared.command.Placed.{Placed}
-use Rattle.sixel_grammar.specs.declared.fault.InputFault.{InputFault}
 use Rattle.sixel_grammar.specs.declared.reader.Reader.{Reader}
 use Rattle.sixel_grammar.specs.Document.{events_of}
+use Rattle.sixel_grammar.specs.Following.{AreFollowed, FollowsBytes, TakesEvents}
 use Rattle.sixel_grammar.specs.Prefixes.{CompleteIn}
-use Rattle.sixel_grammar.specs.Reading.{ExplainsAlways}
 use Rattle.sixel_grammar.specs.Standing.{StandsAfter}
-use Rattle.sixel_grammar.specs.declared.command.Columns.{Columns}
-use Rattle.sixel_grammar.specs.declared.command.Columns.TheVariants.{Missing, Sixels, Repeat}
-use Rattle.sixel_grammar.specs.Runs.{column_events, select_events}
 use Rattle.sixel_grammar.specs.Stretches.{sixels_from}
 use Rattle.sixel_grammar.proofs.StandLemmas.{read_complete}
 use Rattle.sixel_grammar.proofs.UniqueLemmas.{complete_once, complete_stays}
@@ -24,13 +20,13 @@ use Rattle.sixel_model.specs.Positions.{earliest}
 use Rattle.sixel_model.specs.Rules.{raster_before}
 use Rattle.sixel_model.proofs.PositionLemmas.{option_or_assoc, option_or_none}
 use Rattle.sixel_terminal.specs.Displays.{Display}
-use Rattle.sixel_terminal.specs.Drawings.{Drawn as DrawnValue, HasDrawn}
+use Rattle.sixel_terminal.specs.Drawings.{Drawn as DrawnValue, HasDrawn, HasDrawnOn}
+use Rattle.sixel_terminal.proofs.FollowLemmas.{events_then}
+use Rattle.sixel_run.specs.declared.running.box_finder.BoxFinder.{BoxFinder}
 use Rattle.sixel_run.specs.declared.running.show_box.Stage.{Stage}
 use Rattle.sixel_run.specs.declared.running.show_box.Stage.TheVariants.{Undeclared, Drawn, Unshowable}
-use Rattle.sixel_run.specs.Boxes.{Finds, HasRead, IsDrawnInBox, IsStageAfter, Refuses, box_in}
+use Rattle.sixel_run.specs.Boxes.{HasFound, HasRead, IsDrawnInBox, IsStageAfter, box_in}
 use Rattle.sixel_run.specs.Screens.{DeclareScreenIn, declared_screen, sides_of_box}
-use Rattle.sixel_mend.specs.Following.{FollowsBytes, HasDrawnOn}
-use Rattle.sixel_mend.proofs.FollowLemmas.{events-then}
 
 abbrev Sides : Type 0
 Sides = ℕ × ℕ
@@ -52,11 +48,14 @@ map-or : (a b : Option Attributes)
 map-or None b = refl
 map-or (Some a) b = refl
 
-pub box-then : (xs ys : List Event) → box_in (xs ++ ys) ≡ option_or (box_in xs) (box_in ys)
+-- that of some events, or else of those after them
+box-then : (xs ys : List Placed)
+    → box_in (events_of (xs ++ ys)) ≡ option_or (box_in (events_of xs)) (box_in (events_of ys))
 unfolding box_in
 box-then xs ys =
-    ap (option_map size_of) (raster-then xs ys)
-    ∙ map-or (raster_before xs) (raster_before ys)
+    ap box_in (events_then xs ys)
+    ∙ ap (option_map size_of) (raster-then (events_of xs) (events_of ys))
+    ∙ map-or (raster_before (events_of xs)) (raster_before (events_of ys))
 
 by-sides : (o : Option Attributes)
     → option_and_then (λ (a : Attributes). sides_of_box a.width a.height) o
@@ -69,32 +68,10 @@ declared-by : (events : List Event)
 unfolding declared_screen box_in
 declared-by events = by-sides (raster_before events)
 
--- the sides of a screen, if no box was declared and then this one was
-pub declared-now : (xs ys : List Event) (width height : ℕ) → box_in xs ≡ None → Some (width, height) ≡ box_in ys
-    → declared_screen (xs ++ ys) ≡ sides_of_box width height
-declared-now xs ys width height none found =
-    declared-by (xs ++ ys)
-    ∙ ap (option_and_then (λ (s : Sides). sides_of_box s.0 s.1))
-    (box-then xs ys ∙ ap₂ (λ (a b : Option Sides). option_or a b) none (sym found))
-
-some-first : (o : Option Sides) (p : Option Sides) → IsSome o → option_or o p ≡ o
-some-first (Some s) p is = refl
-some-first None p is = cc
-
--- later events don't change it
-declared-stays : (xs ys : List Event) → IsSome (box_in xs) → declared_screen (xs ++ ys) ≡ declared_screen xs
-declared-stays xs ys is =
-    declared-by (xs ++ ys)
-    ∙ ap (option_and_then (λ (s : Sides). sides_of_box s.0 s.1))
-    (box-then xs ys ∙ some-first (box_in xs) (box_in ys) is)
-    ∙ sym (declared-by xs)
-
-some-stays : (o p : Option Sides) → IsSome o → IsSome (option_or o p)
-some-stays (Some s) p is = is
-some-stays None p is = cc
-
-box-stays : (xs ys : List Event) → IsSome (box_in xs) → IsSome (box_in (xs ++ ys))
-box-stays xs ys is = subst IsSome (sym (box-then xs ys)) (some-stays (box_in xs) (box_in ys) is)
+-- the sides of the screen, from the declared box
+declared-in : (events : List Event) (box : Option Sides) → box ≡ box_in events
+    → declared_screen events ≡ option_and_then (λ (s : Sides). sides_of_box s.0 s.1) box
+declared-in events box is = declared-by events ∙ ap (option_and_then (λ (s : Sides). sides_of_box s.0 s.1)) (sym is)
 
 -- a screen has the sides of a declared box
 has-box : (events : List Event) (sides : Sides) → declared_screen events ≡ Some sides → IsSome (box_in events)
@@ -104,126 +81,130 @@ has-box events sides is = in_box (box_in events) (sym (declared-by events) ∙ i
     in_box None e = cc
     in_box (Some s) e = refl
 
--- the box that one event declares
-pub box-of-one : (p : Placed) → option_map size_of (raster_of p.event) ≡ box_in (events_of (p ∷ []))
-unfolding box_in raster_before earliest
-box-of-one p = ap (option_map size_of) (sym (option_or_none (raster_of p.event)))
+some-first : (o : Option Sides) (p : Option Sides) → IsSome o → option_or o p ≡ o
+some-first (Some s) p is = refl
+some-first None p is = cc
+
+-- what is read later declares no other box
+box-stays : (old new : Reader) (seen all : List Placed) (bytes more : List ℕ) → StandsAfter old seen bytes
+    → StandsAfter new all (bytes ++ more) → IsSome (box_in (events_of seen))
+    → box_in (events_of all) ≡ box_in (events_of seen)
+box-stays old new seen all bytes more before after is =
+    let s = complete_stays bytes more seen all (read_complete old seen bytes before)
+    (read_complete new all (bytes ++ more) after) in
+    ap (λ (es : List Placed). box_in (events_of es)) s.1
+    ∙ box-then seen s.0
+    ∙ some-first (box_in (events_of seen)) (box_in (events_of s.0)) is
+
+screen-stays : (seen all : List Event) → box_in all ≡ box_in seen → declared_screen all ≡ declared_screen seen
+screen-stays seen all is = declared-in all (box_in seen) (sym is) ∙ sym (declared-by seen)
+
+-- ---- looking for it
 
 pub box-of-none : None ≡ box_in []
 unfolding box_in raster_before earliest
 box-of-none = refl
 
-pub box-of-both : (a b c : Option Sides) (xs ys : List Placed) → c ≡ option_or a b → a ≡ box_in (events_of xs)
-    → b ≡ box_in (events_of ys) → c ≡ box_in (events_of (xs ++ ys))
-box-of-both a b c xs ys either first second =
-    either ∙ ap₂ (λ (p q : Option Sides). option_or p q) first second ∙ sym (box-then (events_of xs) (events_of ys))
-    ∙ ap box_in (sym (events-then xs ys))
-
--- ---- bytes that are searched
-
-pub finds-none : (reader : Reader) → Finds reader reader None []
+-- the box that one event declares
+pub box-of-one : (e : Event) → option_map size_of (raster_of e) ≡ box_in (e ∷ [])
 unfolding box_in raster_before earliest
-finds-none reader = λ events bytes s. (
-  [],
-  subst (λ (xs : List ℕ). StandsAfter reader (events ++ []) xs) (sym (append-nil bytes))
-      (subst (λ (es : List Placed). StandsAfter reader es bytes) (sym (append-nil events)) s),
-  refl,
-)
-
-pub finds-then : (a b c : Reader) (first second : Option Sides) (xs ys : List ℕ) → Finds a b first xs
-    → Finds b c second ys → Finds a c (option_or first second) (xs ++ ys)
-finds-then a b c first second xs ys one two = λ events bytes s.
-    let f = one events bytes s in
-    let g = two (events ++ f.0) (bytes ++ xs) f.1 in (
-      f.0 ++ g.0,
-      subst (λ (t : List ℕ). StandsAfter c (events ++ (f.0 ++ g.0)) t) (append_assoc bytes xs ys)
-          (subst (λ (es : List Placed). StandsAfter c es ((bytes ++ xs) ++ ys)) (append_assoc events f.0 g.0) g.1),
-      ap₂ (λ (p q : Option Sides). option_or p q) f.2 g.2 ∙ sym (box-then (events_of f.0) (events_of g.0))
-          ∙ ap box_in (sym (events-then f.0 g.0)),
-    )
-
-pub refuses-then : (a b : Reader) (found : Option Sides) (xs ys : List ℕ) (fault : InputFault) → Finds a b found xs
-    → Refuses b ys fault → Refuses a (xs ++ ys) fault
-refuses-then a b found xs ys fault finds refuses = λ events bytes s.
-    let f = finds events bytes s in
-    subst (ExplainsAlways fault) (append_assoc bytes xs ys) (refuses (events ++ f.0) (bytes ++ xs) f.1)
+box-of-one e = ap (option_map size_of) (sym (option_or_none (raster_of e)))
 
 -- sixels declare no box
-pub sixels-declare : (place : ℕ) (bytes : List ℕ) → None ≡ box_in (events_of (sixels_from place bytes))
+sixels-declare : (place : ℕ) (bytes : List ℕ) → None ≡ box_in (events_of (sixels_from place bytes))
 unfolding box_in raster_before earliest
 sixels-declare place [] = refl
 sixels-declare place (b ∷ rest) = sixels-declare (place + 1) rest
 
--- and neither does a run, perhaps with a select
-pub run-declares : (place start : ℕ) (select : Option ℕ) (cols : Columns) (bytes : List ℕ)
-    → None ≡ box_in (events_of (select_events place select ++ column_events start cols bytes))
-unfolding box_in raster_before earliest
-run-declares place start None Sixels bytes = sixels-declare start bytes
-run-declares place start None (Repeat count bits) bytes = refl
-run-declares place start (Some register) Sixels bytes = sixels-declare start bytes
-run-declares place start (Some register) (Repeat count bits) bytes = refl
-run-declares place start None Missing bytes = refl
-run-declares place start (Some register) Missing bytes = refl
+pub finds-more : (old new : BoxFinder) (more : List Placed) → new.found ≡ option_or old.found (box_in (events_of more))
+    → TakesEvents HasFound old new more
+finds-more old new more found = λ first seen h.
+    found
+    ∙ ap (λ (o : Option Sides). option_or o (box_in (events_of more))) h
+    ∙ option_or_assoc first.found (box_in (events_of seen)) (box_in (events_of more))
+    ∙ ap (option_or first.found) (sym (box-then seen more))
+
+pub finds-none : (finder : BoxFinder) (more : List Placed) → None ≡ box_in (events_of more)
+    → TakesEvents HasFound finder finder more
+finds-none finder more none =
+    finds-more finder finder more (sym (option_or_none finder.found) ∙ ap (option_or finder.found) none)
+
+pub finds-no-sixels : (finder : BoxFinder) (place : ℕ) (bytes : List ℕ)
+    → TakesEvents HasFound finder finder (sixels_from place bytes)
+finds-no-sixels finder place bytes = finds-none finder (sixels_from place bytes) (sixels-declare place bytes)
+
+-- the reader has read these bytes, and this is the box that they declare
+abbrev FindsBox : Reader → Option Sides → List ℕ → Type 0
+FindsBox reader box bytes =
+    AreFollowed (λ (found : Option Sides) (seen : List Placed). found ≡ box_in (events_of seen)) reader box bytes
+
+abbrev pub nothing_found : BoxFinder
+nothing_found = record { found = None }
+
+-- where no box is declared, none is found
+pub looks-on : (reader : Reader) (events : List Placed) (bytes : List ℕ) → StandsAfter reader events bytes
+    → box_in (events_of events) ≡ None → AreFollowed (HasFound nothing_found) reader nothing_found bytes
+looks-on reader events bytes read none = record { events = events; read = read; taken = sym none }
+
+pub finds-box : (old new : Reader) (now : BoxFinder) (box : Option Sides) (events : List Placed) (bytes more : List ℕ)
+    → StandsAfter old events bytes → box_in (events_of events) ≡ None
+    → FollowsBytes HasFound old nothing_found new now more → now.found ≡ box → FindsBox new box (bytes ++ more)
+finds-box old new now box events bytes more read none follows is =
+    let a = follows nothing_found bytes (looks-on old events bytes read none) in
+    record { events = a.events; read = a.read; taken = sym is ∙ a.taken }
 
 -- ---- one more piece
 
-pub none-again : (xs ys : List Placed) → box_in (events_of xs) ≡ None → None ≡ box_in (events_of ys)
-    → box_in (events_of (xs ++ ys)) ≡ None
-none-again xs ys none more =
-    ap box_in (events-then xs ys) ∙ box-then (events_of xs) (events_of ys)
-    ∙ ap₂ (λ (a b : Option Sides). option_or a b) none (sym more)
+-- the declared box fits no screen
+pub unfit-now : (events : List Event) (width height : ℕ) → Some (width, height) ≡ box_in events
+    → None ≡ sides_of_box width height → IsSome (box_in events) × (declared_screen events ≡ None)
+unfit-now events width height found unfit =
+    (subst IsSome found refl, declared-in events (Some (width, height)) found ∙ sym unfit)
 
--- the box that was declared fits no screen
-abbrev Unfit : List Event → Type 0
-Unfit events = IsSome (box_in events) × (declared_screen events ≡ None)
+pub unfit-stays : (terminal : Sides → Display) (old new : Reader) (all : List Placed) (bytes more : List ℕ)
+    → HasRead terminal old Unshowable bytes → StandsAfter new all (bytes ++ more)
+    → HasRead terminal new Unshowable (bytes ++ more)
+unfit-stays terminal old new all bytes more h read =
+    let same = box-stays old new h.events all bytes more h.read read h.taken.0 in
+    record {
+      events = all;
+      read = read;
+      taken = (
+        subst IsSome (sym same) h.taken.0,
+        screen-stays (events_of h.events) (events_of all) same ∙ h.taken.1,
+      );
+    }
 
-pub unfit-now : (xs ys : List Placed) (width height : ℕ) → box_in (events_of xs) ≡ None
-    → Some (width, height) ≡ box_in (events_of ys) → None ≡ sides_of_box width height → Unfit (events_of (xs ++ ys))
-unfit-now xs ys width height none found unfit =
-    subst Unfit (sym (events-then xs ys)) (
-      subst IsSome (sym (box-then (events_of xs) (events_of ys)
-          ∙ ap₂ (λ (a b : Option Sides). option_or a b) none (sym found))) refl,
-      declared-now (events_of xs) (events_of ys) width height none found ∙ sym unfit,
-    )
-
-pub unfit-stays : (xs ys : List Placed) → Unfit (events_of xs) → Unfit (events_of (xs ++ ys))
-unfit-stays xs ys unfit =
-    subst Unfit (sym (events-then xs ys)) (
-      box-stays (events_of xs) (events_of ys) unfit.0,
-      declared-stays (events_of xs) (events_of ys) unfit.0 ∙ unfit.1,
-    )
-
-pub drawn-now : (terminal : Sides → Display) (d : DrawnValue) (xs ys : List Placed) (width height : ℕ) (sides : Sides)
-    → box_in (events_of xs) ≡ None → Some (width, height) ≡ box_in (events_of ys)
-    → Some sides ≡ sides_of_box width height → d.terminal ≡ terminal sides → HasDrawn d (events_of (xs ++ ys))
-    → IsDrawnInBox terminal d (events_of (xs ++ ys))
-drawn-now terminal d xs ys width height sides none found fit on drawn = record {
+pub drawn-now : (terminal : Sides → Display) (d : DrawnValue) (events : List Event) (width height : ℕ) (sides : Sides)
+    → Some (width, height) ≡ box_in events → Some sides ≡ sides_of_box width height → d.terminal ≡ terminal sides
+    → HasDrawn d events → IsDrawnInBox terminal d events
+drawn-now terminal d events width height sides found fit on drawn = record {
   sides = sides;
-  declared = ap declared_screen (events-then xs ys)
-      ∙ declared-now (events_of xs) (events_of ys) width height none found
-      ∙ sym fit;
+  declared = declared-in events (Some (width, height)) found ∙ sym fit;
   on = on;
   drawn = drawn;
 }
 
-pub drawn-stays : (terminal : Sides → Display) (old new : Reader) (d e : DrawnValue) (more bytes : List ℕ)
-    → FollowsBytes HasDrawnOn old d new e more → HasRead terminal old (Drawn d) bytes → HasRead terminal new (Drawn e) (bytes ++ more)
-drawn-stays terminal old new d e more bytes draws h =
-    let box = h.stands in
-    let a = draws d bytes (record { events = h.events; read = h.read; followed = (refl, box.drawn) }) in
-    let s = complete_stays bytes more h.events a.events (read_complete old h.events bytes h.read)
-    (read_complete new a.events (bytes ++ more) a.read) in
+pub draws-on : (terminal : Sides → Display) (reader : Reader) (d : DrawnValue) (bytes : List ℕ)
+    → HasRead terminal reader (Drawn d) bytes → AreFollowed (HasDrawnOn d) reader d bytes
+draws-on terminal reader d bytes h = record { events = h.events; read = h.read; taken = (refl, h.taken.drawn) }
+
+pub drawn-stays : (terminal : Sides → Display) (old new : Reader) (d e : DrawnValue) (bytes more : List ℕ)
+    → HasRead terminal old (Drawn d) bytes → FollowsBytes HasDrawnOn old d new e more
+    → HasRead terminal new (Drawn e) (bytes ++ more)
+drawn-stays terminal old new d e bytes more h draws =
+    let box = h.taken in
+    let a = draws d bytes (draws-on terminal old d bytes h) in
+    let same = box-stays old new h.events a.events bytes more h.read a.read
+    (has-box (events_of h.events) box.sides box.declared) in
     record {
       events = a.events;
       read = a.read;
-      stands = record {
+      taken = record {
         sides = box.sides;
-        declared = ap (λ (es : List Placed). declared_screen (events_of es)) s.1
-            ∙ ap declared_screen (events-then h.events s.0)
-            ∙ declared-stays (events_of h.events) (events_of s.0) (has-box (events_of h.events) box.sides box.declared)
-            ∙ box.declared;
-        on = a.followed.0 ∙ box.on;
-        drawn = a.followed.1;
+        declared = screen-stays (events_of h.events) (events_of a.events) same ∙ box.declared;
+        on = a.taken.0 ∙ box.on;
+        drawn = a.taken.1;
       };
     }
 
@@ -237,25 +218,22 @@ nothing-taken (Some bytes) = refl
 pub no-screen : (terminal : Sides → Display) (stage : Stage) (events : List Event) (bytes : List ℕ)
     → ((d : DrawnValue) → stage ≡ Drawn d → ⊥) → IsStageAfter terminal stage events bytes
     → declared_screen events ≡ None
-no-screen terminal (Undeclared kept) events bytes undrawn h =
-    declared-by events ∙ ap (option_and_then (λ (s : Sides). sides_of_box s.0 s.1)) h.1
+no-screen terminal (Undeclared kept) events bytes undrawn h = declared-in events None (sym h.1)
 no-screen terminal (Drawn d) events bytes undrawn h = absurd (undrawn d refl)
 no-screen terminal Unshowable events bytes undrawn h = h.1
 
 -- ---- bytes that are drawn from the beginning, on the same terminal
 
-pub drawn-all : (reader r s : Reader) (d e f : DrawnValue) (bytes more : List ℕ) → StandsAfter reader [] []
-    → HasDrawn d [] → FollowsBytes HasDrawnOn reader d r e bytes → FollowsBytes HasDrawnOn r e s f more
-    → (f.terminal ≡ d.terminal)
-    × ((events : List Placed) → CompleteIn events (bytes ++ more) → HasDrawn f (events_of events))
-drawn-all reader r s d e f bytes more start none one two =
-    let a = two d bytes (one d [] (record { events = []; read = start; followed = (refl, none) })) in (
-      a.followed.0,
-      λ events complete.
-          subst (λ (es : List Placed). HasDrawn f (events_of es))
-          (complete_once (bytes ++ more) a.events events (read_complete s a.events (bytes ++ more) a.read) complete)
-          a.followed.1,
-    )
+-- a drawing of nothing
+pub draws-none : (reader : Reader) (d : DrawnValue) → StandsAfter reader [] [] → HasDrawn d []
+    → AreFollowed (HasDrawnOn d) reader d []
+draws-none reader d start none = record { events = []; read = start; taken = (refl, none) }
+
+pub drawn-all : (reader : Reader) (d f : DrawnValue) (bytes : List ℕ) → AreFollowed (HasDrawnOn d) reader f bytes
+    → (events : List Placed) → CompleteIn events bytes → HasDrawn f (events_of events)
+drawn-all reader d f bytes a events complete =
+    subst (λ (es : List Placed). HasDrawn f (events_of es))
+    (complete_once bytes a.events events (read_complete reader a.events bytes a.read) complete) a.taken.1
 
 -- ---- memory
 
@@ -267,18 +245,16 @@ kept-more items kept None bytes more is some had = tt
 kept-more {K} items None (Some l) bytes more is some had = let no : false ≡ true = some refl in cc
 kept-more items (Some k) (Some l) bytes more is some had = is ∙ ap (λ (t : List ℕ). t ++ more) had
 
--- a box of a screen's size was declared now
-pub declares-now : (reader : Reader) (xs ys : List Placed) (width height : ℕ) (sides : Sides) (bytes : List ℕ)
-    → StandsAfter reader (xs ++ ys) bytes → box_in (events_of xs) ≡ None → Some (width, height) ≡ box_in (events_of ys)
-    → Some sides ≡ sides_of_box width height → DeclareScreenIn bytes
-declares-now reader xs ys width height sides bytes read none found fit = record {
+-- a box of a screen's size is declared
+pub declares-now : (reader : Reader) (bytes : List ℕ) (width height : ℕ) (sides : Sides)
+    → FindsBox reader (Some (width, height)) bytes → Some sides ≡ sides_of_box width height → DeclareScreenIn bytes
+declares-now reader bytes width height sides f fit = record {
   prefix = bytes;
   rest = [];
   bytes_are = sym (append-nil bytes);
-  events = xs ++ ys;
-  complete = read_complete reader (xs ++ ys) bytes read;
-  declares = subst IsSome (sym (ap declared_screen (events-then xs ys)
-      ∙ declared-now (events_of xs) (events_of ys) width height none found ∙ sym fit)) refl;
+  events = f.events;
+  complete = read_complete reader f.events bytes f.read;
+  declares = subst IsSome (sym (declared-in (events_of f.events) (Some (width, height)) f.taken ∙ sym fit)) refl;
 }
 
 -- what is declared in the first bytes of a source is declared in all

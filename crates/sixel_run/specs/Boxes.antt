@@ -1,17 +1,17 @@
 -- Reading a document whose declared box gives the sides of the screen. Only contracts of private functions cite these.
-use Rattle.std.specs.Prelude.{◌≡◌, ◌++◌, ℕ, List, Option, Some, None, IfSome, IsSome, option_map}
+use Rattle.std.specs.Option.{option_or}
+use Rattle.std.specs.Prelude.{◌≡◌, ℕ, List, Option, Some, None, IfSome, IsSome, option_map}
 use Rattle.sixel_grammar.specs.declared.command.Event.{Event}
 use Rattle.sixel_grammar.specs.declared.command.Placed.{Placed}
-use Rattle.sixel_grammar.specs.declared.fault.InputFault.{InputFault}
 use Rattle.sixel_grammar.specs.declared.reader.Reader.{Reader}
 use Rattle.sixel_grammar.specs.Document.{events_of}
-use Rattle.sixel_grammar.specs.Reading.{ExplainsAlways}
-use Rattle.sixel_grammar.specs.Standing.{StandsAfter}
+use Rattle.sixel_grammar.specs.Following.{AreFollowed}
 use Rattle.sixel_model.specs.Events.{Attributes}
 use Rattle.sixel_model.specs.Rules.{raster_before}
 use Rattle.sixel_terminal.specs.Displays.{Display}
 use Rattle.sixel_terminal.specs.Drawings.{Drawn as DrawnValue, HasDrawn}
 use Rattle.sixel_terminal.specs.Screens.{Shown}
+use Rattle.sixel_run.specs.declared.running.box_finder.BoxFinder.{BoxFinder}
 use Rattle.sixel_run.specs.declared.running.show_box.Kind.{Kind}
 use Rattle.sixel_run.specs.declared.running.show_box.Stage.{Stage}
 use Rattle.sixel_run.specs.declared.running.show_box.Stage.TheVariants.{Undeclared, Drawn, Unshowable}
@@ -25,21 +25,9 @@ terminal_of_kind kind = screen_terminal kind.profile kind.showing kind.fill kind
 unfoldable pub box_in : List Event → Option (ℕ × ℕ)
 box_in events = option_map (λ (a : Attributes). (a.width, a.height)) (raster_before events)
 
--- a reader that had read some bytes has now (new) read those and `more`, and this is the first box that the events
--- declare which `more` completes
-abbrev pub Finds : Reader → Reader → Option (ℕ × ℕ) → List ℕ → Type 0
-Finds old new found more = (events : List Placed) (bytes : List ℕ) → StandsAfter old events bytes
-    → (later : List Placed) × StandsAfter new (events ++ later) (bytes ++ more) × (found ≡ box_in (events_of later))
-
--- the same, whichever box they declare
-abbrev pub Reads : Reader → Reader → List ℕ → Type 0
-Reads old new more = (events : List Placed) (bytes : List ℕ) → StandsAfter old events bytes
-    → (later : List Placed) × StandsAfter new (events ++ later) (bytes ++ more)
-
--- after some bytes were read, the fault is that of any bytes that begin with those and `more`
-abbrev pub Refuses : Reader → List ℕ → InputFault → Type 0
-Refuses old more fault =
-    (events : List Placed) (bytes : List ℕ) → StandsAfter old events bytes → ExplainsAlways fault (bytes ++ more)
+-- the finder has found the first box: the one that it had at first, or else that of these events
+abbrev pub HasFound : BoxFinder → BoxFinder → List Placed → Type 0
+HasFound first finder seen = finder.found ≡ option_or first.found (box_in (events_of seen))
 
 -- the events are drawn on the terminal whose screen has the sides of the box that they declare
 pub record IsDrawnInBox (terminal : ℕ × ℕ → Display) (d : DrawnValue) (events : List Event) : Type 0 where
@@ -55,10 +43,10 @@ IsStageAfter terminal (Drawn d) events bytes = IsDrawnInBox terminal d events
 IsStageAfter terminal Unshowable events bytes = IsSome (box_in events) × (declared_screen events ≡ None)
 
 -- the reader has read these bytes, and the stage is the one after them
-pub record HasRead (terminal : ℕ × ℕ → Display) (reader : Reader) (stage : Stage) (bytes : List ℕ) : Type 0 where
-  pub events : List Placed
-  pub read : StandsAfter reader events bytes
-  pub stands : IsStageAfter terminal stage (events_of events) bytes
+abbrev pub HasRead : (ℕ × ℕ → Display) → Reader → Stage → List ℕ → Type 0
+HasRead terminal reader stage bytes =
+    AreFollowed (λ (now : Stage) (seen : List Placed). IsStageAfter terminal now (events_of seen) bytes)
+    reader stage bytes
 
 -- the screen of a document with these events, or none if no screen can have the sides of its declared box
 abbrev pub IsShownInBox : (ℕ × ℕ → Display) → Option Shown → List Event → Type 0

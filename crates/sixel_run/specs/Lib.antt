@@ -7,5 +7,5 @@ pub mod Outputs
 pub mod Surveyed
 pub mod Scanning
 pub mod Boxes
-pub mod Feeding
+pub mod Listings
 pub mod Laws

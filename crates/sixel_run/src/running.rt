@@ -3,6 +3,7 @@
 ghost use Rattle.std.specs.Prelude.{◌≡◌, ◌≢◌, Err, IfSome, true};
 ghost use Rattle.sixel_run.specs.Outputs.{CountsReads, CountsWrites, HasSides, TakesMemory, Wrote, failures_by};
 
+mod box_finder;
 pub mod check;
 mod draw;
 mod encode;

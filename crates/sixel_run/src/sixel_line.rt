@@ -1,10 +1,14 @@
 //! The lines of sixels, selects and repeats, by far the most common events: the digits of an offset's hundreds are kept
 //! from one line to the next.
 
-ghost use Rattle.std.specs.Prelude.{◌≡◌, ◌+◌, ◌*◌, ◌<◌, ◌≤◌, ◌^◌, ◌∷◌, ◌++◌, [], ℕ, decimal, drop, length, take};
+ghost use Rattle.std.specs.Prelude.{◌≡◌, ◌+◌, ◌*◌, ◌<◌, ◌≤◌, ◌^◌, ◌∷◌, ◌++◌, [], ℕ, IsTrue, decimal, drop, length};
+ghost use Rattle.std.specs.Prelude.{slice_index, take};
+ghost use Rattle.sixel_grammar.specs.Bytes.{is_data};
+ghost use Rattle.sixel_grammar.specs.Document.{most_bytes};
+ghost use Rattle.sixel_grammar.specs.Stretches.{sixels_from};
 ghost use Rattle.sixel_grammar.specs.declared.command.Command.TheVariants.{Repeat, Select, Sixel};
 ghost use Rattle.sixel_grammar.specs.declared.command.Event.TheVariants.{Step};
-ghost use Rattle.sixel_run.specs.Texts.{HasTail, event_line, tail_of, two_digits};
+ghost use Rattle.sixel_run.specs.Texts.{HasTail, event_line, list_text, tail_of, two_digits};
 ghost use Rattle.sixel_run.specs.declared.sixel_line.TheConstants.{LAST, MOST_TEXT, ROOM, SIXELS};
 
 use itoa::write_digits;
@@ -309,33 +313,41 @@ impl SixelLines {
         }
     }
 
-    /// Forgets the lines.
+    /// Makes the lines of a few data bytes, each a single sixel. The first has the offset `place`.
+    ///
+    /// Their end has a local of its own, so that the loop writes it to no memory.
     #[inline(always)]
-    pub fn clear(&mut self)
-        ensures { lines_of self.new ≡ [] }
+    pub fn set(&mut self, place: u64, bytes: &[u8])
+        requires place { 100 ≤ place }
+        requires few { length bytes.now ≤ MOST_SIXELS }
+        requires sixels { (k : ℕ) → k < length bytes.now → IsTrue (is_data (slice_index bytes.now k)) }
+        requires limit { place + length bytes.now ≤ most_bytes }
+        ensures { lines_of self.new ≡ list_text (sixels_from place bytes.now) }
     {
-        self.end = 0;
+        let mut end = 0;
+        for (index, byte) in bytes.iter().enumerate() {
+            end = self.put(end, place + index as u64, byte - b'?');
+        }
+        self.end = end;
     }
 
-    /// Adds the line of the sixel with these bits at the offset `place`.
+    /// Puts the line of the sixel with these bits at the offset `place` behind the first `end` bytes. Returns its end.
     #[inline(always)]
-    pub fn push(&mut self, place: u64, bits: u8)
+    fn put(&mut self, end: usize, place: u64, bits: u8) -> usize
         requires place { 100 ≤ place }
         requires bits { bits < SIXELS }
-        requires room { length (lines_of self.old) + LANES ≤ MOST_TEXT }
-        ensures lines { lines_of self.new
-            ≡ lines_of self.old ++ event_line (record { place = place; event = Step (Sixel bits) }) }
-        ensures few { length (lines_of self.new) ≤ length (lines_of self.old) + LANES }
+        requires room { end + LANES ≤ MOST_TEXT }
+        ensures lines { take result self.new.text
+            ≡ take end self.old.text ++ event_line (record { place = place; event = Step (Sixel bits) }) }
+        ensures few { result ≤ end + LANES }
     {
-        let hundreds = self
-            .line
-            .put_hundreds(place / 100, &mut self.text[..], self.end);
-        let at = self.end + hundreds;
+        let hundreds = self.line.put_hundreds(place / 100, &mut self.text[..], end);
+        let at = end + hundreds;
         let (tens, ones) = two_digits((place % 100) as u8);
         self.text[at] = tens;
         self.text[at + 1] = ones;
         let tail = self.tails.put(bits, &mut self.text[..], at + 2);
-        self.end = at + 2 + tail;
+        at + 2 + tail
     }
 
     /// The lines.

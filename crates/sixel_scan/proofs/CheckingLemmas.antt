@@ -1,12 +1,13 @@
 -- A check of a string.
-use Rattle.std.specs.Prelude.{Err, Result}
+use Rattle.std.specs.Prelude.{Err, IfSome, Result}
 use Rattle.std.proofs.Common.{◌≡◌, ◌∙◌, ℕ, zero, suc, ◌+◌, ◌≤◌, inl, inr, Option, Some, None, Ok}
-use Rattle.std.proofs.Common.{List, [], ◌∷◌, ◌++◌, length, sym, ap, subst, append_assoc, arith}
+use Rattle.std.proofs.Common.{List, [], ◌∷◌, ◌++◌, length, sym, ap, refl, subst, append_assoc, arith}
 use Rattle.std.specs.Prelude.{slice_get}
 use Rattle.std.specs.Option.{option_map}
 use Rattle.std.proofs.lemmas.List.{append-nil, length-append}
 use Rattle.sixel_grammar.specs.Document.{Document, Piece, bytes_of, joined, placed_from}
 use Rattle.sixel_grammar.specs.Faults.{IsFaultOf}
+use Rattle.sixel_grammar.specs.Standing.{StandsAfter, fault_of}
 use Rattle.sixel_grammar.specs.declared.command.Placed.{Placed}
 use Rattle.sixel_grammar.specs.declared.fault.Fault.{Fault}
 use Rattle.sixel_judge.specs.Verdicts.{IsFinding, IsVerdict}
@@ -18,7 +19,7 @@ use Rattle.sixel_judge.specs.declared.verdict.Outcome.{Outcome}
 use Rattle.sixel_judge.specs.declared.verdict.Outcome.TheVariants.{Portable as PortableSize, Broken as BrokenRule}
 use Rattle.sixel_scan.specs.declared.answer.Answer.TheVariants.{Portable as SaysPortable, Broken as SaysBroken, Refused}
 use Rattle.sixel_scan.specs.Answers.{IsPlacedWithin, Tells, briefly}
-use Rattle.sixel_scan.specs.Checking.{HasRead, HasTaken}
+use Rattle.sixel_scan.specs.Checking.{AreAfter, HasRead}
 
 none_kept : (fault : Fault) → (let o : Option Fault = None in o) ≡ Some fault → ⊥
 none_kept fault e = cc
@@ -26,26 +27,27 @@ none_kept fault e = cc
 same_kept : (e f : Fault) → Some e ≡ Some f → e ≡ f
 same_kept e f is = cc
 
--- a check that keeps no fault has taken the bytes
-pub taken_of : (registers : ℕ) (check : StringCheck) (bytes : List ℕ) → check.refused ≡ None
-    → HasRead registers check bytes → HasTaken registers check bytes
-taken_of registers check bytes none read = elim read [
-  | inl taken ↦ taken
+-- a check whose reader has no fault has seen the events of the bytes
+pub after_of : (registers : ℕ) (check : StringCheck) (bytes : List ℕ) → fault_of check.reader ≡ None
+    → HasRead registers check bytes → AreAfter registers check.reader check.checker bytes
+after_of registers check bytes none read = elim read [
+  | inl after ↦ after
   | inr refused ↦ absurd (none_kept refused.fault (sym none ∙ refused.kept))
 ]
 
--- a check that keeps a fault keeps that of the bytes
-pub refused_of : (registers : ℕ) (check : StringCheck) (bytes : List ℕ) (fault : Fault) → check.refused ≡ Some fault
-    → HasRead registers check bytes → (rest : List ℕ) → IsFaultOf (bytes ++ rest) fault
+-- a fault of its reader is that of the bytes
+pub refused_of : (registers : ℕ) (check : StringCheck) (bytes : List ℕ) (fault : Fault)
+    → fault_of check.reader ≡ Some fault → HasRead registers check bytes
+    → (rest : List ℕ) → IsFaultOf (bytes ++ rest) fault
 refused_of registers check bytes fault some read = elim read [
-  | inl taken ↦ absurd (none_kept fault (sym taken.unrefused ∙ some))
+  | inl after ↦ absurd (none_kept fault (sym after.read.no_fault ∙ some))
   | inr refused ↦ λ rest.
       subst (IsFaultOf (bytes ++ rest)) (same_kept refused.fault fault (sym refused.kept ∙ some)) (refused.always rest)
 ]
 
 -- more bytes change nothing
 pub refused_on : (registers : ℕ) (check : StringCheck) (bytes more : List ℕ) (fault : Fault)
-    → check.refused ≡ Some fault → HasRead registers check bytes → HasRead registers check (bytes ++ more)
+    → fault_of check.reader ≡ Some fault → HasRead registers check bytes → HasRead registers check (bytes ++ more)
 refused_on registers check bytes more fault some read = inr (record {
   fault = fault;
   kept = some;
@@ -54,12 +56,28 @@ refused_on registers check bytes more fault some read = inr (record {
       (refused_of registers check bytes fault some read (more ++ rest));
 })
 
--- the fault of the bytes, if nothing more is read
-pub fault_now : (registers : ℕ) (check : StringCheck) (bytes : List ℕ) (fault : Fault) → check.refused ≡ Some fault
+-- a reader that ends well has no fault
+pub ends_well : (o : Option Fault)
+    → IfSome o (λ fault. (let r : Result (Unit {0}) Fault = Ok tt in r) ≡ Err fault) → o ≡ None
+ends_well None h = refl
+ends_well (Some fault) h = cc
+
+-- the fault with which its reader ends is that of the bytes
+pub ends_ill : (registers : ℕ) (check : StringCheck) (bytes : List ℕ) (fault : Fault)
+    → IfSome (fault_of check.reader) (λ kept. (let r : Result (Unit {0}) Fault = Err fault in r) ≡ Err kept)
+    → ((events : List Placed) → StandsAfter check.reader events bytes → IsFaultOf bytes fault)
     → HasRead registers check bytes → IsFaultOf bytes fault
-fault_now registers check bytes fault some read =
-    subst (λ (t : List ℕ). IsFaultOf t fault) (append-nil bytes)
-    (refused_of registers check bytes fault some read [])
+ends_ill registers check bytes fault keeps ends read = elim read [
+  | inl after ↦ ends after.events after.read
+  | inr refused ↦
+      subst (IsFaultOf bytes) (same_end fault refused.fault
+      (subst (λ (o : Option Fault). IfSome o (λ kept. (let r : Result (Unit {0}) Fault = Err fault in r) ≡ Err kept))
+      refused.kept keeps))
+      (subst (λ (t : List ℕ). IsFaultOf t refused.fault) (append-nil bytes) (refused.always []))
+]
+  where
+    same_end : (e f : Fault) → (let r : Result (Unit {0}) Fault = Err e in r) ≡ Err f → f ≡ e
+    same_end e f is = cc
 
 -- ---- the end of the string
 

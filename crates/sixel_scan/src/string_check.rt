@@ -2,7 +2,6 @@
 
 ghost use Rattle.std.specs.Prelude.{◌+◌, ◌<◌, ◌^◌, ◌++◌, ◌∷◌, ◌≡◌, [], ℕ, List, OnErr, OnOk, Result, length};
 ghost use Rattle.sixel_model.specs.Profiles.{count_of};
-ghost use Rattle.sixel_check.specs.Checking.{AreAfter};
 ghost use Rattle.sixel_grammar.specs.declared.fault.Fault.{Fault};
 ghost use Rattle.sixel_judge.specs.declared.verdict.Verdict.{Verdict};
 ghost use Rattle.sixel_judge.specs.Growth.{MayGrowIn};
@@ -15,18 +14,16 @@ use sixel_model::Profile;
 use sixel_plane::CoverPlane;
 use std::alloc::{AllocError, Global};
 
-/// Checks the bytes of a string as they come, as `check` checks those of a document. After a fault of the grammar, it
-/// keeps the fault, and the bytes that follow change nothing.
+/// Checks the bytes of a string as they come, as `check` checks those of a document. After a fault of the grammar, the
+/// bytes that follow change nothing.
 #[derive(Drop)]
 pub(crate) struct StringCheck {
     reader: Reader,
     checker: Checker<CoverPlane>,
-    /// The fault of the bytes, if there was one.
-    refused: Option<Fault>,
 }
 
 impl StringCheck {
-    ghost use Rattle.sixel_scan.specs.Checking.{HasRead, HasTaken};
+    ghost use Rattle.sixel_scan.specs.Checking.{AreAfter, HasRead};
 
     /// A check that has read nothing. This allocates nothing.
     pub(crate) fn new(alloc: Global, profile: Profile) -> StringCheck
@@ -35,7 +32,6 @@ impl StringCheck {
         StringCheck {
             reader: Reader::new(),
             checker: Checker::new(alloc, profile),
-            refused: None,
         }
     }
 
@@ -47,7 +43,7 @@ impl StringCheck {
         ensures memory { OnErr result ((registers : ℕ) (bytes : List ℕ) → HasRead registers self.old bytes
             → MayGrowIn registers (bytes ++ piece.now)) }
     {
-        match self.refused {
+        match self.reader.fault() {
             Some(_) => Ok(()),
             None => self.read_on(piece),
         }
@@ -55,18 +51,18 @@ impl StringCheck {
 
     /// Reads some bytes, if there was no fault before them.
     fn read_on(&mut self, piece: &[u8]) -> Result<(), AllocError>
-        requires { (registers : ℕ) × (bytes : List ℕ) × HasTaken registers self.old bytes }
-        ensures read { OnOk result ((registers : ℕ) (bytes : List ℕ) → HasTaken registers self.old bytes
+        requires { (registers : ℕ) × (bytes : List ℕ)
+            × AreAfter registers self.old.reader self.old.checker bytes }
+        ensures read { OnOk result ((registers : ℕ) (bytes : List ℕ)
+            → AreAfter registers self.old.reader self.old.checker bytes
             → HasRead registers self.new (bytes ++ piece.now)) }
-        ensures memory { OnErr result ((registers : ℕ) (bytes : List ℕ) → HasTaken registers self.old bytes
+        ensures memory { OnErr result ((registers : ℕ) (bytes : List ℕ)
+            → AreAfter registers self.old.reader self.old.checker bytes
             → MayGrowIn registers (bytes ++ piece.now)) }
     {
         match follow_bytes(&mut self.reader, &mut self.checker, piece) {
             Ok(()) => Ok(()),
-            Err(Halt::Refused(fault)) => {
-                self.refused = Some(fault);
-                Ok(())
-            }
+            Err(Halt::Refused(_)) => Ok(()),
             Err(Halt::Stopped(stop)) => Err(stop),
         }
     }
@@ -88,26 +84,9 @@ impl StringCheck {
         ensures { (registers : ℕ) (bytes : List ℕ) → HasRead registers self bytes
             → IsBrief registers bytes result }
     {
-        let StringCheck {
-            reader,
-            checker,
-            refused,
-        } = self;
-        match refused {
-            Some(fault) => Err(fault),
-            None => conclude(&reader, checker),
-        }
+        self.reader.finish()?;
+        Ok(self.checker.outcome())
     }
-}
-
-/// The answer at the end of bytes without a fault before it.
-fn conclude(reader: &Reader, checker: Checker<CoverPlane>) -> Result<Outcome, Fault>
-    requires { (registers : ℕ) × (bytes : List ℕ) × AreAfter registers reader.now checker bytes }
-    ensures { (registers : ℕ) (bytes : List ℕ) → AreAfter registers reader.now checker bytes
-        → IsBrief registers bytes result }
-{
-    reader.finish()?;
-    Ok(checker.outcome())
 }
 
 /// The answer of a string at `place`, from that of its bytes.

@@ -9,21 +9,20 @@ use Rattle.sixel_grammar.specs.declared.command.Event.{Event}
 use Rattle.sixel_grammar.specs.declared.command.Placed.{Placed}
 use Rattle.sixel_grammar.specs.Document.{Document, events_of}
 use Rattle.sixel_model.specs.Positions.{HoldsAtPosition}
-use Rattle.sixel_model.specs.Rules.{Breaks, BreaksNone}
-use Rattle.sixel_model.specs.RuleNumbers.{last_rule}
-use Rattle.sixel_model.proofs.RuleLemmas.{nowhere}
-use Rattle.sixel_judge.specs.declared.rule.Rule.{Rule}
-use Rattle.sixel_judge.specs.declared.rule.Rule.TheVariants.{RasterFirst}
+use Rattle.sixel_model.specs.Rules.{Breaks, BreaksNone, all_rules, last_rule, number_of}
+use Rattle.sixel_model.proofs.RuleLemmas.{nowhere, same_rule}
+use Rattle.sixel_model.specs.declared.rule.Rule.{Rule}
+use Rattle.sixel_model.specs.declared.rule.Rule.TheVariants.{RasterFirst}
 use Rattle.sixel_judge.specs.declared.verdict.Finding.{Finding}
 use Rattle.sixel_judge.specs.declared.verdict.Verdict.{Verdict}
 use Rattle.sixel_judge.specs.declared.verdict.Verdict.TheVariants.{Portable, Broken}
-use Rattle.sixel_judge.specs.Verdicts.{IsFinding, IsPixel, IsVerdict, number_of}
+use Rattle.sixel_judge.specs.Verdicts.{IsFinding, IsPixel, IsVerdict}
 use Rattle.sixel_judge.proofs.DecideLemmas.{verdict_exists}
 use Rattle.sixel_judge.proofs.OptionLemmas.{same_value}
-use Rattle.sixel_judge.proofs.VerdictLemmas.{pixel_at, same_rule}
+use Rattle.sixel_judge.proofs.VerdictLemmas.{pixel_at}
 use Rattle.sixel_survey.specs.declared.entry.Entry.{Entry}
 use Rattle.sixel_survey.specs.Counting.{Counts}
-use Rattle.sixel_survey.specs.Surveys.{AreEntries, IsEntryAt, IsEntryOf, all_rules}
+use Rattle.sixel_survey.specs.Surveys.{AreEntries, IsEntryAt, IsEntryOf}
 use Rattle.sixel_survey.specs.Laws.{EmptyIfNone, FirstIsVerdict, IsFirstEntry, SomeFirst, finding_of}
 use Rattle.sixel_survey.proofs.PlaceLemmas.{later_place, place_at}
 use Rattle.sixel_survey.proofs.TellLemmas.{first_counts}
@@ -78,8 +77,7 @@ pub entry_kept : (f : Rule → Option Entry) (rule : Rule) (e : Entry) → f rul
 entry_kept f rule e is = kept_at f all_rules (number_of rule - 1) rule e (rule_there rule) is
 
 counts_broken : (registers : ℕ) (rule : Rule) (events : List Event) (i : ℕ)
-    → HoldsAtPosition (Counts registers rule) events i
-    → HoldsAtPosition (Breaks registers (number_of rule)) events i
+    → HoldsAtPosition (Counts registers rule) events i → HoldsAtPosition (Breaks registers rule) events i
 counts_broken registers rule events i h = record { item = h.item; here = h.here; holds = h.holds.broken }
 
 -- an entry and its position
@@ -143,7 +141,7 @@ finding_entry registers placed f i (Some e) is h =
     (first_counts registers f.rule i events is.first) in
     let not_before : ¬ (i < j) = λ lt. at.none_earlier i lt here in
     let not_after : ¬ (j < i) = λ lt.
-    is.first.none_earlier (number_of e.rule) j lt (counts_broken registers e.rule events j at.counts) in
+    is.first.none_earlier e.rule j lt (counts_broken registers e.rule events j at.counts) in
     let same : j ≡ i = omega (arith, not_before, not_after) in
     let there : IsEntryAt registers placed e i = subst (IsEntryAt registers placed e) same at in
     record {
@@ -160,14 +158,14 @@ finding_entry registers placed f i (Some e) is h =
 not_earlier : (registers : ℕ) (placed : List Placed) (f : Finding) (d : Entry) (i j : ℕ)
     → IsFinding registers placed f i → IsEntryAt registers placed d j → ¬ (j < i)
 not_earlier registers placed f d i j is at lt =
-    is.first.none_earlier (number_of d.rule) j lt (counts_broken registers d.rule (events_of placed) j at.counts)
+    is.first.none_earlier d.rule j lt (counts_broken registers d.rule (events_of placed) j at.counts)
 
 -- nor, at its event, has it a smaller number
 not_smaller : (registers : ℕ) (placed : List Placed) (f : Finding) (d : Entry) (i j : ℕ) → j ≡ i
     → IsFinding registers placed f i → IsEntryAt registers placed d j → number_of f.rule ≤ number_of d.rule
 not_smaller registers placed f d i j same is at =
     let none : ¬ (number_of d.rule < number_of f.rule) = λ lt.
-    is.first.none_smaller (number_of d.rule) lt
+    is.first.none_smaller d.rule lt
     (counts_broken registers d.rule (events_of placed) i
     (subst (HoldsAtPosition (Counts registers d.rule) (events_of placed)) same at.counts)) in
     omega (arith, none)
@@ -225,7 +223,7 @@ counts_none : (registers : ℕ) (placed : List Placed) (rule : Rule) (o : Option
 counts_none registers placed rule None none h = refl
 counts_none registers placed rule (Some e) none h =
     let at : IsEntryAt registers placed e h.1 = h.2 in
-    absurd (nowhere registers (number_of e.rule) h.1 (events_of placed) none
+    absurd (nowhere registers e.rule h.1 (events_of placed) none
     (counts_broken registers e.rule (events_of placed) h.1 at.counts))
 
 no_entries : (registers : ℕ) (placed : List Placed) (entries : List Entry) → AreEntries registers placed entries

@@ -17,15 +17,15 @@ use Rattle.sixel_survey.proofs.DeclareLemmas.{declares_before, declares_end}
 abbrev pub HasTaken : {F : Type 0} → (F → SurveyorValue) → F → F → List Placed → Type 0
 HasTaken value first now seen = HasSurveyed (count_of (value first).profile) (value now) seen
 
-abbrev pub MayStop : {F S : Type 0} → F → S → List Placed → Type 0
-MayStop first stop seen = DeclareBox seen
+abbrev pub MayStop : {F S : Type 0} → F → F → S → List Placed → Type 0
+MayStop first now stop seen = DeclareBox seen
 
-pub stops_one : {F S : Type 0} (value : F → SurveyorValue) (old : F) (p : Placed) (result : Result (Unit {0}) S)
+pub stops_one : {F S : Type 0} (value : F → SurveyorValue) (old new : F) (p : Placed) (result : Result (Unit {0}) S)
     → OnErr result ((registers : ℕ) (seen : List Placed) → HasSurveyed registers (value old) seen
     → DeclaresBox (events_of seen) p.event)
-    → IfErr result (StopsAmong (HasTaken value) MayStop old (p ∷ []))
-stops_one value old p (Ok u) declares = tt
-stops_one value old p (Err s) declares = λ first seen h. record {
+    → IfErr result (StopsAmong (HasTaken value) MayStop old new (p ∷ []))
+stops_one value old new p (Ok u) declares = tt
+stops_one value old new p (Err s) declares = λ first seen h. record {
   taken = p ∷ [];
   rest = [];
   are = refl;
@@ -56,10 +56,10 @@ declares_more xs [] d = subst DeclareBox (sym (append-nil xs)) d
 declares_more xs (y ∷ ys) d =
     subst DeclareBox (append_assoc xs (y ∷ []) ys) (declares_more (xs ++ y ∷ []) ys (declares_before xs y d))
 
-pub declares_in : {F S : Type 0} (value : F → SurveyorValue) (registers : ℕ) (old : F) (stop : S) (bytes : List ℕ)
-    → HasSurveyed registers (value old) [] → HaltsSource (HasTaken value) MayStop old (Stopped stop) bytes
+pub declares_in : {F S : Type 0} (value : F → SurveyorValue) (registers : ℕ) (old new : F) (stop : S) (bytes : List ℕ)
+    → HasSurveyed registers (value old) [] → HaltsSource (HasTaken value) MayStop old new (Stopped stop) bytes
     → DeclareBoxIn bytes
-declares_in value registers old stop bytes h halts =
+declares_in value registers old new stop bytes h halts =
     let w = halts old (begins value registers old h) in
     record {
       prefix = w.read;

@@ -11,19 +11,19 @@ use Rattle.sixel_model.specs.Events.{Attributes, Definition, is_finish, is_paint
 use Rattle.sixel_model.specs.Events.{is_same_definition, named_by}
 use Rattle.sixel_model.specs.Grids.{Grid}
 use Rattle.sixel_model.specs.Pictures.{is_side}
-use Rattle.sixel_model.specs.Rules.{Breaks, BreaksOutside, BreaksUncovered, FallsOutside, StaysBlank}
-use Rattle.sixel_model.specs.Rules.{breaks_eight_bit, breaks_raster_first, breaks_raster_twice, breaks_redefined}
-use Rattle.sixel_model.specs.Rules.{breaks_box_size, breaks_colour_value, breaks_ratio, breaks_register}
-use Rattle.sixel_model.specs.Rules.{breaks_repeat_zero, breaks_undefined, breaks_unselected, definition_of}
-use Rattle.sixel_model.specs.Rules.{is_painted_in, known, raster_before}
+use Rattle.sixel_model.specs.Rules.{Breaks, BreaksOutside, BreaksUncovered, FallsOutside, StaysBlank, breaks_eight_bit}
+use Rattle.sixel_model.specs.Rules.{breaks_raster_first, breaks_raster_twice, breaks_redefined, breaks_box_size}
+use Rattle.sixel_model.specs.Rules.{breaks_colour_value, breaks_ratio, breaks_register, breaks_repeat_zero}
+use Rattle.sixel_model.specs.Rules.{breaks_undefined, breaks_unselected, definition_of, is_painted_in, known}
+use Rattle.sixel_model.specs.Rules.{raster_before}
 use Rattle.sixel_model.specs.Grids.{first_blank}
-use Rattle.sixel_judge.specs.declared.rule.Rule.{Rule}
-use Rattle.sixel_judge.specs.declared.rule.Rule.TheVariants.{RasterFirst, RasterTwice, Ratio, BoxSize, Register}
-use Rattle.sixel_judge.specs.declared.rule.Rule.TheVariants.{ColourValue, RepeatZero, Unselected, Undefined, Redefined}
-use Rattle.sixel_judge.specs.declared.rule.Rule.TheVariants.{Outside, Uncovered, EightBit}
+use Rattle.sixel_model.specs.declared.rule.Rule.{Rule}
+use Rattle.sixel_model.specs.declared.rule.Rule.TheVariants.{RasterFirst, RasterTwice, Ratio, BoxSize, Register}
+use Rattle.sixel_model.specs.declared.rule.Rule.TheVariants.{ColourValue, RepeatZero, Unselected, Undefined, Redefined}
+use Rattle.sixel_model.specs.declared.rule.Rule.TheVariants.{Outside, Uncovered, EightBit}
 use Rattle.sixel_judge.specs.Judging.{box_of}
 use Rattle.sixel_judge.specs.Outside.{IsFirstIfAny}
-use Rattle.sixel_judge.specs.Verdicts.{IsPixel, number_of}
+use Rattle.sixel_judge.specs.Verdicts.{IsPixel}
 use Rattle.sixel_judge.specs.Violations.{raster_first_in, raster_twice_in}
 use Rattle.sixel_judge.proofs.BlankLemmas.{first_blank_covered}
 use Rattle.sixel_judge.proofs.RunLemmas.{first_same}
@@ -44,8 +44,8 @@ hit_if b = if b then Some (record { pixel = None }) else None
 
 -- the rule is broken exactly if the test passes, and no other rule tells the same mistake
 plain : (registers : ℕ) (rule : Rule) (before : List Event) (e : Event) (b : Bool)
-    → (b ≡ true → Breaks registers (number_of rule) before e)
-    → (Breaks registers (number_of rule) before e → b ≡ true)
+    → (b ≡ true → Breaks registers rule before e)
+    → (Breaks registers rule before e → b ≡ true)
     → IsTrue (is_told registers rule before e) → IsPixel rule None before e
     → IsHit registers rule before e (hit_if b)
 plain registers rule before e true to from told pixel = (record { broken = to refl; told = told }, pixel)
@@ -55,8 +55,8 @@ plain registers rule before e false to from told pixel =
 -- the rule is broken exactly if p holds, and the test is that it's broken and that no other rule tells the same mistake
 told_too : (registers : ℕ) (rule : Rule) (before : List Event) (e : Event) (b p : Bool)
     → b ≡ (p && is_told registers rule before e)
-    → (p ≡ true → Breaks registers (number_of rule) before e)
-    → (Breaks registers (number_of rule) before e → p ≡ true) → IsPixel rule None before e
+    → (p ≡ true → Breaks registers rule before e)
+    → (Breaks registers rule before e → p ≡ true) → IsPixel rule None before e
     → IsHit registers rule before e (hit_if b)
 told_too registers rule before e true p is to from pixel =
     let parts = and_parts p (is_told registers rule before e) (sym is) in

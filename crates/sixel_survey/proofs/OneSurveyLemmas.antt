@@ -10,12 +10,11 @@ use Rattle.sixel_grammar.specs.declared.command.Placed.{Placed}
 use Rattle.sixel_grammar.specs.Document.{events_of}
 use Rattle.sixel_model.specs.Events.{Attributes, raster_of}
 use Rattle.sixel_model.specs.Positions.{HoldsAtPosition}
-use Rattle.sixel_model.specs.Rules.{Breaks, BreaksUncovered, picture_left, raster_before}
+use Rattle.sixel_model.specs.Rules.{Breaks, BreaksUncovered, all_rules, picture_left, raster_before}
 use Rattle.sixel_model.proofs.FirstLemmas.{earliest_all}
 use Rattle.sixel_model.proofs.PositionLemmas.{holds_within}
-use Rattle.sixel_judge.specs.declared.rule.Rule.{Rule}
-use Rattle.sixel_judge.specs.declared.rule.Rule.TheVariants.{Uncovered}
-use Rattle.sixel_judge.specs.Verdicts.{number_of}
+use Rattle.sixel_model.specs.declared.rule.Rule.{Rule}
+use Rattle.sixel_model.specs.declared.rule.Rule.TheVariants.{Uncovered}
 use Rattle.sixel_judge.proofs.DecideLemmas.{both_decided, pixel_of, place_of, rule_decided}
 use Rattle.sixel_judge.proofs.OptionLemmas.{same_value}
 use Rattle.sixel_judge.proofs.SearchLemmas.{Decided, decide_true, least_below}
@@ -24,7 +23,7 @@ use Rattle.sixel_survey.specs.declared.entry.Entry.{Entry}
 use Rattle.sixel_survey.specs.declared.entry.Survey.{Survey}
 use Rattle.sixel_survey.specs.Counting.{Counts, HoldsOften, IsHowOften, blanks, is_told}
 use Rattle.sixel_survey.specs.Laws.{OneSurvey, SomeSurvey}
-use Rattle.sixel_survey.specs.Surveys.{AreEntries, IsEntryAt, IsEntryOf, all_rules, size_if_none}
+use Rattle.sixel_survey.specs.Surveys.{AreEntries, IsEntryAt, IsEntryOf, size_if_none}
 use Rattle.sixel_survey.proofs.PlaceLemmas.{place_at}
 
 -- ---- at most one
@@ -121,7 +120,7 @@ survey_once registers placed s t is other =
 unfoldable counts_decided : (registers : ℕ) (rule : Rule) (before : List Event) (e : Event)
     → Decided (Counts registers rule before e)
 counts_decided registers rule before e =
-    elim (both_decided _ _ (rule_decided registers (number_of rule) before e)
+    elim (both_decided _ _ (rule_decided registers rule before e)
     (decide_true (is_told registers rule before e))) [
       | inl both ↦ inl (record { broken = both.0; told = both.1 })
       | inr none ↦ inr (λ (c : Counts registers rule before e). none (c.broken, c.told))

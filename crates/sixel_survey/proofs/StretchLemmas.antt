@@ -19,8 +19,8 @@ use Rattle.sixel_model.proofs.StepLemmas.{raster_push}
 use Rattle.sixel_plane.specs.Stretches.{sixel_of, stretched_grid}
 use Rattle.sixel_plane.proofs.PlaneStretchLemmas.{stretched_height, stretched_length, stretched_more, stretched_none}
 use Rattle.sixel_plane.proofs.PlaneStretchLemmas.{stretched_width}
-use Rattle.sixel_judge.specs.declared.rule.Rule.{Rule}
-use Rattle.sixel_judge.specs.declared.rule.Rule.TheVariants.{RasterFirst, Unselected, Undefined, Outside, Uncovered}
+use Rattle.sixel_model.specs.declared.rule.Rule.{Rule}
+use Rattle.sixel_model.specs.declared.rule.Rule.TheVariants.{RasterFirst, Unselected, Undefined, Outside, Uncovered}
 use Rattle.sixel_judge.specs.Outside.{IsFirstIfAny, PaintsOutside}
 use Rattle.sixel_judge.specs.Verdicts.{capped}
 use Rattle.sixel_judge.proofs.JudgeLemmas.{events_push}

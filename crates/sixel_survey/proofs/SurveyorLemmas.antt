@@ -1,12 +1,12 @@
 -- The tallies of all rules, and the survey that they make.
-use Rattle.std.proofs.Common.{◌≡◌, ◌≢◌, ◌==◌, ◌<◌, ◌≤◌, ◌+◌, ◌-◌, ◌⊎◌, ℕ, zero, suc, true, false, inl, inr, Option}
+use Rattle.std.proofs.Common.{◌≡◌, ◌≢◌, ◌<◌, ◌≤◌, ◌+◌, ◌-◌, ◌⊎◌, ℕ, zero, suc, true, false, inl, inr, Option}
 use Rattle.std.proofs.Common.{Some, None, List, [], ◌∷◌, ◌++◌, length, get_or, take, refl, sym, ap, subst, ◌∙◌}
 use Rattle.std.proofs.Common.{arith, length-append, not, ◌&&◌, ap₂, replicate}
 use Rattle.std.specs.Prelude.{IsSome, filter_map, is_none, slice_get}
 use Rattle.std.specs.Option.{option_flatten, option_map, option_map_or, option_to_list}
 use Rattle.std.proofs.lemmas.List.{take_more}
 use Rattle.std.proofs.lemmas.List.Elements.{filter_map-append}
-use Rattle.std.proofs.lemmas.Bool.{agree_below_at, and_parts, cases_lt, eqb-true, false_from_ne_true, not-true}
+use Rattle.std.proofs.lemmas.Bool.{and_parts, cases_lt, false_from_ne_true, not-true}
 use Rattle.sixel_grammar.specs.declared.command.Event.{Event}
 use Rattle.sixel_grammar.specs.declared.command.Placed.{Placed}
 use Rattle.sixel_grammar.specs.Document.{Document, Piece, IsPiece, bytes_of, events_of, joined, most_bytes, placed_from}
@@ -16,15 +16,13 @@ use Rattle.sixel_grammar.proofs.ViableLemmas.{spells-some}
 use Rattle.sixel_model.specs.Events.{Attributes, has_sides, is_painting, raster_of}
 use Rattle.sixel_model.specs.Grids.{Grid}
 use Rattle.sixel_model.specs.Positions.{HoldsAtPosition, earliest}
-use Rattle.sixel_model.specs.Rules.{BreaksNone, picture_left, raster_before}
-use Rattle.sixel_model.specs.RuleNumbers.{box_size_rule, last_rule}
+use Rattle.sixel_model.specs.Rules.{BreaksNone, all_rules, last_rule, number_of, picture_left, raster_before}
 use Rattle.sixel_model.proofs.FirstLemmas.{earliest_all, earliest_later}
 use Rattle.sixel_model.proofs.LatestLemmas.{Gives}
-use Rattle.sixel_model.proofs.RuleLemmas.{nowhere}
-use Rattle.sixel_judge.specs.declared.rule.Rule.{Rule}
-use Rattle.sixel_judge.specs.declared.rule.Rule.TheVariants.{Uncovered, EightBit}
+use Rattle.sixel_model.proofs.RuleLemmas.{nowhere, number_at, rule_at}
+use Rattle.sixel_model.specs.declared.rule.Rule.{Rule}
+use Rattle.sixel_model.specs.declared.rule.Rule.TheVariants.{BoxSize, Uncovered}
 use Rattle.sixel_judge.specs.Portable.{IsPortable}
-use Rattle.sixel_judge.specs.Verdicts.{number_of}
 use Rattle.sixel_judge.proofs.AlarmLemmas.{taken_get, taken_twice}
 use Rattle.sixel_judge.proofs.DecideLemmas.{verdict_exists}
 use Rattle.sixel_judge.proofs.ShownLemmas.{left_is_portable}
@@ -37,21 +35,13 @@ use Rattle.sixel_model.specs.declared.profile.Profile.{Profile}
 use Rattle.sixel_survey.specs.Counting.{Counts, HoldsOften, IsHowOften, has_box, paints_early}
 use Rattle.sixel_survey.specs.Covering.{IsCoverAfter, blank_cells, size_in}
 use Rattle.sixel_survey.specs.Surveying.{HasSurveyed, SurveyorValue}
-use Rattle.sixel_survey.specs.Surveys.{AreEntries, IsEntryAt, IsEntryOf, IsSurvey, all_rules, size_if_none}
+use Rattle.sixel_survey.specs.Surveys.{AreEntries, IsEntryAt, IsEntryOf, IsSurvey, size_if_none}
 use Rattle.sixel_survey.specs.Tallies.{IsTallyAt, IsTallyOf, entry_from, entry_in, tally_in}
 use Rattle.sixel_survey.proofs.CoverLemmas.{blanks_are, early_item}
 use Rattle.sixel_survey.proofs.FirstEntryLemmas.{none_if_empty}
 use Rattle.sixel_survey.proofs.TallyingLemmas.{flat_at}
 use Rattle.sixel_survey.proofs.TallyLemmas.{often_within}
 use Rattle.sixel_survey.proofs.TellLemmas.{Passes, earliest_gives, if_box, passes_somewhere, sides_break}
-
--- ---- the tallies in order
-
--- the rule at a place in the order has the next number
-pub number_at : (k : ℕ) → k < 13 → number_of (get_or all_rules k EightBit) ≡ suc k
-number_at k lt =
-    eqb-true _ _
-    (agree_below_at (λ k. number_of (get_or all_rules k EightBit) == suc k) (λ k. true) 13 k refl lt)
 
 -- ---- how often
 
@@ -210,7 +200,7 @@ no_box_breaks : (registers : ℕ) (events : List Event) (a : Attributes) → ras
 unfolding raster_before
 no_box_breaks registers events a is none unbroken =
     let g : Gives raster_of events a = earliest_gives raster_of events a is in
-    nowhere registers box_size_rule g.at events unbroken
+    nowhere registers BoxSize g.at events unbroken
     (record {
       item = g.item;
       here = g.here;
@@ -268,12 +258,11 @@ finished registers surveyor seen bytes survey blank h d is entries empty some =
 
 pub entry_there : (tallies : List (Option Entry)) (blank k : ℕ) (o : Option Entry) → k < 13
     → o ≡ get_or tallies k None
-    → option_map (entry_from blank (get_or all_rules k EightBit)) o
-    ≡ entry_in tallies blank (get_or all_rules k EightBit)
+    → option_map (entry_from blank (rule_at k)) o ≡ entry_in tallies blank (rule_at k)
 entry_there tallies blank k o lt is =
-    let number : number_of (get_or all_rules k EightBit) ≡ suc k = number_at k lt in
-    let place : k ≡ number_of (get_or all_rules k EightBit) - 1 = omega (arith, number) in
-    ap (option_map (entry_from blank (get_or all_rules k EightBit)))
+    let number : number_of (rule_at k) ≡ suc k = number_at k lt in
+    let place : k ≡ number_of (rule_at k) - 1 = omega (arith, number) in
+    ap (option_map (entry_from blank (rule_at k)))
     (is ∙ sym (flat_at tallies k) ∙ ap (λ (n : ℕ). option_flatten (slice_get tallies n)) place)
 
 pub few_kept : {X Y : Type 0} (f : X → Option Y) (xs : List X) → length (filter_map f xs) ≤ length xs

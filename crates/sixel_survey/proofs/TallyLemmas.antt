@@ -13,7 +13,7 @@ use Rattle.sixel_grammar.specs.declared.command.Placed.{Placed}
 use Rattle.sixel_grammar.specs.Document.{events_of}
 use Rattle.sixel_model.specs.Positions.{HoldsAtPosition, HoldsNowhere}
 use Rattle.sixel_model.proofs.PositionLemmas.{get_before, get_end, holds_before, holds_end, holds_push, holds_within}
-use Rattle.sixel_judge.specs.declared.rule.Rule.{Rule}
+use Rattle.sixel_model.specs.declared.rule.Rule.{Rule}
 use Rattle.sixel_judge.specs.Verdicts.{IsPixel, capped}
 use Rattle.sixel_judge.proofs.JudgeLemmas.{events_push}
 use Rattle.sixel_survey.specs.declared.entry.Entry.{Entry}

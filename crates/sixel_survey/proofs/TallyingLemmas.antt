@@ -18,16 +18,15 @@ use Rattle.sixel_model.specs.Geometry.{band, column}
 use Rattle.sixel_model.specs.Grids.{Grid}
 use Rattle.sixel_model.specs.Pictures.{is_side, most_side}
 use Rattle.sixel_model.specs.Rules.{Breaks, BreaksOutside, breaks_box_size, breaks_colour_value, breaks_ratio}
-use Rattle.sixel_model.specs.Rules.{breaks_register, breaks_repeat_zero, raster_before}
-use Rattle.sixel_judge.specs.declared.rule.Rule.{Rule}
-use Rattle.sixel_judge.specs.declared.rule.Rule.TheVariants.{RasterFirst, RasterTwice, Ratio, BoxSize, Register}
-use Rattle.sixel_judge.specs.declared.rule.Rule.TheVariants.{ColourValue, RepeatZero, Unselected, Undefined, Redefined}
-use Rattle.sixel_judge.specs.declared.rule.Rule.TheVariants.{Outside, Uncovered, EightBit}
-use Rattle.sixel_judge.specs.Verdicts.{number_of}
+use Rattle.sixel_model.specs.Rules.{breaks_register, breaks_repeat_zero, number_of, raster_before}
+use Rattle.sixel_model.specs.declared.rule.Rule.{Rule}
+use Rattle.sixel_model.specs.declared.rule.Rule.TheVariants.{RasterFirst, RasterTwice, Ratio, BoxSize, Register}
+use Rattle.sixel_model.specs.declared.rule.Rule.TheVariants.{ColourValue, RepeatZero, Unselected, Undefined, Redefined}
+use Rattle.sixel_model.specs.declared.rule.Rule.TheVariants.{Outside, Uncovered, EightBit}
+use Rattle.sixel_model.proofs.RuleLemmas.{at_least_one, at_most_last, same_rule}
 use Rattle.sixel_judge.proofs.DrawLemmas.{falls_paints}
 use Rattle.sixel_judge.proofs.OutsideLemmas.{IsCapped, inside_fits, none_outside}
 use Rattle.sixel_judge.proofs.RunLemmas.{falls_first}
-use Rattle.sixel_judge.proofs.VerdictLemmas.{same_rule}
 use Rattle.sixel_survey.specs.declared.entry.Entry.{Entry}
 use Rattle.sixel_survey.specs.declared.notes.Notes.{Notes}
 use Rattle.sixel_survey.specs.Counting.{Counts}
@@ -41,14 +40,6 @@ use Rattle.sixel_survey.proofs.TallyLemmas.{tally_push}
 use Rattle.sixel_survey.proofs.TellLemmas.{if_box}
 
 -- ---- one tally of the list
-
-some_number : (rule : Rule) → 1 ≤ number_of rule
-some_number RasterFirst = omega arith
-some_number _ = omega arith
-
-most_number : (rule : Rule) → number_of rule ≤ 13
-most_number RasterFirst = omega arith
-most_number _ = omega arith
 
 flat_same : (ts : List (Option Entry)) (k : ℕ) (x : Option Entry) → k < length ts
     → option_flatten (slice_get (set ts k x) k) ≡ x
@@ -120,15 +111,15 @@ pub tallied_set : (registers : ℕ) (seen more : List Placed) (done : List Rule)
     → AreTalliedFor registers seen more done tallies
     → AreTalliedFor registers seen more (rule ∷ done) (set tallies (number_of rule - 1) tally)
 tallied_set registers seen more done rule tallies tally this t =
-    let some = some_number rule in
-    let most = most_number rule in
+    let some = at_least_one rule in
+    let most = at_most_last rule in
     let here : number_of rule - 1 < length tallies = omega (arith, some, most, t.rules) in
     one_more registers seen more done rule tallies (set tallies (number_of rule - 1) tally)
     (length-set tallies (number_of rule - 1) tally ∙ t.rules)
     (subst (IsTallyOf registers (seen ++ more) rule) (sym (flat_same tallies (number_of rule - 1) tally here)) this)
     (λ other differ.
     flat_other tallies (number_of rule - 1) (number_of other - 1) tally
-    (λ e. differ (let more_than = some_number other in omega (arith, e, some, more_than))))
+    (λ e. differ (let more_than = at_least_one other in omega (arith, e, some, more_than))))
     t
 
 -- all rules are done, if the tallies of the others stay

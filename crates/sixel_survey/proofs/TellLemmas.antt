@@ -13,14 +13,12 @@ use Rattle.sixel_model.specs.Positions.{HoldsAtPosition, any_at, earliest, passe
 use Rattle.sixel_model.specs.Rules.{Breaks, BreaksOutside, BreaksUncovered, IsFirstBroken, breaks_box_size}
 use Rattle.sixel_model.specs.Rules.{breaks_raster_first, breaks_redefined, breaks_register, breaks_undefined}
 use Rattle.sixel_model.specs.Rules.{definition_of, known, raster_before}
-use Rattle.sixel_model.specs.RuleNumbers.{box_size_rule, outside_rule, raster_first_rule, redefined_rule}
-use Rattle.sixel_model.specs.RuleNumbers.{register_rule, uncovered_rule, undefined_rule}
 use Rattle.sixel_model.proofs.CoverLemmas.{passes_below}
 use Rattle.sixel_model.proofs.KnownLemmas.{known_is}
 use Rattle.sixel_model.proofs.LatestLemmas.{Gives, latest_gives}
-use Rattle.sixel_judge.specs.declared.rule.Rule.{Rule}
-use Rattle.sixel_judge.specs.declared.rule.Rule.TheVariants.{Undefined, Redefined, Outside, Uncovered}
-use Rattle.sixel_judge.specs.Verdicts.{number_of}
+use Rattle.sixel_model.specs.declared.rule.Rule.{Rule}
+use Rattle.sixel_model.specs.declared.rule.Rule.TheVariants.{RasterFirst, BoxSize, Register, Undefined, Redefined}
+use Rattle.sixel_model.specs.declared.rule.Rule.TheVariants.{Outside, Uncovered}
 use Rattle.sixel_judge.proofs.AlarmLemmas.{taken_there, taken_twice}
 use Rattle.sixel_survey.specs.Counting.{Counts, has_box, is_below, is_told, paints_early}
 
@@ -39,12 +37,13 @@ unfolding earliest
 earliest_gives f [] a h = cc
 earliest_gives f (x ∷ xs) a h = earliest_step f x xs a (f x) refl (earliest_gives f xs a) h
 
--- no rule with number n is broken by an item before the first broken rule
-not_before : (registers n k i : ℕ) (events : List Event) (g : ℕ) (e : Event) → IsFirstBroken registers events k i
-    → slice_get (take i events) g ≡ Some e → ¬ Breaks registers n (take g events) e
-not_before registers n k i events g e f here broken =
+-- no rule is broken by an item before the first broken rule
+not_before : (registers : ℕ) (rule k : Rule) (i : ℕ) (events : List Event) (g : ℕ) (e : Event)
+    → IsFirstBroken registers events k i → slice_get (take i events) g ≡ Some e
+    → ¬ Breaks registers rule (take g events) e
+not_before registers rule k i events g e f here broken =
     let there = taken_there i g events e here in
-    f.none_earlier n g there.0 (record { item = e; here = there.1; holds = broken })
+    f.none_earlier rule g there.0 (record { item = e; here = there.1; holds = broken })
 
 -- ---- registers
 
@@ -54,18 +53,18 @@ named_too _ r h = cc
 
 -- an event that names a register above the last one breaks `Register`
 names_above : (registers : ℕ) (before : List Event) (e : Event) (r : ℕ) → named_by e ≡ Some r → registers ≤ r
-    → Breaks registers register_rule before e
+    → Breaks registers Register before e
 unfolding Breaks breaks_register
 names_above registers before e r names above = rw names (le-leb registers r above)
 
 -- the known register is below, if no event before broke `Register`
-known_below : (registers k i : ℕ) (events : List Event) → IsFirstBroken registers events k i → (r : ℕ)
+known_below : (registers : ℕ) (k : Rule) (i : ℕ) (events : List Event) → IsFirstBroken registers events k i → (r : ℕ)
     → known (take i events) ≡ Some r → (b : Bool) → nat_lt r registers ≡ b → b ≡ true
 known_below registers k i events f r is true e = refl
 known_below registers k i events f r is false e =
     let selected = (known_is (take i events) r is).selected in
     let g : Gives select_of (take i events) r = latest_gives select_of (take i events) r selected in
-    absurd (not_before registers register_rule k i events g.at g.item f g.here
+    absurd (not_before registers Register k i events g.at g.item f g.here
     (names_above registers (take g.at events) g.item r (named_too g.item r g.gives) (ltb-false r registers e)))
 
 if_known : (o : Option ℕ) (p : ℕ → Bool) → option_map_or p o false ≡ true → (r : ℕ) × (o ≡ Some r)
@@ -73,7 +72,7 @@ if_known None p h = cc
 if_known (Some r) p h = (r, refl)
 
 told_undefined : (registers i : ℕ) (events : List Event) (e : Event)
-    → IsFirstBroken registers events undefined_rule i → Breaks registers undefined_rule (take i events) e
+    → IsFirstBroken registers events Undefined i → Breaks registers Undefined (take i events) e
     → IsTrue (is_below registers (known (take i events)))
 unfolding Breaks breaks_undefined
 told_undefined registers i events e f broken =
@@ -81,10 +80,10 @@ told_undefined registers i events e f broken =
     let parts = and_parts (is_painting e) (option_map_or (λ r. is_none (definition_of before r)) (known before) false)
     broken in
     let is = if_known (known before) (λ r. is_none (definition_of before r)) parts.1 in
-    rw is.1 (known_below registers undefined_rule i events f is.0 is.1 (nat_lt is.0 registers) refl)
+    rw is.1 (known_below registers Undefined i events f is.0 is.1 (nat_lt is.0 registers) refl)
 
-told_redefined : (registers : ℕ) (before : List Event) (e : Event) → Breaks registers redefined_rule before e
-    → ¬ Breaks registers register_rule before e → IsTrue (is_below registers (named_by e))
+told_redefined : (registers : ℕ) (before : List Event) (e : Event) → Breaks registers Redefined before e
+    → ¬ Breaks registers Register before e → IsTrue (is_below registers (named_by e))
 unfolding Breaks breaks_redefined breaks_register
 told_redefined registers before (Step (Define register system x y z)) broken none =
     true_from_ne_false (nat_lt register registers)
@@ -95,16 +94,16 @@ told_redefined registers before _ broken none = cc
 
 -- raster attributes with a side out of range break `BoxSize`
 pub sides_break : (registers : ℕ) (before : List Event) (e : Event) (a : Attributes) → raster_of e ≡ Some a
-    → has_sides a ≡ false → Breaks registers box_size_rule before e
+    → has_sides a ≡ false → Breaks registers BoxSize before e
 unfolding Breaks breaks_box_size
 sides_break registers before e a is wrong = rw (is, wrong) refl
 
-told_box : (registers k i : ℕ) (events : List Event) (a : Attributes) → IsFirstBroken registers events k i
-    → raster_before (take i events) ≡ Some a → has_sides a ≡ true
+told_box : (registers : ℕ) (k : Rule) (i : ℕ) (events : List Event) (a : Attributes)
+    → IsFirstBroken registers events k i → raster_before (take i events) ≡ Some a → has_sides a ≡ true
 unfolding raster_before
 told_box registers k i events a f is = true_from_ne_false (has_sides a) (λ wrong.
     let g : Gives raster_of (take i events) a = earliest_gives raster_of (take i events) a is in
-    not_before registers box_size_rule k i events g.at g.item f g.here
+    not_before registers BoxSize k i events g.at g.item f g.here
     (sides_break registers (take g.at events) g.item a g.gives wrong))
 
 pub if_box : (o : Option Attributes) (P : Attributes → Type 0) → IsSomeAnd o P → (a : Attributes) × (o ≡ Some a)
@@ -115,7 +114,7 @@ has_it : (o : Option Attributes) (a : Attributes) → o ≡ Some a → has_sides
     → option_map_or has_sides o false ≡ true
 has_it o a is sides = rw is sides
 
-told_outside : (registers k i : ℕ) (events : List Event) (P : Attributes → Type 0)
+told_outside : (registers : ℕ) (k : Rule) (i : ℕ) (events : List Event) (P : Attributes → Type 0)
     → IsFirstBroken registers events k i → IsSomeAnd (raster_before (take i events)) P
     → has_box (take i events) ≡ true
 told_outside registers k i events P f broken =
@@ -131,7 +130,7 @@ paints_data _ h = cc
 
 -- a command that paints before any raster attributes breaks `RasterFirst`
 early_breaks : (registers : ℕ) (before : List Event) (e : Event)
-    → (is_painting e && is_none (raster_before before)) ≡ true → Breaks registers raster_first_rule before e
+    → (is_painting e && is_none (raster_before before)) ≡ true → Breaks registers RasterFirst before e
 unfolding Breaks breaks_raster_first
 early_breaks registers before e h =
     let parts = and_parts (is_painting e) (is_none (raster_before before)) h in
@@ -155,7 +154,7 @@ passes_somewhere p xs h =
     let found = passes_below (length xs) (passes_at p xs) h in
     pass_item p xs found.number (slice_get xs found.number) refl found.passes
 
-told_late : (registers k i : ℕ) (events : List Event) → IsFirstBroken registers events k i
+told_late : (registers : ℕ) (k : Rule) (i : ℕ) (events : List Event) → IsFirstBroken registers events k i
     → not (paints_early (take i events)) ≡ true
 unfolding paints_early
 told_late registers k i events f = late (any_at _ (take i events)) refl
@@ -169,29 +168,29 @@ told_late registers k i events f = late (any_at _ (take i events)) refl
         let there = taken_there i p.at events p.item p.here in
         let low : p.at < i = there.0 in
         let same : take p.at (take i events) ≡ take p.at events = taken_twice p.at i events (omega arith) in
-        absurd (not_before registers raster_first_rule k i events p.at p.item f p.here
+        absurd (not_before registers RasterFirst k i events p.at p.item f p.here
         (early_breaks registers (take p.at events) p.item
         (subst (λ (l : List Event). (is_painting p.item && is_none (raster_before l)) ≡ true) same p.passes)))
 
 -- ---- all rules
 
 told : (registers : ℕ) (rule : Rule) (i : ℕ) (events : List Event) (e : Event)
-    → IsFirstBroken registers events (number_of rule) i → slice_get events i ≡ Some e
-    → Breaks registers (number_of rule) (take i events) e → IsTrue (is_told registers rule (take i events) e)
+    → IsFirstBroken registers events rule i → slice_get events i ≡ Some e
+    → Breaks registers rule (take i events) e → IsTrue (is_told registers rule (take i events) e)
 unfolding Breaks BreaksOutside BreaksUncovered
 told registers Undefined i events e f here broken = told_undefined registers i events e f broken
 told registers Redefined i events e f here broken =
     told_redefined registers (take i events) e broken
-    (λ b. f.none_smaller register_rule (lit< tt) (record { item = e; here = here; holds = b }))
-told registers Outside i events e f here broken = told_outside registers outside_rule i events _ f broken
+    (λ b. f.none_smaller Register (lit< tt) (record { item = e; here = here; holds = b }))
+told registers Outside i events e f here broken = told_outside registers Outside i events _ f broken
 told registers Uncovered i events e f here broken =
     and_from (has_box (take i events)) (not (paints_early (take i events)))
-    (told_outside registers uncovered_rule i events _ f broken.1) (told_late registers uncovered_rule i events f)
+    (told_outside registers Uncovered i events _ f broken.1) (told_late registers Uncovered i events f)
 told registers _ i events e f here broken = refl
 
 -- the first broken rule counts
 pub first_counts : (registers : ℕ) (rule : Rule) (i : ℕ) (events : List Event)
-    → IsFirstBroken registers events (number_of rule) i → HoldsAtPosition (Counts registers rule) events i
+    → IsFirstBroken registers events rule i → HoldsAtPosition (Counts registers rule) events i
 first_counts registers rule i events f =
     let h = f.broken in
     record {

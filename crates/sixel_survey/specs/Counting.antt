@@ -12,9 +12,8 @@ use Rattle.sixel_model.specs.Events.{Attributes, has_sides, is_painting, named_b
 use Rattle.sixel_model.specs.Grids.{row_by_row}
 use Rattle.sixel_model.specs.Positions.{HoldsAtPosition, any_at}
 use Rattle.sixel_model.specs.Rules.{Breaks, is_covered, known, raster_before}
-use Rattle.sixel_judge.specs.declared.rule.Rule.{Rule}
-use Rattle.sixel_judge.specs.declared.rule.Rule.TheVariants.{Undefined, Redefined, Outside, Uncovered}
-use Rattle.sixel_judge.specs.Verdicts.{number_of}
+use Rattle.sixel_model.specs.declared.rule.Rule.{Rule}
+use Rattle.sixel_model.specs.declared.rule.Rule.TheVariants.{Undefined, Redefined, Outside, Uncovered}
 
 -- ---- where
 
@@ -40,7 +39,7 @@ is_told registers _ before e = true
 
 -- the rule counts at the event: the event breaks it, and no other rule tells the same mistake
 pub record Counts (registers : ℕ) (rule : Rule) (before : List Event) (e : Event) : Type 0 where
-  pub broken : Breaks registers (number_of rule) before e
+  pub broken : Breaks registers rule before e
   pub told : IsTrue (is_told registers rule before e)
 
 -- ---- how often

@@ -11,7 +11,7 @@ use Rattle.sixel_grammar.specs.declared.command.Placed.{Placed}
 use Rattle.sixel_model.specs.Events.{is_painting}
 use Rattle.sixel_model.specs.Geometry.{band_rows}
 use Rattle.sixel_model.specs.Grids.{Grid}
-use Rattle.sixel_judge.specs.declared.rule.Rule.{Rule}
+use Rattle.sixel_model.specs.declared.rule.Rule.{Rule}
 use Rattle.sixel_judge.specs.Verdicts.{capped}
 use Rattle.sixel_survey.specs.declared.notes.Notes.{Notes}
 use Rattle.sixel_survey.specs.Notes.{known_in, marked}

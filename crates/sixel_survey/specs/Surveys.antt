@@ -5,11 +5,8 @@ use Rattle.sixel_grammar.specs.declared.command.Placed.{Placed}
 use Rattle.sixel_grammar.specs.Document.{events_of}
 use Rattle.sixel_model.specs.Pictures.{PictureValue}
 use Rattle.sixel_model.specs.Positions.{HoldsAtPosition, HoldsNowhere}
-use Rattle.sixel_model.specs.Rules.{picture_left}
-use Rattle.sixel_judge.specs.declared.rule.Rule.{Rule}
-use Rattle.sixel_judge.specs.declared.rule.Rule.TheVariants.{RasterFirst, RasterTwice, Ratio, BoxSize, Register}
-use Rattle.sixel_judge.specs.declared.rule.Rule.TheVariants.{ColourValue, RepeatZero, Unselected, Undefined, Redefined}
-use Rattle.sixel_judge.specs.declared.rule.Rule.TheVariants.{Outside, Uncovered, EightBit}
+use Rattle.sixel_model.specs.Rules.{all_rules, picture_left}
+use Rattle.sixel_model.specs.declared.rule.Rule.{Rule}
 use Rattle.sixel_judge.specs.Verdicts.{IsPixel}
 use Rattle.sixel_survey.specs.declared.entry.Entry.{Entry}
 use Rattle.sixel_survey.specs.declared.entry.Survey.{Survey}
@@ -28,12 +25,6 @@ pub record IsEntryAt (registers : ℕ) (placed : List Placed) (entry : Entry) (i
 abbrev pub IsEntryOf : ℕ → List Placed → Rule → Option Entry → Type 0
 IsEntryOf registers placed rule None = HoldsNowhere (Counts registers rule) (events_of placed)
 IsEntryOf registers placed rule (Some entry) = (entry.rule ≡ rule) × (i : ℕ) × IsEntryAt registers placed entry i
-
--- the rules, in order of number
-abbrev pub all_rules : List Rule
-all_rules =
-    RasterFirst ∷ RasterTwice ∷ Ratio ∷ BoxSize ∷ Register ∷ ColourValue ∷ RepeatZero ∷ Unselected ∷ Undefined
-    ∷ Redefined ∷ Outside ∷ Uncovered ∷ EightBit ∷ []
 
 -- the size of the picture, if there are no entries
 abbrev pub size_if_none : List Entry → PictureValue → Option (ℕ × ℕ)

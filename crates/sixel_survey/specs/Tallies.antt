@@ -6,10 +6,11 @@ use Rattle.sixel_grammar.specs.declared.command.Event.{Event}
 use Rattle.sixel_grammar.specs.declared.command.Placed.{Placed}
 use Rattle.sixel_grammar.specs.Document.{events_of}
 use Rattle.sixel_model.specs.Positions.{HoldsAtPosition, HoldsNowhere}
-use Rattle.sixel_judge.specs.declared.rule.Rule.{Rule}
-use Rattle.sixel_judge.specs.declared.rule.Rule.TheVariants.{RasterFirst, RepeatZero, Unselected, Undefined, Outside}
-use Rattle.sixel_judge.specs.declared.rule.Rule.TheVariants.{Uncovered}
-use Rattle.sixel_judge.specs.Verdicts.{IsPixel, capped, number_of}
+use Rattle.sixel_model.specs.declared.rule.Rule.{Rule}
+use Rattle.sixel_model.specs.declared.rule.Rule.TheVariants.{RasterFirst, RepeatZero, Unselected, Undefined, Outside}
+use Rattle.sixel_model.specs.declared.rule.Rule.TheVariants.{Uncovered}
+use Rattle.sixel_model.specs.Rules.{number_of}
+use Rattle.sixel_judge.specs.Verdicts.{IsPixel, capped}
 use Rattle.sixel_survey.specs.declared.entry.Entry.{Entry}
 use Rattle.sixel_survey.specs.declared.tally.Hit.{Hit}
 use Rattle.sixel_survey.specs.Counting.{Counts, HoldsOften}

@@ -2,9 +2,7 @@
 
 use arrayvec::ArrayVec;
 use sixel_judge::Rule;
-
-/// How many rules there are.
-pub const RULE_COUNT: usize = 13;
+use sixel_model::RULE_COUNT;
 
 /// A broken rule: how often it counts, and where it counts first.
 ///

@@ -2,7 +2,7 @@
 
 ghost use Rattle.std.specs.Prelude.{◌≡◌, [], MatchOption, true};
 ghost use Rattle.std.specs.Option.{option_map_or};
-ghost use Rattle.sixel_judge.specs.Verdicts.{number_of};
+ghost use Rattle.sixel_model.specs.Rules.{number_of};
 ghost use Rattle.sixel_survey.specs.Laws.{IsFirstEntry, IsFirstFinding, comes_before};
 
 use crate::entry::{Entry, Survey};

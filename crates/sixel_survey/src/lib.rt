@@ -13,5 +13,6 @@ mod surveyor;
 mod tally;
 mod tallying;
 
-pub use entry::{Entry, RULE_COUNT, Survey};
+pub use entry::{Entry, Survey};
+pub use sixel_model::RULE_COUNT;
 pub use surveying::survey;

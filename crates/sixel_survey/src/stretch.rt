@@ -13,8 +13,8 @@ ghost use Rattle.sixel_model.specs.Events.{is_painting};
 ghost use Rattle.sixel_model.specs.Profiles.{count_of};
 ghost use Rattle.sixel_plane.specs.Covers.{kept_by};
 ghost use Rattle.sixel_plane.specs.Stretches.{sixel_of, stretched_grid};
-ghost use Rattle.sixel_judge.specs.declared.rule.Rule.{Rule as RuleValue};
-ghost use Rattle.sixel_judge.specs.declared.rule.Rule.TheVariants.{Outside, RasterFirst, Undefined, Unselected};
+ghost use Rattle.sixel_model.specs.declared.rule.Rule.{Rule as RuleValue};
+ghost use Rattle.sixel_model.specs.declared.rule.Rule.TheVariants.{Outside, RasterFirst, Undefined, Unselected};
 ghost use Rattle.sixel_survey.specs.Covering.{IsCoverAfter, IsCoverOf};
 ghost use Rattle.sixel_survey.specs.Notes.{IsNotesAfter};
 ghost use Rattle.sixel_survey.specs.Stretches.{AreSixels, CountsAtEach, FitsIn, any_paints, with_sixels};
@@ -22,13 +22,13 @@ ghost use Rattle.sixel_survey.specs.Surveying.{AreTallies};
 ghost use Rattle.sixel_survey.specs.Tallies.{AreTalliedFor, IsTallyOf, is_one_of};
 
 use crate::cover::cover;
-use crate::entry::{Entry, RULE_COUNT};
+use crate::entry::Entry;
 use crate::notes::Notes;
 use crate::tally::{Hit, counted, counted_more};
 use crate::tallying::{put, tally_of};
 use sixel_judge::Rule;
 use sixel_judge::outside::{is_inside, outside_pixel};
-use sixel_model::Profile;
+use sixel_model::{Profile, RULE_COUNT};
 use sixel_plane::Cover;
 
 /// Whether `count` columns from the current one on lie in the box, with all six rows of their band.

@@ -29,7 +29,7 @@ impl<P: Cover> Follower for Surveying<P> {
 
     ghost has_taken = { λ first now seen. HasSurveyed (count_of first.surveyor.profile) now.surveyor seen };
 
-    ghost may_stop = { λ first stop seen. DeclareBox seen };
+    ghost may_stop = { λ first now stop seen. DeclareBox seen };
 
     #[inline(never)]
     fn take(&mut self, placed: &Placed) -> Result<(), AllocError> {

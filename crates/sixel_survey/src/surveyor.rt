@@ -4,47 +4,31 @@ ghost use Rattle.std.specs.Prelude.{◌≡◌, ◌≢◌, ◌<◌, ◌≤◌, �
 ghost use Rattle.std.specs.Prelude.{filter_map, get_or, length, slice_index, take};
 ghost use Rattle.sixel_grammar.specs.Bytes.{is_data};
 ghost use Rattle.sixel_grammar.specs.Stretches.{sixels_from};
-ghost use Rattle.sixel_judge.specs.declared.rule.Rule.TheVariants.{EightBit};
+ghost use Rattle.sixel_model.specs.declared.rule.Rule.TheVariants.{EightBit};
 ghost use Rattle.std.specs.Option.{option_map, option_map_or};
 ghost use Rattle.sixel_grammar.specs.declared.command.Event.{Event};
 ghost use Rattle.sixel_grammar.specs.declared.command.Placed.{Placed as PlacedValue};
 ghost use Rattle.sixel_grammar.specs.Document.{Document, events_of, most_bytes};
 ghost use Rattle.sixel_model.specs.Profiles.{count_of};
+ghost use Rattle.sixel_model.specs.Rules.{all_rules as rules_in_order};
 ghost use Rattle.sixel_survey.specs.Covering.{IsCoverAfter, blank_cells, size_in};
 ghost use Rattle.sixel_survey.specs.Declaring.{DeclaresBox};
 ghost use Rattle.sixel_survey.specs.Surveying.{HasSurveyed};
-ghost use Rattle.sixel_survey.specs.Surveys.{IsSurvey, all_rules as rules_in_order};
+ghost use Rattle.sixel_survey.specs.Surveys.{IsSurvey};
 ghost use Rattle.sixel_survey.specs.Tallies.{entry_from as entry_made, entry_in};
 
 use crate::cover::{count_blank, draw};
-use crate::entry::{Entry, RULE_COUNT, Survey};
+use crate::entry::{Entry, Survey};
 use crate::notes::Notes;
 use crate::stretch::{draw_stretch, tally_stretch};
 use crate::tallying::tally;
 use arrayvec::ArrayVec;
 use sixel_grammar::Placed;
 use sixel_judge::Rule;
-use sixel_model::Profile;
+use sixel_model::{ALL_RULES, Profile, RULE_COUNT};
 use sixel_plane::Cover;
 use std::alloc::{AllocError, Global};
 use std::marker::Model;
-
-/// The rules, in order of number.
-const ALL_RULES: [Rule; RULE_COUNT] = [
-    Rule::RasterFirst,
-    Rule::RasterTwice,
-    Rule::Ratio,
-    Rule::BoxSize,
-    Rule::Register,
-    Rule::ColourValue,
-    Rule::RepeatZero,
-    Rule::Unselected,
-    Rule::Undefined,
-    Rule::Redefined,
-    Rule::Outside,
-    Rule::Uncovered,
-    Rule::EightBit,
-];
 
 /// The rule at this place in the order, counted from 0.
 fn rule_at(index: usize) -> Rule

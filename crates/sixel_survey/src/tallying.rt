@@ -6,16 +6,16 @@ ghost use Rattle.sixel_model.specs.Events.{columns_of as said_columns};
 ghost use Rattle.std.specs.Option.{option_map};
 ghost use Rattle.sixel_grammar.specs.declared.command.Placed.{Placed as PlacedValue};
 ghost use Rattle.sixel_grammar.specs.Document.{events_of};
-ghost use Rattle.sixel_judge.specs.Verdicts.{number_of};
-ghost use Rattle.sixel_judge.specs.declared.rule.Rule.{Rule as RuleValue};
+ghost use Rattle.sixel_model.specs.declared.rule.Rule.{Rule as RuleValue};
 ghost use Rattle.sixel_model.specs.Profiles.{count_of};
+ghost use Rattle.sixel_model.specs.Rules.{number_of};
 ghost use Rattle.sixel_survey.specs.Covering.{IsCoverAfter};
 ghost use Rattle.sixel_survey.specs.Notes.{IsNotesAfter, known_in, lacks_definition_in};
 ghost use Rattle.sixel_survey.specs.Stretches.{FitsIn};
 ghost use Rattle.sixel_survey.specs.Surveying.{AreTallies};
 ghost use Rattle.sixel_survey.specs.Tallies.{AreTalliedFor, is_one_of, of_columns, tally_in};
 
-use crate::entry::{Entry, RULE_COUNT};
+use crate::entry::Entry;
 use crate::hits::hit_of;
 use crate::notes::Notes;
 use crate::stretch::fits;
@@ -23,7 +23,7 @@ use crate::tally::counted;
 use sixel_grammar::{Command, Event, Placed};
 use sixel_judge::Rule;
 use sixel_judge::events::{columns_of, is_painting, is_repeat_of_zero};
-use sixel_model::Profile;
+use sixel_model::{Profile, RULE_COUNT};
 use sixel_plane::Cover;
 
 /// The place of the rule in the order, counted from 0.

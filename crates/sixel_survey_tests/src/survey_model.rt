@@ -13,26 +13,9 @@ use sixel_judge::rules::{
     breaks_box_size, breaks_colour_value, breaks_raster_first, breaks_raster_twice, breaks_ratio,
     breaks_repeat_zero,
 };
-use sixel_model::{BAND_ROWS, Profile, is_set};
-use sixel_survey::{Entry, RULE_COUNT};
+use sixel_model::{ALL_RULES, BAND_ROWS, Profile, RULE_COUNT, is_set};
+use sixel_survey::Entry;
 use std::alloc::{AllocError, Global};
-
-/// The rules, in order of number.
-const ALL_RULES: [Rule; RULE_COUNT] = [
-    Rule::RasterFirst,
-    Rule::RasterTwice,
-    Rule::Ratio,
-    Rule::BoxSize,
-    Rule::Register,
-    Rule::ColourValue,
-    Rule::RepeatZero,
-    Rule::Unselected,
-    Rule::Undefined,
-    Rule::Redefined,
-    Rule::Outside,
-    Rule::Uncovered,
-    Rule::EightBit,
-];
 
 /// What a definition of a register says.
 #[derive(Clone, Copy, PartialEq)]

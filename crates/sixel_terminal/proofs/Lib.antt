@@ -16,3 +16,4 @@ pub mod StretchLemmas
 pub mod SixelLemmas
 pub mod PlainLemmas
 pub mod ClipLemmas
+pub mod FollowLemmas

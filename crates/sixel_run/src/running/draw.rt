@@ -7,9 +7,8 @@ ghost use Rattle.sixel_grammar.specs.declared.fault.InputFault.TheVariants.{Read
 ghost use Rattle.sixel_grammar.specs.Reading.{Explains, NoFaultBefore, failures_after};
 ghost use Rattle.sixel_terminal.specs.Drawings.{HasDrawn};
 
-use sixel_grammar::{InputFault, Reader};
+use sixel_grammar::{InputFault, follow_source};
 use sixel_io::{PIECE, Source};
-use sixel_mend::{Measurer, follow_bytes};
 use sixel_terminal::Drawing;
 
 /// Reads the source to its end, and draws the events of its document. It keeps none of them.
@@ -24,15 +23,7 @@ pub fn draw<S: Source>(input: &mut S, drawing: &mut Drawing) -> Result<(), Input
         IfSome (S.state input.old).remaining (NoFaultBefore (S.state input.new).remaining) }
     ensures memory { result ≢ Err InputFault.OutOfMemory }
 {
-    let mut reader = Reader::new();
-    let mut piece = [0u8; PIECE];
-    loop {
-        let count = input.fill(&mut piece)?;
-        if count == 0 {
-            return Ok(reader.finish()?);
-        }
-        follow_bytes(&mut reader, drawing, &piece[..count])?;
-    }
+    Ok(follow_source(input, &mut [0u8; PIECE], drawing)?)
 }
 
 /// Reads the source to its end, and keeps nothing.
@@ -44,13 +35,5 @@ pub fn read_whole<S: Source>(input: &mut S) -> Result<(), InputFault>
         IfSome (S.state input.old).remaining (NoFaultBefore (S.state input.new).remaining) }
     ensures memory { result ≢ Err InputFault.OutOfMemory }
 {
-    let mut measurer = Measurer::new();
-    let mut piece = [0u8; PIECE];
-    loop {
-        let count = input.fill(&mut piece)?;
-        if count == 0 {
-            return Ok(measurer.finish()?);
-        }
-        measurer.feed(&piece[..count])?;
-    }
+    Ok(follow_source(input, &mut [0u8; PIECE], &mut ())?)
 }

@@ -1,20 +1,84 @@
 //! Lists the events of a sixel picture, a line each.
 
-ghost use Rattle.std.specs.Prelude.{◌≡◌, ◌≢◌, ◌<◌, ◌≤◌, ◌∷◌, ℕ, List, [], Err, IfOk, IfSome, IsNone, OnOk, length};
-ghost use Rattle.sixel_grammar.specs.declared.command.Placed.{Placed as Place};
-ghost use Rattle.sixel_io.specs.Blocks.{TakesMore, in_all};
-ghost use Rattle.sixel_grammar.specs.Plain.{plain_of};
-ghost use Rattle.sixel_grammar.specs.Standing.{StandsAfter, Takes, completions};
-ghost use Rattle.sixel_run.specs.declared.task.Task.TheVariants.{List as Listing};
-ghost use Rattle.sixel_run.specs.Feeding.{Feeds, FeedsSome};
+ghost use Rattle.std.specs.Prelude.{◌≡◌, ◌≢◌, ℕ, List, [], Err, IfErr, IfSome, OnOk};
+ghost use Rattle.sixel_grammar.specs.Following.{AreFollowed, FollowsBytes, HaltsWithin};
+ghost use Rattle.sixel_run.specs.declared.task.Task.TheVariants.{List as ListTask};
+ghost use Rattle.sixel_run.specs.declared.running.list.Listing.{Listing as ListingValue};
+ghost use Rattle.sixel_run.specs.Listings.{HasListed, IsDrained, MayFail};
 ghost use Rattle.sixel_run.specs.Outputs.{CountsWrites, Wrote, failures_by};
 
 use crate::fault::RunFault;
-use crate::running::list_lines::{Lines, put_lines, put_plain, put_run, put_two};
-use crate::sixel_line::{SixelLine, SixelLines};
+use crate::running::list_lines::{
+    Lines, put_ended, put_line, put_register, put_repeat, put_sixels,
+};
+use crate::sixel_line::SixelLines;
 use crate::task::Status;
-use sixel_grammar::{Plain, Reader};
-use sixel_io::{PIECE, Sink, Source};
+use sixel_grammar::{Command, Follower, Halt, Placed, Reader, follow_bytes};
+use sixel_io::{DeviceFault, PIECE, Sink, Source};
+
+/// Takes the events of a document, and puts the line of each into a block, which is drained into the sink when it is
+/// full.
+#[derive(Drop)]
+struct Listing<'l, 'k, K> {
+    sixels: SixelLines,
+    lines: &'l mut Lines,
+    out: &'k mut K,
+}
+
+impl<K: Sink> Follower for Listing<'_, '_, K> {
+    type Stop = DeviceFault;
+
+    ghost use Rattle.sixel_run.specs.Listings.{HasListed, MayFail};
+
+    ghost has_taken = { HasListed K.state };
+
+    ghost may_stop = { MayFail K.state };
+
+    #[inline(never)]
+    fn take(&mut self, placed: &Placed) -> Result<(), DeviceFault> {
+        put_line(placed, self.lines, self.out)
+    }
+
+    #[inline(always)]
+    fn take_command(&mut self, place: u64, command: Command) -> Result<(), DeviceFault> {
+        put_ended(place, command, &mut self.sixels, self.lines, self.out)
+    }
+
+    #[inline(always)]
+    fn take_select(&mut self, place: u64, register: u16) -> Result<(), DeviceFault> {
+        put_register(place, register, &mut self.sixels, self.lines, self.out)
+    }
+
+    #[inline(always)]
+    fn take_repeat(&mut self, place: u64, count: u16, bits: u8) -> Result<(), DeviceFault> {
+        put_repeat(place, count, bits, &mut self.sixels, self.lines, self.out)
+    }
+
+    #[inline(always)]
+    fn take_stretch(&mut self, place: u64, bytes: &[u8], count: usize) -> Result<(), DeviceFault> {
+        put_sixels(
+            place,
+            &bytes[..count],
+            &mut self.sixels,
+            self.lines,
+            self.out,
+        )
+    }
+}
+
+impl From<Halt<DeviceFault>> for RunFault {
+    ghost use Rattle.std.specs.Prelude.{◌≡◌};
+    ghost use Rattle.sixel_run.specs.Listings.{fault_of_halt};
+
+    ghost from_gives = { λ halt result. result ≡ fault_of_halt halt };
+
+    fn from(halt: Halt<DeviceFault>) -> RunFault {
+        match halt {
+            Halt::Refused(fault) => RunFault::Grammar(fault),
+            Halt::Stopped(_) => RunFault::Write,
+        }
+    }
+}
 
 /// Writes a line for each event when it is complete, also before a fault. It allocates nothing and doesn't flush.
 ///
@@ -22,15 +86,37 @@ use sixel_io::{PIECE, Sink, Source};
 #[inline(never)]
 pub fn list<S: Source, K: Sink>(input: &mut S, output: &mut K) -> Result<Status, RunFault>
     ensures wrote { IfSome (S.state input.old).remaining (λ bytes.
-        Wrote Listing bytes (S.state input.new).remaining result
+        Wrote ListTask bytes (S.state input.new).remaining result
         (K.state output.old).taken (K.state output.new).taken) }
     ensures memory { result ≢ Err RunFault.OutOfMemory }
     ensures reads { (S.state input.new).failures ≡ failures_by RunFault.Read result (S.state input.old).failures }
     ensures writes { CountsWrites result (K.state output.old).failures (K.state output.new).failures }
 {
-    let mut reader = Reader::new();
     let mut lines = Lines::new();
-    let mut sixels = SixelLines::new();
+    let mut listing = Listing {
+        sixels: SixelLines::new(),
+        lines: &mut lines,
+        out: output,
+    };
+    list_all(input, &mut listing)
+}
+
+/// Writes the lines of the whole input. Nothing waits in the block when it begins.
+fn list_all<S: Source, K: Sink>(
+    input: &mut S,
+    listing: &mut Listing<'_, '_, K>,
+) -> Result<Status, RunFault>
+    requires { listing.old.lines.now ≡ [] }
+    ensures wrote { IfSome (S.state input.old).remaining (λ bytes.
+        Wrote ListTask bytes (S.state input.new).remaining result
+        (K.state listing.old.out.now).taken (K.state listing.new.out.now).taken) }
+    ensures memory { result ≢ Err RunFault.OutOfMemory }
+    ensures reads { (S.state input.new).failures ≡ failures_by RunFault.Read result (S.state input.old).failures }
+    ensures writes { CountsWrites result
+        (K.state listing.old.out.now).failures (K.state listing.new.out.now).failures }
+    ensures same_out { listing.new.out.ghost_name ≡ listing.old.out.ghost_name }
+{
+    let mut reader = Reader::new();
     let mut piece = [0; PIECE];
     loop {
         let count = match input.fill(&mut piece) {
@@ -43,180 +129,33 @@ pub fn list<S: Source, K: Sink>(input: &mut S, output: &mut K) -> Result<Status,
                 Err(fault) => Err(RunFault::Grammar(fault)),
             };
         }
-        list_piece(
-            &mut reader,
-            &piece[..count],
-            &mut sixels,
-            &mut lines,
-            output,
-        )?;
+        list_piece(&mut reader, &piece[..count], listing)?;
     }
 }
 
-/// Reads the bytes of a piece, and writes the lines of the events that they complete.
+/// Reads the bytes of a piece, and writes the lines of the events that they complete, also before a fault.
 fn list_piece<K: Sink>(
     reader: &mut Reader,
     piece: &[u8],
-    sixels: &mut SixelLines,
-    lines: &mut Lines,
-    out: &mut K,
-) -> Result<(), RunFault>
-    requires { lines.old ≡ [] }
-    ensures fed { (events : List Place) (bytes : List ℕ) → StandsAfter reader.old events bytes →
-        Feeds result reader.new piece.now (K.state out.old).taken (K.state out.new).taken events bytes }
-    ensures drained { OnOk result (lines.new ≡ []) }
-    ensures failures { CountsWrites result (K.state out.old).failures (K.state out.new).failures }
+    listing: &mut Listing<'_, '_, K>,
+) -> Result<(), Halt<DeviceFault>>
+    requires { (first : ListingValue K) × (prefix : List ℕ)
+        × AreFollowed (HasListed K.state first) reader.old listing.old prefix }
+    ensures followed { OnOk result
+        (FollowsBytes (HasListed K.state) reader.old listing.old reader.new listing.new piece.now) }
+    ensures halted { IfErr result
+        (HaltsWithin (HasListed K.state) (MayFail K.state) reader.old listing.old reader.new listing.new piece.now) }
+    ensures drained { IsDrained result listing.new.lines.now }
 {
-    let fed = feed_all(reader, piece, sixels, lines, out);
-    match fed {
-        Err(RunFault::Write) => Err(RunFault::Write),
-        _ => match lines.drain(out) {
-            Ok(()) => fed,
-            Err(_) => Err(RunFault::Write),
-        },
-    }
-}
-
-/// Reads the bytes of a piece. Their lines go to the block, and from there to the sink when it is full.
-fn feed_all<K: Sink>(
-    reader: &mut Reader,
-    piece: &[u8],
-    sixels: &mut SixelLines,
-    lines: &mut Lines,
-    out: &mut K,
-) -> Result<(), RunFault>
-    ensures fed { (events : List Place) (bytes : List ℕ) → StandsAfter reader.old events bytes →
-        Feeds result reader.new piece.now
-        (in_all (K.state out.old).taken lines.old) (in_all (K.state out.new).taken lines.new) events bytes }
-    ensures more { TakesMore (K.state out.old).taken (K.state out.new).taken }
-    ensures failures { CountsWrites result (K.state out.old).failures (K.state out.new).failures }
-{
-    let mut read = 0;
-    while read < piece.len() {
-        let rest = &piece[read..];
-        if let Some(plain) = feed_digit(reader, rest[0]) {
-            match put_plain(plain, &mut sixels.line, lines, out) {
-                Ok(()) => {
-                    read += 1;
-                    continue;
-                }
-                Err(_) => return Err(RunFault::Write),
-            }
-        }
-        read += feed_some(reader, rest, sixels, lines, out)?;
-    }
-    Ok(())
-}
-
-/// Reads the byte if it is a digit and completes at most a command. It is asked first, since a definition has many.
-#[inline(always)]
-fn feed_digit(reader: &mut Reader, byte: u8) -> Option<Plain>
-    ensures accepted { IfSome result (λ plain. Takes reader.old reader.new byte (completions (plain_of plain))) }
-    ensures kept { IsNone result → reader.new ≡ reader.old }
-{
-    if byte.is_ascii_digit() {
-        reader.feed_plain(byte)
-    } else {
-        None
-    }
-}
-
-/// Reads a run of columns at the beginning of `bytes`, or else one byte, and puts the lines of the events that they
-/// complete. Returns how many bytes it read.
-#[inline(always)]
-fn feed_some<K: Sink>(
-    reader: &mut Reader,
-    bytes: &[u8],
-    sixels: &mut SixelLines,
-    lines: &mut Lines,
-    out: &mut K,
-) -> Result<usize, RunFault>
-    requires { 0 < length bytes.now }
-    ensures some { IfOk result (λ count. 0 < count) }
-    ensures within { IfOk result (λ count. count ≤ length bytes.now) }
-    ensures fed { (events : List Place) (before : List ℕ) → StandsAfter reader.old events before →
-        FeedsSome result reader.new bytes.now
-        (in_all (K.state out.old).taken lines.old) (in_all (K.state out.new).taken lines.new) events before }
-    ensures more { TakesMore (K.state out.old).taken (K.state out.new).taken }
-    ensures failures { CountsWrites result (K.state out.old).failures (K.state out.new).failures }
-{
-    if let Some(run) = reader.feed_run(bytes) {
-        return match put_run(run, bytes, sixels, lines, out) {
-            Ok(()) => Ok(run.length),
-            Err(_) => Err(RunFault::Write),
-        };
-    }
-    feed_byte(reader, bytes[0], &mut sixels.line, lines, out)?;
-    Ok(1)
-}
-
-/// Reads one byte, and puts the lines of the events that it completes. Most bytes complete at most one command.
-#[inline(always)]
-fn feed_byte<K: Sink>(
-    reader: &mut Reader,
-    byte: u8,
-    line: &mut SixelLine,
-    lines: &mut Lines,
-    out: &mut K,
-) -> Result<(), RunFault>
-    ensures fed { (events : List Place) (bytes : List ℕ) → StandsAfter reader.old events bytes →
-        Feeds result reader.new (byte ∷ [])
-        (in_all (K.state out.old).taken lines.old) (in_all (K.state out.new).taken lines.new) events bytes }
-    ensures more { TakesMore (K.state out.old).taken (K.state out.new).taken }
-    ensures failures { CountsWrites result (K.state out.old).failures (K.state out.new).failures }
-{
-    match reader.feed_command(byte) {
-        Some(plain) => match put_plain(plain, line, lines, out) {
+    match follow_bytes(reader, listing, piece) {
+        Ok(()) => match listing.lines.drain(listing.out) {
             Ok(()) => Ok(()),
-            Err(_) => Err(RunFault::Write),
+            Err(stop) => Err(Halt::Stopped(stop)),
         },
-        None => feed_rarely(reader, byte, line, lines, out),
-    }
-}
-
-/// The same for a byte that completes two commands, or of any other kind.
-#[inline(never)]
-fn feed_rarely<K: Sink>(
-    reader: &mut Reader,
-    byte: u8,
-    line: &mut SixelLine,
-    lines: &mut Lines,
-    out: &mut K,
-) -> Result<(), RunFault>
-    ensures fed { (events : List Place) (bytes : List ℕ) → StandsAfter reader.old events bytes →
-        Feeds result reader.new (byte ∷ [])
-        (in_all (K.state out.old).taken lines.old) (in_all (K.state out.new).taken lines.new) events bytes }
-    ensures more { TakesMore (K.state out.old).taken (K.state out.new).taken }
-    ensures failures { CountsWrites result (K.state out.old).failures (K.state out.new).failures }
-{
-    match reader.feed_two(byte) {
-        Some(two) => match put_two(two, line, lines, out) {
-            Ok(()) => Ok(()),
-            Err(_) => Err(RunFault::Write),
+        Err(Halt::Refused(fault)) => match listing.lines.drain(listing.out) {
+            Ok(()) => Err(Halt::Refused(fault)),
+            Err(stop) => Err(Halt::Stopped(stop)),
         },
-        None => feed_and_put(reader, byte, lines, out),
-    }
-}
-
-/// Reads any byte, and puts the lines of the events that it completes.
-#[inline(never)]
-fn feed_and_put<K: Sink>(
-    reader: &mut Reader,
-    byte: u8,
-    lines: &mut Lines,
-    out: &mut K,
-) -> Result<(), RunFault>
-    ensures fed { (events : List Place) (bytes : List ℕ) → StandsAfter reader.old events bytes →
-        Feeds result reader.new (byte ∷ [])
-        (in_all (K.state out.old).taken lines.old) (in_all (K.state out.new).taken lines.new) events bytes }
-    ensures more { TakesMore (K.state out.old).taken (K.state out.new).taken }
-    ensures failures { CountsWrites result (K.state out.old).failures (K.state out.new).failures }
-{
-    match reader.feed(byte) {
-        Ok(completed) => match put_lines(completed, lines, out) {
-            Ok(()) => Ok(()),
-            Err(_) => Err(RunFault::Write),
-        },
-        Err(fault) => Err(RunFault::Grammar(fault)),
+        Err(Halt::Stopped(stop)) => Err(Halt::Stopped(stop)),
     }
 }

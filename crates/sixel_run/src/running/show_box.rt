@@ -1,37 +1,33 @@
 //! Shows a sixel picture on a screen as large as its declared box, as a PPM.
 
-ghost use Rattle.std.specs.Prelude.{◌≡◌, ◌≢◌, ◌++◌, ◌∷◌, [], ◌<◌, ◌≤◌, ℕ, Err, List, IfErr, IfOk, IfSome, IsTrue, length};
-ghost use Rattle.std.specs.Prelude.{OnOk, option_map, take};
-ghost use Rattle.std.specs.Option.{option_to_list};
-ghost use Rattle.sixel_grammar.specs.declared.command.Event.TheVariants.{Step};
+ghost use Rattle.std.specs.Prelude.{◌≡◌, ◌++◌, ◌≤◌, ℕ, Err, List, IfErr, IfOk, IfSome, IsTrue, OnOk};
 ghost use Rattle.sixel_grammar.specs.declared.command.Event.{Event as AnEvent};
 ghost use Rattle.sixel_grammar.specs.declared.command.Placed.{Placed as Place};
 ghost use Rattle.sixel_grammar.specs.Document.{Document, events_of};
+ghost use Rattle.sixel_grammar.specs.Following.{AreFollowed, FollowsBytes};
 ghost use Rattle.sixel_grammar.specs.Prefixes.{CompleteIn};
-ghost use Rattle.sixel_grammar.specs.declared.fault.InputFault.TheVariants.{Read as ReadFault};
+ghost use Rattle.sixel_grammar.specs.declared.fault.InputFault.TheVariants.{Grammar, Read as ReadFault};
 ghost use Rattle.sixel_grammar.specs.Reading.{Explains, ExplainsAlways, NoFaultBefore, failures_after};
-ghost use Rattle.sixel_grammar.specs.Standing.{completions};
 ghost use Rattle.sixel_ppm.specs.Ppm.{is_file_side};
-ghost use Rattle.sixel_model.specs.Events.{raster_of};
 ghost use Rattle.sixel_terminal.specs.Displays.{Display};
 ghost use Rattle.sixel_terminal.specs.Drawings.{HasDrawn};
-ghost use Rattle.sixel_run.specs.Boxes.{Finds, HasRead, IsShownInBox, IsStageAfter, Reads, Refuses, box_in};
-ghost use Rattle.sixel_run.specs.Boxes.{terminal_of_kind};
+ghost use Rattle.sixel_run.specs.Boxes.{HasRead, IsShownInBox, IsStageAfter, terminal_of_kind};
 ghost use Rattle.sixel_run.specs.declared.fault.RunFault.TheVariants.{Read};
 ghost use Rattle.sixel_run.specs.Outputs.{CountsWrites, ShowBoxGives, WroteBy, WroteNothing, failures_by};
 ghost use Rattle.sixel_run.specs.Screens.{DeclareScreenIn, screen_terminal, sides_of_box};
 
+use super::box_finder::BoxFinder;
 use super::kept::kept_with;
 use super::screen::write_screen;
 use super::show::{show_choices, terminal_of};
 use crate::fault::RunFault;
 use crate::task::{MOST_SCREEN_SIDE, Status};
-use sixel_grammar::{Command, Completed, Event, InputFault, Placed, Plain, Reader};
+use sixel_grammar::{Fault, Follower, InputFault, Reader, follow_bytes};
 use sixel_io::{PIECE, Sink, Source};
-use sixel_mend::follow_bytes;
 use sixel_model::Profile;
 use sixel_terminal::{Drawing, Screen};
 use std::alloc::Global;
+use std::convert::Infallible;
 
 /// A terminal of `show`, whose screen may have any sides.
 #[derive(Clone, Copy, Debug)]
@@ -123,6 +119,7 @@ impl Stage {
         reader: &mut Reader,
         piece: &[u8],
     ) -> Result<Stage, InputFault>
+        requires { (bytes : List ℕ) × HasRead (terminal_of_kind kind) reader.old self bytes }
         ensures read { IfOk result (λ stage. (bytes : List ℕ) →
             HasRead (terminal_of_kind kind) reader.old self bytes →
             HasRead (terminal_of_kind kind) reader.new stage (bytes ++ piece.now)) }
@@ -134,11 +131,11 @@ impl Stage {
         match self {
             Stage::Undeclared(kept) => look_for_box(alloc, kind, kept, reader, piece),
             Stage::Drawn(mut drawing) => {
-                follow_bytes(reader, &mut drawing, piece)?;
+                follow(reader, &mut drawing, piece)?;
                 Ok(Stage::Drawn(drawing))
             }
             Stage::Unshowable => {
-                read_on(reader, piece)?;
+                follow(reader, &mut (), piece)?;
                 Ok(Stage::Unshowable)
             }
         }
@@ -165,6 +162,7 @@ fn look_for_box(
     reader: &mut Reader,
     piece: &[u8],
 ) -> Result<Stage, InputFault>
+    requires { (bytes : List ℕ) × HasRead (terminal_of_kind kind) reader.old (Stage.Undeclared kept) bytes }
     ensures read { IfOk result (λ stage. (bytes : List ℕ) →
         HasRead (terminal_of_kind kind) reader.old (Stage.Undeclared kept) bytes →
         HasRead (terminal_of_kind kind) reader.new stage (bytes ++ piece.now)) }
@@ -175,7 +173,9 @@ fn look_for_box(
         HasRead (terminal_of_kind kind) reader.old (Stage.Undeclared kept) bytes →
         DeclareScreenIn (bytes ++ piece.now) }
 {
-    match find_box(reader, piece)? {
+    let mut finder = BoxFinder { found: None };
+    follow(reader, &mut finder, piece)?;
+    match finder.found {
         None => Ok(Stage::Undeclared(kept_with(kept, piece))),
         Some((width, height)) => match sides_of_box(width, height) {
             None => Ok(Stage::Unshowable),
@@ -208,131 +208,24 @@ fn draw_bytes(
     let choices = show_choices(kind.showing, kind.fill, kind.selects, width, height);
     let mut drawing = Drawing::new(alloc, terminal_of(alloc, kind.profile, choices)?)?;
     let mut reader = Reader::new();
-    follow_bytes(&mut reader, &mut drawing, bytes)?;
-    follow_bytes(&mut reader, &mut drawing, piece)?;
+    follow(&mut reader, &mut drawing, bytes)?;
+    follow(&mut reader, &mut drawing, piece)?;
     Ok(drawing)
 }
 
-/// Reads the bytes of a piece, whichever box they declare.
-pub fn read_on(reader: &mut Reader, piece: &[u8]) -> Result<(), InputFault>
-    ensures read { OnOk result (Reads reader.old reader.new piece.now) }
-    ensures refused { IfErr result (Refuses reader.old piece.now) }
-    ensures memory { result ≢ Err InputFault.OutOfMemory }
-{
-    find_box(reader, piece)?;
-    Ok(())
-}
-
-/// Reads the bytes of a piece. Returns the first box that they declare: its width and its height.
-fn find_box(reader: &mut Reader, piece: &[u8]) -> Result<Option<(u16, u16)>, InputFault>
-    ensures found { IfOk result (λ found. Finds reader.old reader.new found piece.now) }
-    ensures refused { IfErr result (Refuses reader.old piece.now) }
-    ensures memory { result ≢ Err InputFault.OutOfMemory }
-{
-    let mut found = None;
-    let mut read = 0;
-    while read < piece.len() {
-        let (count, later) = find_in_part(reader, &piece[read..])?;
-        found = found.or(later);
-        read += count;
-    }
-    Ok(found)
-}
-
-/// Reads a run of columns at the beginning of `bytes`, or else one byte. Returns how many bytes it read, and the box that
-/// they declare.
-#[inline(always)]
-fn find_in_part(
+/// Reads the bytes of a piece, and hands the events that they complete on to what never stops.
+fn follow<F: Follower<Stop = Infallible>>(
     reader: &mut Reader,
-    bytes: &[u8],
-) -> Result<(usize, Option<(u16, u16)>), InputFault>
-    requires { 0 < length bytes.now }
-    ensures some { IfOk result (λ part. 0 < part.0) }
-    ensures within { IfOk result (λ part. part.0 ≤ length bytes.now) }
-    ensures found { IfOk result (λ part. Finds reader.old reader.new part.1 (take part.0 bytes.now)) }
-    ensures refused { IfErr result (Refuses reader.old (take 1 bytes.now)) }
-    ensures memory { result ≢ Err InputFault.OutOfMemory }
+    follower: &mut F,
+    piece: &[u8],
+) -> Result<(), Fault>
+    requires { (first : F) × (prefix : List ℕ) × AreFollowed (F.has_taken first) reader.old follower.old prefix }
+    ensures followed { OnOk result (FollowsBytes F.has_taken reader.old follower.old reader.new follower.new piece.now) }
+    ensures refused { IfErr result (λ fault. (first : F) (prefix : List ℕ) →
+        AreFollowed (F.has_taken first) reader.old follower.old prefix →
+        ExplainsAlways (Grammar fault) (prefix ++ piece.now)) }
 {
-    if let Some(run) = reader.feed_run(bytes) {
-        return Ok((run.length, None));
-    }
-    Ok((1, find_in_byte(reader, bytes[0])?))
-}
-
-/// Reads one byte, and returns the first box that it declares. Most bytes complete at most one command.
-#[inline(always)]
-fn find_in_byte(reader: &mut Reader, byte: u8) -> Result<Option<(u16, u16)>, InputFault>
-    ensures found { IfOk result (λ found. Finds reader.old reader.new found (byte ∷ [])) }
-    ensures refused { IfErr result (Refuses reader.old (byte ∷ [])) }
-    ensures memory { result ≢ Err InputFault.OutOfMemory }
-{
-    match reader.feed_command(byte) {
-        Some(Plain::Nothing) => Ok(box_of(None)),
-        Some(Plain::Command { place, command }) => Ok(box_of(Some(Placed {
-            place,
-            event: Event::Step(command),
-        }))),
-        None => find_in_byte_rarely(reader, byte),
-    }
-}
-
-/// The same for a byte that completes two commands, or of any other kind.
-#[inline(never)]
-fn find_in_byte_rarely(reader: &mut Reader, byte: u8) -> Result<Option<(u16, u16)>, InputFault>
-    ensures found { IfOk result (λ found. Finds reader.old reader.new found (byte ∷ [])) }
-    ensures refused { IfErr result (Refuses reader.old (byte ∷ [])) }
-    ensures memory { result ≢ Err InputFault.OutOfMemory }
-{
-    match reader.feed_two(byte) {
-        Some(two) => Ok(box_in_command(two.ended).or(box_in_command(two.own))),
-        None => find_in_byte_of_any_kind(reader, byte),
-    }
-}
-
-/// Reads one byte of any kind, and returns the first box that it declares.
-#[inline(never)]
-fn find_in_byte_of_any_kind(reader: &mut Reader, byte: u8) -> Result<Option<(u16, u16)>, InputFault>
-    ensures found { IfOk result (λ found. Finds reader.old reader.new found (byte ∷ [])) }
-    ensures refused { IfErr result (Refuses reader.old (byte ∷ [])) }
-    ensures memory { result ≢ Err InputFault.OutOfMemory }
-{
-    let completed = reader.feed(byte)?;
-    Ok(box_in(completed))
-}
-
-/// The first box that the events declare.
-fn box_in(completed: Completed) -> Option<(u16, u16)>
-    ensures { result ≡ box_in (events_of (completions completed)) }
-{
-    let Completed { first, second } = completed;
-    box_of(first).or(box_of(second))
-}
-
-/// The box that the event declares, if there is an event.
-fn box_of(placed: Option<Placed>) -> Option<(u16, u16)>
-    ensures { result ≡ box_in (events_of (option_to_list placed)) }
-{
-    match placed {
-        Some(placed) => box_in_raster(&placed.event),
-        None => None,
-    }
-}
-
-/// The box that the command declares.
-fn box_in_command(command: Command) -> Option<(u16, u16)>
-    ensures { result ≡ box_in (Step command ∷ []) }
-{
-    box_in_raster(&Event::Step(command))
-}
-
-/// The box of raster attributes: its width and its height.
-fn box_in_raster(event: &Event) -> Option<(u16, u16)>
-    ensures { result ≡ option_map (λ a. (a.width, a.height)) (raster_of event.now) }
-{
-    match event {
-        Event::Step(Command::Raster { width, height, .. }) => Some((*width, *height)),
-        _ => None,
-    }
+    Ok(follow_bytes(reader, follower, piece)?)
 }
 
 /// This width and height, if a screen can have them.

@@ -34,10 +34,13 @@ returns-in_err-follow_source g c =
     let halt = c.in_err-follow_source.field-0.0 in
     let e = c.in_err-follow_source.ensures in
     record {
-      seen = rw (failed.1, failed.2) (halt_explains HasTaken MayStop c.new-checker.result known halt e.halted);
+      seen = rw (failed.1, failed.2)
+          (halt_explains HasTaken MayStop c.new-checker.result c.follow_source.new.follower known halt e.halted);
       whole = none_whole c.from_residual.result _ (failed.1 ∙ ap Err failed.2);
       failures = rw (failed.1, failed.2) (e.failures ∙ halt_failures CheckerValue halt _);
       unread = rw (failed.1, failed.2) (halt_unread CheckerValue _ halt e.unread);
       left = rw (failed.1, failed.2) (record { read = e.left.read; ended = tt });
-      memory = rw (failed.1, failed.2) (source_memory n c.new-checker.result known halt e.halted c.new-checker.ensures);
+      memory = rw (failed.1, failed.2)
+          (source_memory n c.new-checker.result c.follow_source.new.follower known halt e.halted
+          c.new-checker.ensures);
     }

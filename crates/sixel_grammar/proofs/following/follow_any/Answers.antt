@@ -33,6 +33,6 @@ pub returns-clause-halted : goal.returns-clause-halted
 returns-clause-halted g c =
     if_halt c.hand_completed.result c.halted.result _ _ c.halted.ensures
     (λ stop. stopped_byte g.F.Follower.has_taken g.F.Follower.may_stop c.args.reader.now c.feed.new.self
-    c.args.follower.now c.args.byte (completions c.in_ok-completed.completed) stop
+    c.args.follower.now c.hand_completed.new.follower c.args.byte (completions c.in_ok-completed.completed) stop
     c.in_ok-completed.ensures.accepted)
     c.hand_completed.ensures.stopped

@@ -20,10 +20,10 @@ returns-in_err-count-clause-halted g c =
     rw (failed.1, failed.2)
     (subst (λ (t : List ℕ).
     HaltsWithin g.F.Follower.has_taken g.F.Follower.may_stop c.args.reader.now c.args.follower.now
-    c.follow_some.new.reader t c.in_err-count.field-0.0) (sym i.1)
+    c.follow_some.new.reader c.follow_some.new.follower t c.in_err-count.field-0.0) (sym i.1)
     (halts_later g.F.Follower.has_taken g.F.Follower.may_stop c.args.reader.now c.loop-rest.reader
-    c.follow_some.new.reader c.args.follower.now c.loop-rest.follower i.0 c.loop-rest.rest.now
-    c.in_err-count.field-0.0 i.2 c.in_err-count.ensures.halted))
+    c.follow_some.new.reader c.args.follower.now c.loop-rest.follower c.follow_some.new.follower i.0
+    c.loop-rest.rest.now c.in_err-count.field-0.0 i.2 c.in_err-count.ensures.halted))
 
 pub loop-rest-preserved : goal.loop-rest-preserved
 loop-rest-preserved g c =

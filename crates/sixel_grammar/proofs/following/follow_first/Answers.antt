@@ -11,9 +11,10 @@ returns-in_err-follow_sign-clause-halted g c =
     rw (failed.1, failed.2)
     (subst (λ (t : List ℕ).
     HaltsWithin g.F.Follower.has_taken g.F.Follower.may_stop c.args.reader.now c.args.follower.now
-    c.follow_sign.new.reader t c.in_err-follow_sign.field-0.0) (first_rest bytes c.requires.some)
+    c.follow_sign.new.reader c.follow_sign.new.follower t c.in_err-follow_sign.field-0.0)
+    (first_rest bytes c.requires.some)
     (halts_longer g.F.Follower.has_taken g.F.Follower.may_stop c.args.reader.now c.follow_sign.new.reader
-    c.args.follower.now (get_or bytes 0 0 ∷ []) (drop 1 bytes) c.in_err-follow_sign.field-0.0
+    c.args.follower.now c.follow_sign.new.follower (get_or bytes 0 0 ∷ []) (drop 1 bytes) c.in_err-follow_sign.field-0.0
     c.in_err-follow_sign.ensures.halted))
 
 pub returns-in_err-follow_data-clause-halted : goal.returns-in_err-follow_data-clause-halted
@@ -24,7 +25,8 @@ returns-in_err-follow_data-clause-halted g c =
     rw (failed.1, failed.2)
     (subst (λ (t : List ℕ).
     HaltsWithin g.F.Follower.has_taken g.F.Follower.may_stop c.args.reader.now c.args.follower.now
-    c.follow_data.new.reader t c.in_err-follow_data.field-0.0) (first_rest bytes c.requires.some)
+    c.follow_data.new.reader c.follow_data.new.follower t c.in_err-follow_data.field-0.0)
+    (first_rest bytes c.requires.some)
     (halts_longer g.F.Follower.has_taken g.F.Follower.may_stop c.args.reader.now c.follow_data.new.reader
-    c.args.follower.now (get_or bytes 0 0 ∷ []) (drop 1 bytes) c.in_err-follow_data.field-0.0
+    c.args.follower.now c.follow_data.new.follower (get_or bytes 0 0 ∷ []) (drop 1 bytes) c.in_err-follow_data.field-0.0
     c.in_err-follow_data.ensures.halted))

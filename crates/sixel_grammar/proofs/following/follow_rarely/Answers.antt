@@ -27,7 +27,8 @@ pub returns-in-Some-clause-halted : goal.returns-in-Some-clause-halted
 returns-in-Some-clause-halted g c =
     if_halt c.hand_two.result c.halted.result _ _ c.halted.ensures
     (λ stop. stopped_byte g.F.Follower.has_taken g.F.Follower.may_stop c.args.reader.now c.feed_two.new.self
-    c.args.follower.now c.args.byte (two_commands c.in-Some.two) stop c.in-Some.ensures.accepted)
+    c.args.follower.now c.hand_two.new.follower c.args.byte (two_commands c.in-Some.two) stop
+    c.in-Some.ensures.accepted)
     c.hand_two.ensures.stopped
 
 pub follow_any-requires : goal.follow_any-requires
@@ -52,5 +53,5 @@ returns-in-None g c =
       halted = subst (λ (r : Reader).
           IfErr c.follow_any.result
           (HaltsWithin g.F.Follower.has_taken g.F.Follower.may_stop r c.args.follower.now c.follow_any.new.reader
-          (c.args.byte ∷ []))) same ensured.halted;
+          c.follow_any.new.follower (c.args.byte ∷ []))) same ensured.halted;
     }

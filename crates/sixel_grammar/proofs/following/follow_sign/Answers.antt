@@ -43,5 +43,5 @@ returns-in-Some-Command-clause-halted g c =
     let accepted : takes plain = subst takes c.in-Some-Command.field-0-is c.in-Some-Command.ensures.accepted in
     if_halt c.take_command.result c.halted.result _ _ c.halted.ensures
     (λ stop. stopped_byte g.F.Follower.has_taken g.F.Follower.may_stop c.args.reader.now c.feed_command.new.self
-    c.args.follower.now c.args.byte (completions (plain_of plain)) stop accepted)
+    c.args.follower.now c.take_command.new.self c.args.byte (completions (plain_of plain)) stop accepted)
     c.take_command.ensures.stopped

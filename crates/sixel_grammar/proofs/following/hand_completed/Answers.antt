@@ -14,7 +14,7 @@ pub returns-in_err-hand_one-clause-stopped : goal.returns-in_err-hand_one-clause
 returns-in_err-hand_one-clause-stopped g c =
     let failed = err_from_is_err_and c.from_residual.result c.from_residual.ensures.1 in
     rw (failed.1, failed.2)
-    (stops_first g.F.Follower.has_taken g.F.Follower.may_stop c.args.follower.now
+    (stops_first g.F.Follower.has_taken g.F.Follower.may_stop c.args.follower.now c.hand_one.new.follower
     (option_to_list c.args.completed.first) (option_to_list c.args.completed.second) _
     c.in_err-hand_one.ensures.stopped)
 
@@ -32,6 +32,6 @@ pub returns-clause-stopped : goal.returns-clause-stopped
 returns-clause-stopped g c =
     if_err c.hand_one-2.result _ _
     (λ stop s. stops_then g.F.Follower.has_taken g.F.Follower.may_stop c.args.follower.now c.hand_one.new.follower
-    (option_to_list c.args.completed.first) (option_to_list c.args.completed.second) stop
+    c.hand_one-2.new.follower (option_to_list c.args.completed.first) (option_to_list c.args.completed.second) stop
     c.in_ok-hand_one.ensures.taken s)
     c.hand_one-2.ensures.stopped

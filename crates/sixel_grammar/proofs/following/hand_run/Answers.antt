@@ -21,7 +21,7 @@ returns-in_err-hand_select-clause-stopped g c =
     let run = c.args.run in
     let failed = err_from_is_err_and c.from_residual.result c.from_residual.ensures.1 in
     rw (failed.1, failed.2)
-    (stops_first g.F.Follower.has_taken g.F.Follower.may_stop c.args.follower.now
+    (stops_first g.F.Follower.has_taken g.F.Follower.may_stop c.args.follower.now c.hand_select.new.follower
     (select_events run.place run.select)
     (column_events (run.place + run.start) run.columns (columns_in run c.args.bytes.now)) _
     c.in_err-hand_select.ensures.stopped)
@@ -45,10 +45,10 @@ returns-clause-stopped g c =
     let run = c.args.run in
     if_err c.hand_columns.result _ _
     (λ stop s. stops_then g.F.Follower.has_taken g.F.Follower.may_stop c.args.follower.now c.hand_select.new.follower
-    (select_events run.place run.select)
+    c.hand_columns.new.follower (select_events run.place run.select)
     (column_events (run.place + run.start) run.columns (columns_in run c.args.bytes.now)) stop
     c.in_ok-hand_select.ensures.taken
     (subst (λ (t : List ℕ). StopsAmong g.F.Follower.has_taken g.F.Follower.may_stop c.hand_select.new.follower
-    (column_events (run.place + run.start) run.columns t) stop)
+    c.hand_columns.new.follower (column_events (run.place + run.start) run.columns t) stop)
     (columns_are run c.args.bytes.now) s))
     c.hand_columns.ensures.stopped

@@ -8,7 +8,7 @@ pub returns-in_err-take-clause-stopped : goal.returns-in_err-take-clause-stopped
 returns-in_err-take-clause-stopped g c =
     let failed = err_from_is_err_and c.from_residual.result c.from_residual.ensures.1 in
     rw (failed.1, failed.2)
-    (stops_first g.F.Follower.has_taken g.F.Follower.may_stop c.args.follower.now
+    (stops_first g.F.Follower.has_taken g.F.Follower.may_stop c.args.follower.now c.take.new.self
     (command_at c.args.two.place c.args.two.ended ∷ []) (command_at c.args.two.own_place c.args.two.own ∷ []) _
     c.in_err-take.ensures.stopped)
 
@@ -26,6 +26,7 @@ pub returns-clause-stopped : goal.returns-clause-stopped
 returns-clause-stopped g c =
     if_err c.take-2.result _ _
     (λ stop s. stops_then g.F.Follower.has_taken g.F.Follower.may_stop c.args.follower.now c.take.new.self
-    (command_at c.args.two.place c.args.two.ended ∷ []) (command_at c.args.two.own_place c.args.two.own ∷ []) stop
+    c.take-2.new.self (command_at c.args.two.place c.args.two.ended ∷ [])
+    (command_at c.args.two.own_place c.args.two.own ∷ []) stop
     c.in_ok-take.ensures.taken s)
     c.take-2.ensures.stopped

@@ -1,7 +1,6 @@
-use Rattle.std.proofs.Common.{◌++◌, Result, subst, take}
-use Rattle.std.specs.Prelude.{IfErr, OnOk}
+use Rattle.std.proofs.Common.{◌++◌, take}
 use Rattle.std.proofs.lemmas.Result.{err_from_is_err_and}
-use Rattle.sixel_grammar.specs.Following.{FollowsBytes, HaltsWithin}
+use Rattle.sixel_grammar.specs.Following.{HaltsWithin}
 use Rattle.sixel_grammar.specs.Runs.{events_of_run}
 use Rattle.sixel_grammar.proofs.FollowingLemmas.{followed_run, if_halt, may_all, on_halt, stopped_run}
 use Rattle.sixel_grammar.proofs.following.try_follow_run.Goals as goal
@@ -23,9 +22,9 @@ returns-in_err-halted-in-Some-clause-halted g c =
     let failed = err_from_is_err_and c.from_residual.result c.from_residual.ensures.1 in
     let halts = if_halt c.hand_run.result c.halted.result _
     (HaltsWithin g.F.Follower.has_taken g.F.Follower.may_stop c.args.reader.now c.args.follower.now
-    c.feed_run.new.self c.args.bytes.now) c.halted.ensures
+    c.feed_run.new.self c.hand_run.new.follower c.args.bytes.now) c.halted.ensures
     (λ stop. stopped_run g.F.Follower.has_taken g.F.Follower.may_stop c.args.reader.now c.feed_run.new.self
-    c.args.follower.now c.in-Some.run' c.args.bytes.now stop c.in-Some.ensures.taken)
+    c.args.follower.now c.hand_run.new.follower c.in-Some.run' c.args.bytes.now stop c.in-Some.ensures.taken)
     c.hand_run.ensures.stopped in
     rw (failed.1, failed.2) (rw c.in_err-halted-in-Some.was at halts)
 

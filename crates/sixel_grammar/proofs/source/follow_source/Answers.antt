@@ -158,9 +158,10 @@ returns-in_err-follow_bytes-clause-halted g c =
     let exit = c.from_residual-in_err-follow_bytes in
     let failed = err_from_is_err_and exit.result exit.ensures.1 in
     rw (failed.1, failed.2)
-    (halts_source g.F.Follower.has_taken g.F.Follower.may_stop c.args.follower.now c.loop-count.follower c.requires.0
-    c.loop-count.reader c.follow_bytes.new.reader i.0 more (g.I.Source.state c.args.input.now).remaining
-    (g.I.Source.state c.fill.new.self).remaining c.in_err-follow_bytes.field-0.0 c.requires.1 i.1
+    (halts_source g.F.Follower.has_taken g.F.Follower.may_stop c.args.follower.now c.loop-count.follower
+    c.follow_bytes.new.follower c.requires.0 c.loop-count.reader c.follow_bytes.new.reader i.0 more
+    (g.I.Source.state c.args.input.now).remaining (g.I.Source.state c.fill.new.self).remaining
+    c.in_err-follow_bytes.field-0.0 c.requires.1 i.1
     (consumes-then (g.I.Source.state c.args.input.now).remaining (g.I.Source.state c.loop-count.input).remaining
     (g.I.Source.state c.fill.new.self).remaining i.0 more i.2 c.in_ok-count.ensures.bytes.0)
     c.in_err-follow_bytes.ensures.halted)

@@ -1,5 +1,5 @@
 use Rattle.std.proofs.Common.{◌<◌, ◌+◌, ◌∙◌, arith, length, subst, sym}
-use Rattle.sixel_judge.specs.declared.rule.Rule.TheVariants.{Outside}
+use Rattle.sixel_model.specs.declared.rule.Rule.TheVariants.{Outside}
 use Rattle.sixel_survey.specs.Stretches.{with_sixels}
 use Rattle.sixel_survey.specs.Tallies.{IsTallyOf}
 use Rattle.sixel_survey.proofs.StretchLemmas.{hit_nowhere, hit_there, outside_each, over_all, tally_more, tally_start}

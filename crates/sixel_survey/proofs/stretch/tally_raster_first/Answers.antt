@@ -1,6 +1,6 @@
 use Rattle.std.proofs.Common.{◌≡◌, false, true, rules, subst, sym}
 use Rattle.sixel_grammar.specs.Stretches.{sixels_from}
-use Rattle.sixel_judge.specs.declared.rule.Rule.TheVariants.{RasterFirst}
+use Rattle.sixel_model.specs.declared.rule.Rule.TheVariants.{RasterFirst}
 use Rattle.sixel_survey.specs.Tallies.{IsTallyOf, tally_in}
 use Rattle.sixel_survey.proofs.StretchLemmas.{raster_first_each, raster_first_none, tally_passed}
 use Rattle.sixel_survey.proofs.TallyingLemmas.{tallied_kept, tallied_set}

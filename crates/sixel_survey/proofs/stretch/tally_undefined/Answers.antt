@@ -1,6 +1,6 @@
 use Rattle.std.proofs.Common.{◌≡◌, ◌∙◌, false, true, subst, sym}
 use Rattle.sixel_grammar.specs.Stretches.{sixels_from}
-use Rattle.sixel_judge.specs.declared.rule.Rule.TheVariants.{Undefined}
+use Rattle.sixel_model.specs.declared.rule.Rule.TheVariants.{Undefined}
 use Rattle.sixel_model.specs.Profiles.{count_of}
 use Rattle.sixel_model.proofs.PictureLemmas.{at_most_256}
 use Rattle.sixel_survey.specs.Notes.{lacks_definition_in}

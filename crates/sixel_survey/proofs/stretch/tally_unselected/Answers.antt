@@ -1,6 +1,6 @@
 use Rattle.std.proofs.Common.{◌≡◌, ◌∙◌, false, true, ap, not, subst, sym}
 use Rattle.sixel_grammar.specs.Stretches.{sixels_from}
-use Rattle.sixel_judge.specs.declared.rule.Rule.TheVariants.{Unselected}
+use Rattle.sixel_model.specs.declared.rule.Rule.TheVariants.{Unselected}
 use Rattle.std.specs.Prelude.{is_none}
 use Rattle.sixel_survey.specs.Notes.{known_in}
 use Rattle.sixel_survey.specs.Tallies.{IsTallyOf, tally_in}

@@ -1,4 +1,4 @@
-use Rattle.sixel_judge.specs.declared.rule.Rule.TheVariants.{Outside}
+use Rattle.sixel_model.specs.declared.rule.Rule.TheVariants.{Outside}
 use Rattle.sixel_survey.proofs.StretchLemmas.{inside_none, tally_passed}
 use Rattle.sixel_survey.proofs.stretch.tally_with_box.Goals as goal
 

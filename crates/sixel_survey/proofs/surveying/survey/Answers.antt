@@ -19,10 +19,12 @@ pub returns-in_err-follow_source-clause-memory : goal.returns-in_err-follow_sour
 returns-in_err-follow_source-clause-memory g c =
     let failed = err_from_is_err_and c.from_residual.result c.from_residual.ensures.1 in
     rw (failed.1, failed.2)
-    (halt_memory Survey (HasTaken (λ s. s.surveyor)) MayStop _ (g.S.Source.state c.args.input.now).remaining
+    (halt_memory Survey (HasTaken (λ s. s.surveyor)) MayStop _ c.follow_source.new.follower
+    (g.S.Source.state c.args.input.now).remaining
     c.in_err-follow_source.field-0.0 DeclareBoxIn
     (λ stop bytes.
-    declares_in (λ s. s.surveyor) (count_of c.args.profile) _ stop bytes c.new-surveyor.ensures)
+    declares_in (λ s. s.surveyor) (count_of c.args.profile) _ c.follow_source.new.follower stop bytes
+    c.new-surveyor.ensures)
     c.in_err-follow_source.ensures.halted)
 
 pub finish-requires : goal.finish-requires

@@ -1,8 +1,8 @@
 use Rattle.std.proofs.Common.{◌<◌, ◌+◌, ◌++◌, ◌∷◌, [], ◌∙◌, List, None, Some, ap, arith, length, refl, sym, take}
 use Rattle.std.proofs.lemmas.List.{append-nil, length-take}
-use Rattle.sixel_judge.specs.declared.rule.Rule.TheVariants.{EightBit}
+use Rattle.sixel_model.specs.declared.rule.Rule.TheVariants.{EightBit}
+use Rattle.sixel_model.specs.Rules.{all_rules}
 use Rattle.sixel_survey.specs.declared.entry.Entry.{Entry}
-use Rattle.sixel_survey.specs.Surveys.{all_rules}
 use Rattle.sixel_survey.specs.Tallies.{entry_in}
 use Rattle.sixel_survey.proofs.SurveyorLemmas.{few_kept, kept_more}
 use Rattle.sixel_survey.proofs.surveyor.entries_of.Goals as goal

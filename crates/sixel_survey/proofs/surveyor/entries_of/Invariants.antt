@@ -1,6 +1,6 @@
 use Rattle.std.proofs.Common.{◌≡◌, take}
 use Rattle.std.specs.Prelude.{filter_map}
-use Rattle.sixel_survey.specs.Surveys.{all_rules}
+use Rattle.sixel_model.specs.Rules.{all_rules}
 use Rattle.sixel_survey.specs.Tallies.{entry_in}
 use Rattle.sixel_survey.proofs.surveyor.entries_of.Given as goal
 

@@ -1,7 +1,6 @@
 use Rattle.std.proofs.Common.{◌≡◌, ◌∙◌, ◌<◌, ◌-◌, ℕ, false, [], List, Option, IsNone, IsSome, ap, arith, get_or, length, refl, subst, sym}
 use Rattle.std.proofs.lemmas.Bool.{eqb-true}
 use Rattle.std.proofs.lemmas.List.{get_or-take, length-take}
-use Rattle.sixel_grammar.specs.declared.command.Columns.{Columns}
 use Rattle.sixel_grammar.specs.declared.command.Run.{Run}
 use Rattle.sixel_grammar.specs.Bytes.{is_data}
 use Rattle.sixel_grammar.specs.Document.{most_bytes}

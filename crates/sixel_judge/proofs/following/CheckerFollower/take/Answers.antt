@@ -11,4 +11,5 @@ pub push-requires-clause-spellable : goal.push-requires-clause-spellable
 push-requires-clause-spellable g c = (event_may c.requires.1 c.args.placed.now c.requires.3).1
 
 pub returns-clause-stopped : goal.returns-clause-stopped
-returns-clause-stopped g c = stops_one c.args.self.now c.args.placed.now c.push.result c.push.ensures.grows
+returns-clause-stopped g c =
+    stops_one c.args.self.now c.push.new.self c.args.placed.now c.push.result c.push.ensures.grows

@@ -4,4 +4,5 @@ use Rattle.sixel_judge.proofs.following.CheckerFollower.take_command.Goals as go
 
 pub returns-in_default-clause-stopped : goal.returns-in_default-clause-stopped
 returns-in_default-clause-stopped g c =
-    stops_one c.args.self.now (command_at c.args.place c.args.command) c.push_rarely.result c.push_rarely.ensures.grows
+    stops_one c.args.self.now c.push_rarely.new.checker (command_at c.args.place c.args.command)
+    c.push_rarely.result c.push_rarely.ensures.grows

@@ -14,4 +14,5 @@ returns-clause-taken g c =
 
 pub returns-clause-stopped : goal.returns-clause-stopped
 returns-clause-stopped g c =
-    stops_one c.args.self.now (command_at c.args.place (Select c.args.register)) c.push_command.result c.push_command.ensures.grows
+    stops_one c.args.self.now c.push_command.new.checker (command_at c.args.place (Select c.args.register))
+    c.push_command.result c.push_command.ensures.grows

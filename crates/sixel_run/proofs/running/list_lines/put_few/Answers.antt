@@ -4,7 +4,7 @@ use Rattle.sixel_run.proofs.running.list_lines.put_few.Goals as goal
 
 pub returns-then-try_put : goal.returns-then-try_put
 returns-then-try_put g c =
-    through-as (c.as_slice.ensures.text ∙ c.make_lines.ensures) (through-added (c.if-try_put.ensures.put refl))
+    through-as (c.as_slice.ensures.text ∙ c.set.ensures) (through-added (c.if-try_put.ensures.put refl))
 
 pub returns : goal.returns
 returns g c = rw (c.if-try_put.ensures.full refl).0 at c.put_each-2.ensures

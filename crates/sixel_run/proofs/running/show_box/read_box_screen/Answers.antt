@@ -1,14 +1,13 @@
-use Rattle.std.proofs.Common.{◌≡◌, ◌+◌, ◌<◌, ◌≤◌, ◌++◌, List, [], length, length-append, take, refl, sym, ap, subst, ◌∙◌}
+use Rattle.std.proofs.Common.{◌≡◌, ◌+◌, ◌<◌, ◌≤◌, ◌++◌, List, [], length, length-append, take, refl, sym, ◌∙◌}
 use Rattle.std.proofs.Common.{arith}
-use Rattle.std.proofs.lemmas.List.{append-nil, length-take-le}
+use Rattle.std.proofs.lemmas.List.{length-take-le}
 use Rattle.std.proofs.lemmas.Result.{err_from_is_err_and}
 use Rattle.sixel_grammar.specs.declared.command.Placed.{Placed}
 use Rattle.sixel_grammar.specs.Document.{Document, events_of, most_bytes}
-use Rattle.sixel_grammar.specs.Faults.{IsFaultOf}
 use Rattle.sixel_grammar.specs.Reading.{Explains}
 use Rattle.sixel_grammar.specs.Standing.{left_of}
 use Rattle.sixel_grammar.specs.declared.fault.InputFault.TheVariants.{Grammar}
-use Rattle.sixel_grammar.proofs.SourceLemmas.{all_read, consumes-then, no_fault_before, refused_early, take_none}
+use Rattle.sixel_grammar.proofs.SourceLemmas.{consumes-then, no_fault_before, refused_early, told_all}
 use Rattle.sixel_judge.proofs.PieceLemmas.{not_failed}
 use Rattle.sixel_run.specs.Boxes.{IsShownInBox, terminal_of_kind}
 use Rattle.sixel_run.proofs.StageLemmas.{box-of-none, declares-early, nothing-taken}
@@ -20,7 +19,7 @@ loop-stage-init g c = (
   record {
     events = [];
     read = c.new-reader.ensures;
-    stands = (c.new.ensures.items, sym box-of-none);
+    taken = (c.new.ensures.items, sym box-of-none);
   },
   nothing-taken (g.S.Source.state c.args.input.now).remaining,
   refl,
@@ -30,16 +29,11 @@ pub returns-in_err-finish-clause-refused : goal.returns-in_err-finish-clause-ref
 returns-in_err-finish-clause-refused g c =
     let i = c.loop-stage.invariant in
     let b = c.in_ok-count.ensures.bytes in
-    let z : c.in_ok-count.count ≡ 0 = omega arith in
-    let none = take_none c.in_ok-count.count c.fill.new.piece z in
-    let some : 0 < length c.fill.new.piece = omega arith in
+    let none : c.in_ok-count.count ≡ 0 = omega arith in
     let failed = err_from_is_err_and c.from_residual-in_err-finish.result c.from_residual-in_err-finish.ensures.1 in
     rw (failed.1, failed.2)
-    (all_read _ _ (i.0 ++ take c.in_ok-count.count c.fill.new.piece)
-    (Explains (Grammar c.in_err-finish.field-0.0))
-    (consumes-then _ _ _ i.0 (take c.in_ok-count.count c.fill.new.piece) i.2 b.0) (b.1 z some)
-    (subst (λ t. IsFaultOf t c.in_err-finish.field-0.0) (sym (ap (λ t. i.0 ++ t) none ∙ append-nil i.0))
-    (c.in_err-finish.ensures.answer i.1.events i.0 i.1.read).0))
+    (told_all _ _ _ i.0 c.fill.new.piece c.in_ok-count.count (Explains (Grammar c.in_err-finish.field-0.0)) i.2 b.0 none
+    (b.1 none (omega arith)) (c.in_err-finish.ensures.answer i.1.events i.0 i.1.read).0)
 
 pub returns-in_err-stage-clause-refused : goal.returns-in_err-stage-clause-refused
 returns-in_err-stage-clause-refused g c =
@@ -64,17 +58,14 @@ pub returns-then-count-eq0-clause-shown : goal.returns-then-count-eq0-clause-sho
 returns-then-count-eq0-clause-shown g c =
     let i = c.loop-stage.invariant in
     let b = c.in_ok-count.ensures.bytes in
-    let z : c.in_ok-count.count ≡ 0 = omega arith in
-    let none = take_none c.in_ok-count.count c.fill.new.piece z in
-    let some : 0 < length c.fill.new.piece = omega arith in
-    all_read _ _ (i.0 ++ take c.in_ok-count.count c.fill.new.piece)
+    let none : c.in_ok-count.count ≡ 0 = omega arith in
+    told_all _ _ _ i.0 c.fill.new.piece c.in_ok-count.count
     (λ bytes. (events : List Placed) × Document events bytes
-    × IsShownInBox (terminal_of_kind c.args.kind) c.screen.result (events_of events))
-    (consumes-then _ _ _ i.0 (take c.in_ok-count.count c.fill.new.piece) i.2 b.0) (b.1 z some) (
+    × IsShownInBox (terminal_of_kind c.args.kind) c.screen.result (events_of events)) i.2 b.0 none
+    (b.1 none (omega arith)) (
       i.1.events,
-      subst (Document i.1.events) (sym (ap (λ t. i.0 ++ t) none ∙ append-nil i.0))
-          (c.in_ok-finish.ensures.answer i.1.events i.0 i.1.read),
-      c.screen.ensures (terminal_of_kind c.args.kind) (events_of i.1.events) i.0 i.1.stands,
+      c.in_ok-finish.ensures.answer i.1.events i.0 i.1.read,
+      c.screen.ensures (terminal_of_kind c.args.kind) (events_of i.1.events) i.0 i.1.taken,
     )
 
 pub loop-stage-smaller : goal.loop-stage-smaller
@@ -118,4 +109,4 @@ returns-in_err-stage-clause-memory g c = λ is.
     let failed = err_from_is_err_and exit.result exit.ensures.1 in
     declares-early _ _ (i.0 ++ take c.in_ok-count.count c.fill.new.piece)
     (consumes-then _ _ _ i.0 (take c.in_ok-count.count c.fill.new.piece) i.2 c.in_ok-count.ensures.bytes.0)
-    (c.in_err-stage.ensures.memory (cc (failed.1, failed.2, is, c.in_err-stage.was)) i.0 i.1)
+    (c.in_err-stage.ensures.memory (cc (failed.1, failed.2, is)) i.0 i.1)

@@ -9,4 +9,5 @@ returns-clause-taken g c =
 
 pub returns-clause-stopped : goal.returns-clause-stopped
 returns-clause-stopped g c =
-    stops_one (λ s. s.surveyor) c.args.self.now c.args.placed.now c.take.result c.take.ensures.declares
+    stops_one (λ s. s.surveyor) c.args.self.now (record { surveyor = c.take.new.self; alloc = c.args.self.now.alloc })
+    c.args.placed.now c.take.result c.take.ensures.declares

@@ -1,31 +1,49 @@
-use Rattle.std.proofs.Common.{◌++◌, refl}
 use Rattle.std.proofs.lemmas.Result.{err_from_is_err_and}
 use Rattle.sixel_run.specs.Boxes.{terminal_of_kind}
-use Rattle.sixel_run.proofs.StageLemmas.{drawn-stays, unfit-stays}
+use Rattle.sixel_run.proofs.StageLemmas.{draws-on, drawn-stays, unfit-stays}
 use Rattle.sixel_run.proofs.running.show_box.Stage.after.Goals as goal
 
-pub returns-in_err-read_on-in-Unshowable-clause-refused : goal.returns-in_err-read_on-in-Unshowable-clause-refused
-returns-in_err-read_on-in-Unshowable-clause-refused c =
-    let exit = c.from_residual-in_err-read_on-in-Unshowable in
+-- ---- a drawing
+
+pub follow-requires : goal.follow-requires
+follow-requires c = (
+  c.in-Drawn.drawing,
+  c.requires.0,
+  draws-on (terminal_of_kind c.args.kind) c.args.reader.now c.in-Drawn.drawing c.requires.0
+      (rw c.in-Drawn.is at c.requires.1),
+)
+
+pub returns-in_err-follow-in-Drawn-clause-refused : goal.returns-in_err-follow-in-Drawn-clause-refused
+returns-in_err-follow-in-Drawn-clause-refused c =
+    let exit = c.from_residual in
     let failed = err_from_is_err_and exit.result exit.ensures.1 in
-    rw (failed.1, failed.2) (λ bytes h. c.in_err-read_on-in-Unshowable.ensures.refused h.events bytes h.read)
-
-pub returns-in_err-follow_bytes-in-Drawn-clause-refused : goal.returns-in_err-follow_bytes-in-Drawn-clause-refused
-returns-in_err-follow_bytes-in-Drawn-clause-refused c =
-    let failed = err_from_is_err_and c.from_residual.result c.from_residual.ensures.1 in
     rw (failed.1, failed.2)
-    (λ bytes h.
-    let known = rw c.in-Drawn.is at h in
-    c.in_err-follow_bytes-in-Drawn.ensures.refused c.in-Drawn.drawing bytes
-    (record { events = known.events; read = known.read; followed = (refl, known.stands.drawn) }))
+    (λ bytes h. c.in_err-follow-in-Drawn.ensures.refused c.in-Drawn.drawing bytes
+    (draws-on (terminal_of_kind c.args.kind) c.args.reader.now c.in-Drawn.drawing bytes (rw c.in-Drawn.is at h)))
 
-pub returns-in_ok-follow_bytes-in-Drawn-clause-read : goal.returns-in_ok-follow_bytes-in-Drawn-clause-read
-returns-in_ok-follow_bytes-in-Drawn-clause-read c = λ bytes h.
-    drawn-stays (terminal_of_kind c.args.kind) c.args.reader.now c.follow_bytes.new.reader c.in-Drawn.drawing
-    c.follow_bytes.new.follower c.args.piece.now bytes c.in_ok-follow_bytes-in-Drawn.ensures.followed (rw c.in-Drawn.is at h)
+pub returns-in_ok-follow-in-Drawn-clause-read : goal.returns-in_ok-follow-in-Drawn-clause-read
+returns-in_ok-follow-in-Drawn-clause-read c = λ bytes h.
+    drawn-stays (terminal_of_kind c.args.kind) c.args.reader.now c.follow.new.reader c.in-Drawn.drawing
+    c.follow.new.follower bytes c.args.piece.now (rw c.in-Drawn.is at h) c.in_ok-follow-in-Drawn.ensures.followed
 
-pub returns-in_ok-read_on-in-Unshowable-clause-read : goal.returns-in_ok-read_on-in-Unshowable-clause-read
-returns-in_ok-read_on-in-Unshowable-clause-read c = λ bytes h.
-    let known = rw c.in-Unshowable.is at h in
-    let f = c.in_ok-read_on-in-Unshowable.ensures.read known.events bytes known.read in
-    record { events = known.events ++ f.0; read = f.1; stands = unfit-stays known.events f.0 known.stands }
+-- ---- a box that fits no screen
+
+pub follow-requires-in-Unshowable : goal.follow-requires-in-Unshowable
+follow-requires-in-Unshowable c =
+    let h = c.requires.1 in
+    (tt, c.requires.0, record { events = h.events; read = h.read; taken = tt })
+
+pub returns-in_err-follow-in-Unshowable-clause-refused : goal.returns-in_err-follow-in-Unshowable-clause-refused
+returns-in_err-follow-in-Unshowable-clause-refused c =
+    let exit = c.from_residual-in_err-follow-in-Unshowable in
+    let failed = err_from_is_err_and exit.result exit.ensures.1 in
+    rw (failed.1, failed.2)
+    (λ bytes h. c.in_err-follow-in-Unshowable.ensures.refused tt bytes
+    (record { events = h.events; read = h.read; taken = tt }))
+
+pub returns-in_ok-follow-in-Unshowable-clause-read : goal.returns-in_ok-follow-in-Unshowable-clause-read
+returns-in_ok-follow-in-Unshowable-clause-read c = λ bytes h.
+    let a = c.in_ok-follow-in-Unshowable.ensures.followed tt bytes
+    (record { events = h.events; read = h.read; taken = tt }) in
+    unfit-stays (terminal_of_kind c.args.kind) c.args.reader.now c.follow-in-Unshowable.new.reader a.events bytes
+    c.args.piece.now (rw c.in-Unshowable.is at h) a.read
