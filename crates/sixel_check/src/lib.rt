@@ -7,4 +7,4 @@ pub mod laws;
 
 pub use checking::{check, check_bytes, check_with, outcome, outcome_with};
 pub use sixel_judge::{Checker, Finding, Outcome, Rule, Verdict};
-pub use sixel_survey::{Entry, RULE_COUNT, Survey, survey};
+pub use sixel_survey::{Entry, RULE_COUNT, Survey, survey, survey_with};

@@ -12,8 +12,7 @@ use Rattle.sixel_encode.proofs.RepeatLemmas.{chosen_at, length-chosen, tests}
 
 -- the bits to add in a group of pixels
 abbrev pub marks_of : ℕ → ℕ → List ℕ → List ℕ
-marks_of register bits v =
-    sel_l (tests v (replicate 32 register)) (replicate 32 bits) (replicate 32 0)
+marks_of register bits v = sel_l (tests v (replicate 32 register)) (replicate 32 bits) (replicate 32 0)
 
 length-marks : (register bits : ℕ) (v : List ℕ) → length v ≡ 32 → length (marks_of register bits v) ≡ 32
 length-marks register bits v long =
@@ -48,16 +47,14 @@ added_at at register bits j row v long room small =
     let marks = length-marks register bits w loaded in
     get_or-zip2 plus v (marks_of register bits w) j 0 0 0 (omega arith) (omega arith)
     ∙ ap (plus (get_or v j 0))
-    (mark_at register bits j w loaded small ∙ ap (λ (r : ℕ). cond (r == register) bits 0) (get_or-chunk at 32 row j 0 small))
+    (mark_at register bits j w loaded small
+    ∙ ap (λ (r : ℕ). cond (r == register) bits 0) (get_or-chunk at 32 row j 0 small))
 
 -- ---- one column, row by row
 
 -- the data byte of the first rows of a column
 abbrev pub Spells : (ℕ → Bool) → ℕ → ℕ → Type 0
 Spells has row sixel = (sixel ≡ 63 + bits_to has row) × (bits_to has row < 2 ^ row)
-
-pub spells_none : (has : ℕ → Bool) → Spells has 0 63
-spells_none has = (refl, omega arith)
 
 -- the bits up to a row are below 64
 most_bits : (row : ℕ) → row < 6 → 2 ^ (row + 1) ≤ 64
@@ -78,8 +75,7 @@ pub spells_more : (has : ℕ → Bool) (row sixel bit : ℕ) (t : Bool) → row 
     → Spells has row sixel → Spells has (row + 1) (plus sixel (cond t bit 0))
 spells_more has row sixel bit t small here is before = rw is (spells_bit has row sixel t small here before)
 
-pub spells_same : (has : ℕ → Bool) (row sixel : ℕ) → has row ≡ false → Spells has row sixel
-    → Spells has (row + 1) sixel
+pub spells_same : (has : ℕ → Bool) (row sixel : ℕ) → has row ≡ false → Spells has row sixel → Spells has (row + 1) sixel
 spells_same has row sixel gone before =
     let same = row_passed has row (bits_to has row) gone refl before.1 in
     (omega arith, rw (sym same.0) same.1)

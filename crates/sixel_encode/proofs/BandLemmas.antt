@@ -38,11 +38,11 @@ own_pixel p band r x y h =
     }
 
 -- from the left margin, the commands of a register paint its pixels in the band
-register_passed : {registers : ℕ} {p : PictureValue} {before : List Event} (band : ℕ) {r : ℕ} {done : ℕ → ℕ → Bool}
+register_passed : {registers : ℕ} {p : PictureValue} {before : List Event} {band : ℕ} {r : ℕ} {done : ℕ → ℕ → Bool}
     → Stands p before band done → column 0 before ≡ 0 → IsUsed registers p r
     → Passed registers p before (map Step (register_commands p band r)) band (λ x y. owns p band r x y || done x y)
 unfolding register_commands breaks_register breaks_colour_value breaks_repeat_zero breaks_redefined
-register_passed {registers} {p} {before} band {r} {done} s margin used =
+register_passed {registers} {p} {before} {band} {r} {done} s margin used =
     let rs = runs (band_columns p band r) in
     let same : (x y : ℕ) → lies 0 band (items_of rs) x y ≡ owns p band r x y =
     λ x y. ap (λ bs. lies 0 band bs x y) (runs_joined (band_columns p band r)) ∙ lies_owns p band r x y in
@@ -60,30 +60,29 @@ register_passed {registers} {p} {before} band {r} {done} s margin used =
 
 -- ---- the registers of a band
 
-others_passed : (rs : List ℕ) {registers : ℕ} {p : PictureValue} {before : List Event} (band : ℕ) {done : ℕ → ℕ → Bool}
+others_passed : (rs : List ℕ) {registers : ℕ} {p : PictureValue} {before : List Event} {band : ℕ} {done : ℕ → ℕ → Bool}
     → Stands p before band done → AllByRecursion (IsUsed registers p) rs
     → Passed registers p before (map Step (flat_map (λ r. CarriageReturn ∷ register_commands p band r) rs)) band
     (λ x y. list_any (λ r. owns p band r x y) rs || done x y)
 unfolding breaks_register breaks_colour_value breaks_repeat_zero breaks_redefined
-others_passed [] band s used = ran_none s
-others_passed (r ∷ rs) {registers} {p} {before} band {done} s used =
+others_passed [] s used = ran_none s
+others_passed (r ∷ rs) {registers} {p} {before} {band} {done} s used =
     let return : Passed registers p before (Step CarriageReturn ∷ []) band done =
     quiet_passed s refl refl refl refl refl refl refl refl (λ q. refl) (omega arith) in
-    let one = ran_join return
-    (register_passed band return.after (column_push 0 before (Step CarriageReturn)) used.0) in
+    let one = ran_join return (register_passed return.after (column_push 0 before (Step CarriageReturn)) used.0) in
     rw (map-append Step (register_commands p band r) (flat_map (λ r. CarriageReturn ∷ register_commands p band r) rs))
-    (passed_as (ran_join one (others_passed rs band one.after used.1)) refl
+    (passed_as (ran_join one (others_passed rs one.after used.1)) refl
     (λ x y. or_turn (list_any (λ r. owns p band r x y) rs) (owns p band r x y) (done x y)))
 
-registers_passed : (rs : List ℕ) {registers : ℕ} {p : PictureValue} {before : List Event} (band : ℕ)
+registers_passed : (rs : List ℕ) {registers : ℕ} {p : PictureValue} {before : List Event} {band : ℕ}
     {done : ℕ → ℕ → Bool} → Stands p before band done → column 0 before ≡ 0 → AllByRecursion (IsUsed registers p) rs
     → Passed registers p before (map Step (join_by (register_commands p band) (CarriageReturn ∷ []) rs)) band
     (λ x y. list_any (λ r. owns p band r x y) rs || done x y)
-registers_passed [] band s margin used = ran_none s
-registers_passed (r ∷ rs) {registers} {p} {before} band {done} s margin used =
-    let one = register_passed band s margin used.0 in
+registers_passed [] s margin used = ran_none s
+registers_passed (r ∷ rs) {registers} {p} {before} {band} {done} s margin used =
+    let one = register_passed s margin used.0 in
     rw (map-append Step (register_commands p band r) (flat_map (λ r. CarriageReturn ∷ register_commands p band r) rs))
-    (passed_as (ran_join one (others_passed rs band one.after used.1)) refl
+    (passed_as (ran_join one (others_passed rs one.after used.1)) refl
     (λ x y. or_turn (list_any (λ r. owns p band r x y) rs) (owns p band r x y) (done x y)))
 
 any_none : (rs : List ℕ) → list_any (λ r. false) rs ≡ false
@@ -102,7 +101,7 @@ band_owns {registers} {p} band x y f = split (is_in_band p band x y) here
         let line : y / 6 ≡ band = eqb-true (y / 6) band b.1 in
         let inside : y < p.height = ltb-true y p.height b.0 in
         let e : y ≡ 6 * band + y % 6 = omega arith in
-        own_listed registers p band x (y % 6) (λ r. register_of p x y == r) f (ltb-true x p.width a.0) (omega arith)
+        own_listed band x (y % 6) (λ r. register_of p x y == r) f (ltb-true x p.width a.0) (omega arith)
         (omega arith) (eq-eqb _ _ (ap (register_of p x) e))
 
     split : (t : Bool) → (t ≡ true → list_any (λ r. register_of p x y == r) (band_registers p band) ≡ true)
@@ -112,12 +111,12 @@ band_owns {registers} {p} band x y f = split (is_in_band p band x y) here
 
 -- ---- the bands
 
-band_passed : {registers : ℕ} {p : PictureValue} {before : List Event} (band : ℕ) {done : ℕ → ℕ → Bool}
+band_passed : {registers : ℕ} {p : PictureValue} {before : List Event} {band : ℕ} {done : ℕ → ℕ → Bool}
     → Parted registers p → Stands p before band done → column 0 before ≡ 0
     → Passed registers p before (map Step (band_commands p band)) band (λ x y. is_in_band p band x y || done x y)
 unfolding band_commands
-band_passed {registers} {p} band {done} f s margin =
-    passed_as (registers_passed (band_registers p band) band s margin (band_used registers p band f)) refl
+band_passed {registers} {p} {band} {done} f s margin =
+    passed_as (registers_passed (band_registers p band) s margin (band_used band f)) refl
     (λ x y. ap (λ o. o || done x y) (band_owns band x y f))
 
 -- the point is a pixel of one of the first `count` bands
@@ -134,22 +133,22 @@ above_more p band x y = step (nat_lt x p.width) (nat_lt y p.height) (y / 6)
     step true false q = refl
     step false b q = refl
 
-nexts_passed : (n : ℕ) {registers : ℕ} {p : PictureValue} {before : List Event} (band : ℕ) → Parted registers p
+nexts_passed : (n : ℕ) {registers : ℕ} {p : PictureValue} {before : List Event} {band : ℕ} → Parted registers p
     → Stands p before band (is_above p (band + 1))
     → Passed registers p before (map Step (flat_map (λ l. NextLine ∷ band_commands p l) (range_with_len (band + 1) n)))
     (band + n) (is_above p (band + 1 + n))
 unfolding breaks_register breaks_colour_value breaks_repeat_zero breaks_redefined
-nexts_passed zero {p = p} band f s =
+nexts_passed zero {p = p} {band} f s =
     passed_as (ran_none s) (omega arith)
     (λ x y. ap (λ n. is_above p n x y) (let e : band + 1 ≡ band + 1 + 0 = omega arith in e))
-nexts_passed (suc n) {registers} {p} {before} band f s =
+nexts_passed (suc n) {registers} {p} {before} {band} f s =
     let next : Passed registers p before (Step NextLine ∷ []) (band + 1) (is_above p (band + 1)) =
     quiet_passed s refl refl refl refl refl refl refl refl (λ q. refl) (omega arith) in
     let one = passed_as (ran_join next
-    (band_passed (band + 1) f next.after (column_push 0 before (Step NextLine)))) refl (above_more p (band + 1)) in
+    (band_passed f next.after (column_push 0 before (Step NextLine)))) refl (above_more p (band + 1)) in
     rw (map-append Step (band_commands p (band + 1))
     (flat_map (λ l. NextLine ∷ band_commands p l) (range_with_len (band + 1 + 1) n)))
-    (passed_as (ran_join one (nexts_passed n (band + 1) f one.after)) (omega arith)
+    (passed_as (ran_join one (nexts_passed n f one.after)) (omega arith)
     (λ x y. ap (λ n. is_above p n x y) (let e : band + 1 + 1 + n ≡ band + 1 + suc n = omega arith in e)))
 
 above_none : (p : PictureValue) (x y : ℕ) → false ≡ is_above p 0 x y
@@ -166,7 +165,7 @@ pub bands_passed : (n : ℕ) {registers : ℕ} {p : PictureValue} {before : List
     → Passed registers p before (map Step (join_by (band_commands p) (NextLine ∷ []) (below n))) (n - 1) (is_above p n)
 bands_passed zero {p = p} f s margin = passed_as (ran_none s) refl (above_none p)
 bands_passed (suc n) {p = p} f s margin =
-    let one = passed_as (band_passed 0 f (stands_as s refl (above_none p)) margin) refl (above_more p 0) in
+    let one = passed_as (band_passed f (stands_as s refl (above_none p)) margin) refl (above_more p 0) in
     rw (map-append Step (band_commands p 0) (flat_map (λ l. NextLine ∷ band_commands p l) (range_with_len (0 + 1) n)))
-    (passed_as (ran_join one (nexts_passed n 0 f one.after)) (omega arith)
+    (passed_as (ran_join one (nexts_passed n f one.after)) (omega arith)
     (λ x y. ap (λ n. is_above p n x y) (let e : 0 + 1 + n ≡ suc n = omega arith in e)))

@@ -79,8 +79,7 @@ column_has p band register x =
 pub weight_is : (k : ℕ) → k < 6 → 1 * 2 ^ k % 256 ≡ 2 ^ k
 weight_is k h = eqb-true _ _ (agree_below_at (λ i. 1 * 2 ^ i % 256 == 2 ^ i) (λ i. true) 6 k refl h)
 
-bits_then : (has : ℕ → Bool) (row : ℕ)
-    → bits_to has (row + 1) ≡ bits_to has row + (if has row then 2 ^ row else 0)
+bits_then : (has : ℕ → Bool) (row : ℕ) → bits_to has (row + 1) ≡ bits_to has row + (if has row then 2 ^ row else 0)
 bits_then has row =
     ap (sum_by (λ k. if has k then 2 ^ k else 0)) (below_then row)
     ∙ sum_by_push (λ k. if has k then 2 ^ k else 0) (below row) row
@@ -89,8 +88,7 @@ twice : (row : ℕ) → 2 ^ (row + 1) ≡ 2 ^ row + 2 ^ row
 twice row = rw add-one (two-pow-succ row)
 
 -- a row with a pixel of the register adds its bit
-pub row_added : (has : ℕ → Bool) (row bits : ℕ) → row < 6 → has row ≡ true
-    → bits ≡ bits_to has row → bits < 2 ^ row
+pub row_added : (has : ℕ → Bool) (row bits : ℕ) → row < 6 → has row ≡ true → bits ≡ bits_to has row → bits < 2 ^ row
     → (bits + 1 * 2 ^ row % 256 ≡ bits_to has (row + 1)) × (bits + 1 * 2 ^ row % 256 < 2 ^ (row + 1))
 row_added has row bits small here is less =
     let weight : 1 * 2 ^ row % 256 ≡ 2 ^ row = weight_is row small in
@@ -100,8 +98,7 @@ row_added has row bits small here is less =
     (omega arith, omega arith)
 
 -- any other row adds nothing
-pub row_passed : (has : ℕ → Bool) (row bits : ℕ) → has row ≡ false
-    → bits ≡ bits_to has row → bits < 2 ^ row
+pub row_passed : (has : ℕ → Bool) (row bits : ℕ) → has row ≡ false → bits ≡ bits_to has row → bits < 2 ^ row
     → (bits ≡ bits_to has (row + 1)) × (bits < 2 ^ (row + 1))
 row_passed has row bits gone is less =
     let longer : bits_to has (row + 1) ≡ bits_to has row + 0 =

@@ -122,10 +122,9 @@ drawn_one {registers} {p} {before} {band} {col} {r} {n} {b} {done} {e} d is own 
     (rw (d.knows, d.stands.defines r, some_map definition_by (palette_at p.palette r) d.coloured) no_painting)
     (is.no_redefinition before)
     (λ x y h. let o = own x y (sym (fall x y) ∙ h) in
-    and_from _ _ (lt-ltb x p.width o.inside_x) (lt-ltb y p.height o.inside_y)))
-    is.seven_bits
+    and_from _ _ (lt-ltb x p.width o.inside_x) (lt-ltb y p.height o.inside_y))) is.seven_bits
     (record {
-      stands = stands_push p before e band band done (λ x y. covers col n band 1 b x y) d.stands is.no_raster
+      stands = stands_push e band (λ x y. covers col n band 1 b x y) d.stands is.no_raster
           (λ q. is.no_definition (λ s. s == q)) (rw is.no_next (omega arith)) fall
           (λ x y h. d.knows ∙ ap Some (sym ((own x y h).own)));
       at_column = column_push 0 before e ∙ rw (is.no_return, d.at_column, is.columns) refl;

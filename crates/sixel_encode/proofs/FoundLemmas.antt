@@ -56,47 +56,6 @@ found_none to rows width register groups long sixel is unset = record {
   ahead = λ x lt low. blank_at long sixel x is lt;
 }
 
--- one more group
-pub found_more : (group next : ℕ) (rows : List ℕ) (width register groups : ℕ) (old new : List ℕ)
-    → bit_at groups group ≡ 1 → group + 1 ≤ next
-    → ((i : ℕ) → group + 1 ≤ i → i < next → bit_at groups i ≡ 0)
-    → AreFilled (group * 32) (min (group * 32 + 32) width) rows width register old new
-    → AreFound (group * 32) rows width register groups old → AreFound (next * 32) rows width register groups new
-found_more group next rows width register groups old new set further unset filled found =
-    let long = filled.long in
-    record {
-      inked = λ x lt in_picture own. elim (cases_lt (x / 32) group) [
-        | inl less ↦ filled.before x (omega arith) ∙ found.inked x (omega arith) in_picture own
-        | inr past ↦ elim (cases_eq (x / 32) group) [
-          | inl same ↦ filled.inside x (omega arith) (omega arith)
-          | inr other ↦
-              let none : bit_at groups (x / 32) ≡ 0 = unset (x / 32) (omega arith) (omega arith) in
-              absurd (omega arith)
-        ]
-      ];
-      blank = λ x lt none. elim (cases_lt (x / 32) group) [
-        | inl less ↦ filled.before x (omega arith) ∙ found.blank x (omega arith) none
-        | inr past ↦ elim (cases_eq (x / 32) group) [
-          | inl same ↦
-              let zero_bit : bit_at groups group ≡ 0 = ap (bit_at groups) (sym same) ∙ none in
-              absurd (omega arith)
-          | inr other ↦ filled.after x (omega arith) (omega arith) ∙ found.blank x (omega arith) none
-        ]
-      ];
-      behind = λ x lt past. filled.after x (omega arith) (omega arith) ∙ found.behind x (omega arith) past;
-      ahead = λ x lt low. filled.after x (omega arith) (omega arith) ∙ found.ahead x (omega arith) (omega arith);
-    }
-
--- all groups
-pub found_whole : (to : ℕ) (rows : List ℕ) (width register groups : ℕ) (sixels : List ℕ) → width ≤ to
-    → AreFound to rows width register groups sixels → AreFound width rows width register groups sixels
-found_whole to rows width register groups sixels enough found = record {
-  inked = λ x lt in_picture own. found.inked x (omega arith) in_picture own;
-  blank = found.blank;
-  behind = found.behind;
-  ahead = found.behind;
-}
-
 -- ---- the sixels of the picture
 
 get_padded : (columns : List ℕ) (long x : ℕ) → length columns ≤ x → x < long → get_or (padded long columns) x 0 ≡ 0
@@ -113,19 +72,17 @@ length-padded columns long room =
     )
 
 length-all : (p : PictureValue) (band register : ℕ) → length (all_columns p band register) ≡ p.width
-length-all p band register =
-    length-map (below p.width) (column_bits p band register) ∙ length-range_with_len 0 p.width
+length-all p band register = length-map (below p.width) (column_bits p band register) ∙ length-range_with_len 0 p.width
 
 get_all : (p : PictureValue) (band register x : ℕ) → x < p.width
     → get_or (all_columns p band register) x 0 ≡ column_bits p band register x
-get_all p band register x lt =
-    get_or-map-range_with_len (column_bits p band register) 0 p.width x x 0 lt (omega arith)
+get_all p band register x lt = get_or-map-range_with_len (column_bits p band register) 0 p.width x x 0 lt (omega arith)
 
-pub found_is : (p : PictureValue) (band register groups : ℕ) (rows sixels : List ℕ) → AreRowsOf p band rows p.width
+pub found_is : {p : PictureValue} {band register groups : ℕ} {rows sixels : List ℕ} → AreRowsOf p band rows p.width
     → HasBandGroups p band register groups → p.width ≤ length sixels
     → AreFound p.width rows p.width register groups sixels
     → sixels ≡ sixels_of (padded (length sixels) (all_columns p band register))
-found_is p band register groups rows sixels are marked room found =
+found_is {p} {band} {register} {groups} {sixels} are marked room found =
     let columns = all_columns p band register in
     let wide : length columns ≡ p.width = length-all p band register in
     let long : length (padded (length sixels) columns) ≡ length sixels =
@@ -148,8 +105,7 @@ found_is p band register groups rows sixels are marked room found =
           ∙ get_all p band register x inside in
           elim (cases_eq (bit_at groups (x / 32)) 1) [
             | inl set ↦
-                found.inked x inside inside set
-                ∙ ap (λ (n : ℕ). 63 + n) (row_bits_are p band register x rows are inside)
+                found.inked x inside inside set ∙ ap (λ (n : ℕ). 63 + n) (row_bits_are register x are inside)
                 ∙ sym (spelled ∙ ap (λ (n : ℕ). 63 + n) bits)
             | inr unset ↦
                 let none : bit_at groups (x / 32) ≡ 0 = omega (arith, bit_at-lt groups (x / 32)) in
@@ -160,8 +116,8 @@ found_is p band register groups rows sixels are marked room found =
     ])
 
 -- each column has at most six bits
-padded_most : (p : PictureValue) (band register long x : ℕ)
-    → x < length (padded long (all_columns p band register)) → get_or (padded long (all_columns p band register)) x 0 ≤ 63
+padded_most : (p : PictureValue) (band register long x : ℕ) → x < length (padded long (all_columns p band register))
+    → get_or (padded long (all_columns p band register)) x 0 ≤ 63
 padded_most p band register long x lt =
     let columns = all_columns p band register in
     let wide : length columns ≡ p.width = length-all p band register in
@@ -188,10 +144,10 @@ are_sixels p band register long sixels found =
     (sixels_are (padded long (all_columns p band register)) (padded_most p band register long))
 
 -- the same, in a buffer of that length
-pub found_in : (p : PictureValue) (band register groups width : ℕ) (rows old new : List ℕ)
-    → AreRowsOf p band rows p.width → HasBandGroups p band register groups → width ≡ p.width
-    → width ≤ length old → length new ≡ length old → AreFound width rows width register groups new
+pub found_in : {p : PictureValue} {band register groups width : ℕ} {rows : List ℕ} (old : List ℕ) {new : List ℕ}
+    → AreRowsOf p band rows p.width → HasBandGroups p band register groups → width ≡ p.width → width ≤ length old
+    → length new ≡ length old → AreFound width rows width register groups new
     → new ≡ sixels_of (padded (length old) (all_columns p band register))
-found_in p band register groups width rows old new are marked wide room long found =
-    found_is p band register groups rows new are marked (omega arith) (rw wide at found)
+found_in {p} {band} {register} old are marked wide room long found =
+    found_is are marked (omega arith) (rw wide at found)
     ∙ ap (λ (n : ℕ). sixels_of (padded n (all_columns p band register))) long

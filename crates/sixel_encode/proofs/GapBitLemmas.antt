@@ -5,6 +5,7 @@ use Rattle.std.proofs.Common.{ap, ap₂}
 use Rattle.std.proofs.Common.{◌∙◌, arith, bit_or}
 use Rattle.std.specs.Prelude.{nat_le, slice_index, if◌then◌else◌}
 use Rattle.std.specs.Int.{bit_at}
+use Rattle.std.proofs.Math.Bool.{and-false}
 use Rattle.std.proofs.lemmas.Bool.{and_from, and_parts, cases_lt, eq-eqb, eqb-true, le-leb, leb-true, lt-leb, ne_eqb}
 use Rattle.std.proofs.lemmas.List.{get_or-map, length-map}
 use Rattle.std.proofs.lemmas.Nat.Bits.{bit_at-lt, bit_at-zero, bit_at_above}
@@ -162,10 +163,6 @@ set_is_end at blank j bytes room lt are a b c d e =
           ap (λ (n : ℕ). slice_index bytes n) (sym its) ∙ eqb-true _ _ parts.1;
     }
 
-and_false : (t : Bool) → (t && false) ≡ false
-and_false true = refl
-and_false false = refl
-
 -- a blank column's bit
 blank_is_set : (at blank i : ℕ) (bytes : List ℕ) → AreBlanksFrom at bytes blank → i < 36 → 4 ≤ at + i
     → slice_index bytes (at + i - 4) ≡ 63 → bit_at blank i ≡ 1
@@ -176,7 +173,7 @@ ink_is_clear : (at blank i : ℕ) (bytes : List ℕ) → AreBlanksFrom at bytes 
     → slice_index bytes (at + i - 4) ≢ 63 → bit_at blank i ≡ 0
 ink_is_clear at blank i bytes are lt other =
     are i lt ∙ ap (λ (t : Bool). if nat_le 4 (at + i) && t then 1 else 0) (ne_eqb _ 63 other)
-    ∙ ap (λ (t : Bool). if t then 1 else 0) (and_false (nat_le 4 (at + i)))
+    ∙ ap (λ (t : Bool). if t then 1 else 0) (and-false (nat_le 4 (at + i)))
 
 pub ends_are : (at blank bits : ℕ) (bytes : List ℕ) → at + 32 ≤ length bytes → AreBlanksFrom at bytes blank
     → AreEndsOf blank bits → AreEndBits at bytes bits

@@ -17,16 +17,15 @@ use Rattle.sixel_encode.specs.Gaps.{AreEndBits, AreGapEnds, AreGapEndsBut, AreRi
 -- ---- the items of the list
 
 -- an item is no less than its index
-rising_from : (bytes ends : List ℕ) (count i : ℕ) → AreRising bytes ends count → i < count → i ≤ get_or ends i 0
-rising_from bytes ends count zero items lt = omega arith
-rising_from bytes ends count (suc i) items lt =
-    omega (arith, rising_from bytes ends count i items (omega (arith, lt)), items.rising i (suc i) (omega arith) lt)
+rising_from : {bytes ends : List ℕ} {count : ℕ} (i : ℕ) → AreRising bytes ends count → i < count → i ≤ get_or ends i 0
+rising_from zero items lt = omega arith
+rising_from (suc i) items lt =
+    omega (arith, rising_from i items (omega (arith, lt)), items.rising i (suc i) (omega arith) lt)
 
-pub few_items : (bytes ends : List ℕ) (count to : ℕ) → AreRising bytes ends count
+pub few_items : {bytes ends : List ℕ} (count to : ℕ) → AreRising bytes ends count
     → ((i : ℕ) → i < count → get_or ends i 0 < to) → count ≤ to
-few_items bytes ends zero to items before = omega arith
-few_items bytes ends (suc n) to items before =
-    omega (arith, rising_from bytes ends (suc n) n items (omega arith), before n (omega arith))
+few_items zero to items before = omega arith
+few_items (suc n) to items before = omega (arith, rising_from n items (omega arith), before n (omega arith))
 
 -- no item
 pub no_items : (bytes ends : List ℕ) → length ends ≡ 2113 → AreGapEnds 0 bytes ends 0
@@ -41,10 +40,10 @@ no_items bytes ends long = record {
 }
 
 -- columns whose group isn't in the mask have no gap end
-pub ends_on : (from to groups : ℕ) (bytes ends : List ℕ) (count : ℕ) → from ≤ to → IsInkIn groups bytes
-    → ((x : ℕ) → from ≤ x → x < to → x < length bytes → bit_at groups (x / 32) ≡ 0)
-    → AreGapEnds from bytes ends count → AreGapEnds to bytes ends count
-ends_on from to groups bytes ends count le ink unset are = record {
+pub ends_on : {from : ℕ} (to groups : ℕ) {bytes ends : List ℕ} {count : ℕ} → from ≤ to → IsInkIn groups bytes
+    → ((x : ℕ) → from ≤ x → x < to → x < length bytes → bit_at groups (x / 32) ≡ 0) → AreGapEnds from bytes ends count
+    → AreGapEnds to bytes ends count
+ends_on {from} to groups le ink unset are = record {
   items = are.items;
   before = λ i lt. omega (arith, are.before i lt, le);
   all = λ x lt e. elim (cases_lt x from) [
@@ -54,9 +53,9 @@ ends_on from to groups bytes ends count le ink unset are = record {
 }
 
 -- a group whose ends aren't added yet
-pub group_begun : (at bits : ℕ) (bytes ends : List ℕ) (count : ℕ) → AreGapEnds at bytes ends count
+pub group_begun : {at : ℕ} (bits : ℕ) {bytes ends : List ℕ} {count : ℕ} → AreGapEnds at bytes ends count
     → AreEndBits at bytes bits → AreGapEndsBut at bits bytes ends count
-group_begun at bits bytes ends count are set = record {
+group_begun {at} bits {bytes} are set = record {
   items = are.items;
   before = λ i lt. omega (arith, are.before i lt);
   later = λ i j lt less is. omega (arith, are.before i lt);
@@ -71,9 +70,9 @@ group_begun at bits bytes ends count are set = record {
 }
 
 -- a group whose ends are all added
-pub group_done : (at : ℕ) (bytes ends : List ℕ) (count : ℕ) → AreGapEndsBut at 0 bytes ends count
+pub group_done : {at : ℕ} {bytes ends : List ℕ} {count : ℕ} → AreGapEndsBut at 0 bytes ends count
     → AreGapEnds (at + 32) bytes ends count
-group_done at bytes ends count are = record {
+group_done are = record {
   items = are.items;
   before = are.before;
   all = λ x lt e. elim (are.all x lt e) [
@@ -115,24 +114,22 @@ abbrev pub IsRest : ℕ → ℕ → ℕ → Type 0
 IsRest left low rest = ((j : ℕ) → j < 32 → j ≢ low → bit_at rest j ≡ bit_at left j)
     × (low < 32 → bit_at rest low ≡ 0)
 
-pub rest_is : (left low : ℕ) → low < 64
-    → IsRest left low (bit_and left (2 ^ 64 - 1 - 1 * 2 ^ low % 2 ^ 64))
+pub rest_is : (left low : ℕ) → low < 64 → IsRest left low (bit_and left (2 ^ 64 - 1 - 1 * 2 ^ low % 2 ^ 64))
 rest_is left low small = (
   λ j lt other. bit_at_clear_other w64 left low small j (omega (arith, lt)) other,
   λ lt. bit_at_clear_same w64 left low small,
 )
 
 -- the mask is smaller without it
-pub rest_less : (left low : ℕ) → left < 2 ^ 32 → left ≢ 0 → IsLowest left low
+pub rest_less : {left low : ℕ} → left < 2 ^ 32 → left ≢ 0 → IsLowest left low
     → bit_and left (2 ^ 64 - 1 - 1 * 2 ^ low % 2 ^ 64) < left
-rest_less left low few some lowest = elim (cases_lt low 32) [
+rest_less {left} {low} few some lowest = elim (cases_lt low 32) [
   | inl small ↦
       let one : 1 * 2 ^ low % 2 ^ 64 ≡ 2 ^ low = one_shl low 64 (omega (arith, small)) in
       let less : 2 ^ low < 2 ^ 64 = pow_below low 64 (omega (arith, small)) in
       let parts = and-not 64 (2 ^ low) left less (omega (arith, few)) in
       let low_part : bit_and (2 ^ low) left ≡ 2 ^ low =
-      and_comm (2 ^ low) left ∙ and_pow left low ∙ ap (λ (n : ℕ). n * 2 ^ low) (lowest.set_here small)
-      ∙ omega arith in
+      and_comm (2 ^ low) left ∙ and_pow left low ∙ ap (λ (n : ℕ). n * 2 ^ low) (lowest.set_here small) ∙ omega arith in
       let turned = and_comm left (2 ^ 64 - 1 - 2 ^ low) in
       rw one (omega (arith, parts, low_part, turned, pow_pos low))
   | inr past ↦
@@ -142,9 +139,10 @@ rest_less left low few some lowest = elim (cases_lt low 32) [
 ]
 
 -- nothing was added
-nothing_added : (at left low rest x : ℕ) (bytes ends : List ℕ) (count : ℕ) → IsLowest left low → IsRest left low rest
-    → low ≡ 32 → AreGapEndsBut at left bytes ends count → AreGapEndsBut at rest bytes (set ends count x) count
-nothing_added at left low rest x bytes ends count lowest is none are =
+nothing_added : {at left low : ℕ} (rest x : ℕ) {bytes ends : List ℕ} {count : ℕ} → IsLowest left low
+    → IsRest left low rest → low ≡ 32 → AreGapEndsBut at left bytes ends count
+    → AreGapEndsBut at rest bytes (set ends count x) count
+nothing_added {left} rest x {bytes} {ends} {count} lowest is none are =
     let same : (i : ℕ) → i < count → get_or (set ends count x) i 0 ≡ get_or ends i 0 =
     λ i lt. get_or-set_other ends count i x 0 (λ e. absurd (omega (arith, e, lt))) in
     let bit : (j : ℕ) → j < 32 → bit_at rest j ≡ bit_at left j =
@@ -165,10 +163,10 @@ nothing_added at left low rest x bytes ends count lowest is none are =
       ];
     }
 
-one_added : (at left low rest x : ℕ) (bytes ends : List ℕ) (count : ℕ) → IsLowest left low → IsRest left low rest
+one_added : {at left low : ℕ} (rest x : ℕ) {bytes ends : List ℕ} {count : ℕ} → IsLowest left low → IsRest left low rest
     → low < 32 → x ≡ at + low → count < 2113 → AreGapEndsBut at left bytes ends count
     → AreGapEndsBut at rest bytes (set ends count x) (count + 1)
-one_added at left low rest x bytes ends count lowest is small its room are =
+one_added {at} {left} {low} rest x {bytes} {ends} {count} lowest is small its room are =
     let new = set ends count x in
     let same : (i : ℕ) → i < count → get_or new i 0 ≡ get_or ends i 0 =
     λ i lt. get_or-set_other ends count i x 0 (λ e. absurd (omega (arith, e, lt))) in
@@ -199,8 +197,7 @@ one_added at left low rest x bytes ends count lowest is small its room are =
           | inr e ↦ subst (λ (k : ℕ). IsGapEnd bytes k) (sym (at_last i e)) (are.rest low small (lowest.set_here small))
         ];
         rising = λ i j lt less. elim (last j less) [
-          | inl inner ↦
-              omega (arith, same i (omega (arith, lt, inner)), same j inner, are.items.rising i j lt inner)
+          | inl inner ↦ omega (arith, same i (omega (arith, lt, inner)), same j inner, are.items.rising i j lt inner)
           | inr e ↦
               let first : i < count = omega (arith, e, lt) in
               omega (arith, same i first, at_last j e, are.later i low first small (lowest.set_here small))
@@ -224,16 +221,16 @@ one_added at left low rest x bytes ends count lowest is small its room are =
       ];
     }
 
-pub lowest_added : (at left low rest x more : ℕ) (bytes ends : List ℕ) (count : ℕ) → IsLowest left low
+pub lowest_added : {at left low : ℕ} (rest x more : ℕ) {bytes ends : List ℕ} {count : ℕ} → IsLowest left low
     → IsRest left low rest → x ≡ at + low → more ≡ bool_byte (nat_lt low 32) → count < 2113
     → AreGapEndsBut at left bytes ends count → AreGapEndsBut at rest bytes (set ends count x) (count + more)
-lowest_added at left low rest x more bytes ends count lowest is its many room are = elim (cases_lt low 32) [
+lowest_added {low} rest x more {count} lowest is its many room are = elim (cases_lt low 32) [
   | inl small ↦
       let one : more ≡ 1 = many ∙ ap bool_byte (lt-ltb low 32 small) in
-      rw one (one_added at left low rest x bytes ends count lowest is small its room are)
+      rw one (one_added rest x lowest is small its room are)
   | inr past ↦
       let none : more ≡ 0 = many ∙ ap bool_byte (le-ltb low 32 (omega (arith, past))) in
       let all : low ≡ 32 = omega (arith, past, lowest.most) in
       let plain : count + 0 ≡ count = omega arith in
-      rw (none, plain) (nothing_added at left low rest x bytes ends count lowest is all are)
+      rw (none, plain) (nothing_added rest x lowest is all are)
 ]

@@ -1,5 +1,5 @@
 -- Which groups of columns of a band have pixels of a register.
-use Rattle.std.proofs.Common.{◌≡◌, ◌≢◌, ◌==◌, ℕ, zero, suc, ◌+◌, ◌*◌, ◌%◌, ◌/◌, ◌^◌, ◌<◌, ◌≤◌, Bool, true, false}
+use Rattle.std.proofs.Common.{◌≡◌, ◌≢◌, ◌==◌, ℕ, zero, suc, ◌+◌, ◌*◌, ◌%◌, ◌/◌, ◌^◌, ◌<◌, ◌≤◌, true}
 use Rattle.std.proofs.Common.{List, length, get_or, set, replicate, not, w64, inl, inr, refl, sym, ap, ◌∙◌, arith}
 use Rattle.std.specs.Prelude.{nat_lt}
 use Rattle.std.specs.Int.{bit_at}
@@ -9,6 +9,7 @@ use Rattle.std.proofs.lemmas.Bool.{ltb-true, ne_eqb, not-true, not_from_false}
 use Rattle.std.proofs.lemmas.List.{get_or-set_other, get_or-set_same, length-set}
 use Rattle.std.proofs.lemmas.Nat.Bits.{bit_at-zero, bit_at_set_other, bit_at_set_same}
 use Rattle.sixel_model.specs.Pictures.{PictureValue, register_of}
+use Rattle.sixel_model.proofs.RunLemmas.{same_test}
 use Rattle.sixel_encode.specs.Canon.{column_bits, has_pixel, occurs}
 use Rattle.sixel_encode.specs.Columns.{AreGroupsMarked, HasBandGroups}
 use Rattle.sixel_encode.proofs.BitLemmas.{column_has}
@@ -54,8 +55,7 @@ marked_pixel x n pixels old is room small =
 
 -- the band has a pixel with the register
 abbrev pub HasSome : PictureValue → ℕ → ℕ → Type 0
-HasSome p band register =
-    (x : ℕ) × (k : ℕ) × (x < p.width) × (k < 6) × (has_pixel p band register x k ≡ true)
+HasSome p band register = (x : ℕ) × (k : ℕ) × (x < p.width) × (k < 6) × (has_pixel p band register x k ≡ true)
 
 -- the registers of the first rows are marked
 pub record AreRows (p : PictureValue) (band row : ℕ) (marks : List ℕ) : Type 0 where
@@ -76,19 +76,17 @@ rows_none p band = record {
   only = λ register some. absurd (some (all_zero 256 register));
 }
 
-pub rows_more : (p : PictureValue) (band row : ℕ) (pixels old new : List ℕ) → row < 6 → 6 * band + row < p.height
-    → length pixels ≡ p.width
-    → ((x : ℕ) → x < p.width → get_or pixels x 0 ≡ register_of p x (6 * band + row))
+pub rows_more : {p : PictureValue} {band row : ℕ} {pixels old new : List ℕ} → row < 6 → 6 * band + row < p.height
+    → length pixels ≡ p.width → ((x : ℕ) → x < p.width → get_or pixels x 0 ≡ register_of p x (6 * band + row))
     → AreGroupsMarked 0 (length pixels) pixels old new → AreRows p band row old → AreRows p band (row + 1) new
-rows_more p band row pixels old new small inside wide same marks before = record {
+rows_more {p} {band} {row} {new} small inside wide same marks before = record {
   long = marks.long ∙ before.long;
   found = λ x k lt less in_picture. elim (cases_eq k row) [
     | inl here ↦
         ap (λ (n : ℕ). bit_at (get_or new (register_of p x (6 * band + n)) 0) (x / 32)) here
         ∙ ap (λ (r : ℕ). bit_at (get_or new r 0) (x / 32)) (sym (same x lt))
         ∙ marks.marked x (omega arith) (omega arith)
-    | inr above ↦
-        marks.kept (register_of p x (6 * band + k)) (x / 32) (before.found x k lt (omega arith) in_picture)
+    | inr above ↦ marks.kept (register_of p x (6 * band + k)) (x / 32) (before.found x k lt (omega arith) in_picture)
   ];
   only = λ register some. elim (marks.only register some) [
     | inl kept ↦ before.only register kept
@@ -98,32 +96,26 @@ rows_more p band row pixels old new small inside wide same marks before = record
           row,
           lt,
           small,
-          and_from _ _ (lt-ltb (6 * band + row) p.height inside)
-              (eq-eqb _ _ (sym (same w.0 lt) ∙ w.3)),
+          and_from _ _ (lt-ltb (6 * band + row) p.height inside) (eq-eqb _ _ (sym (same w.0 lt) ∙ w.3)),
         )
   ];
 }
 
-pub rows_past : (p : PictureValue) (band row : ℕ) (marks : List ℕ) → p.height ≤ 6 * band + row
+pub rows_past : {p : PictureValue} {band row : ℕ} {marks : List ℕ} → p.height ≤ 6 * band + row
     → AreRows p band row marks → AreRows p band (row + 1) marks
-rows_past p band row marks past before = record {
+rows_past past before = record {
   long = before.long;
   found = λ x k lt less in_picture. before.found x k lt (omega arith) in_picture;
   only = before.only;
 }
 
 -- after all rows, the mask of a register has its groups
-pub rows_groups : (p : PictureValue) (band register : ℕ) (marks : List ℕ) → AreRows p band 6 marks
+pub rows_groups : {p : PictureValue} {band : ℕ} (register : ℕ) {marks : List ℕ} → AreRows p band 6 marks
     → HasBandGroups p band register (get_or marks register 0)
-rows_groups p band register marks rows x k lt small has =
+rows_groups {p} {band} register {marks} rows x k lt small has =
     let parts = and_parts (nat_lt (6 * band + k) p.height) (register_of p x (6 * band + k) == register) has in
     ap (λ (r : ℕ). bit_at (get_or marks r 0) (x / 32)) (sym (eqb-true _ _ parts.1))
     ∙ rows.found x k lt small (ltb-true (6 * band + k) p.height parts.0)
-
-same_bool : (a b : Bool) → (a ≡ true → b ≡ true) → (b ≡ true → a ≡ true) → a ≡ b
-same_bool true b f g = sym (f refl)
-same_bool false true f g = g refl
-same_bool false false f g = refl
 
 set_some : (n i : ℕ) → bit_at n i ≡ 1 → n ≢ 0
 set_some n i h = λ e.
@@ -131,10 +123,10 @@ set_some n i h = λ e.
     absurd (omega arith)
 
 -- after all rows, the mask of a register says whether it occurs
-pub rows_occur : (p : PictureValue) (band register : ℕ) (marks : List ℕ) → AreRows p band 6 marks
+pub rows_occur : {p : PictureValue} {band : ℕ} (register : ℕ) {marks : List ℕ} → AreRows p band 6 marks
     → not (get_or marks register 0 == 0) ≡ occurs p band register
-rows_occur p band register marks rows =
-    same_bool (not (get_or marks register 0 == 0)) (occurs p band register)
+rows_occur {p} {band} register {marks} rows =
+    same_test (not (get_or marks register 0 == 0)) (occurs p band register)
     (λ some.
     let w = rows.only register (eqb-false (get_or marks register 0) 0 (not-true _ some)) in
     pixel_occurs p band register w.0 w.1 w.2 w.3 w.4)
@@ -145,5 +137,5 @@ rows_occur p band register marks rows =
     range_any 6 0 _ (column_has p band register i.number ∙ i.passes) in
     let under : i.number < 0 + p.width = i.under in
     let row : k.number < 0 + 6 = k.under in
-    let set_here = rows_groups p band register marks rows i.number k.number (omega arith) (omega arith) k.passes in
+    let set_here = rows_groups register rows i.number k.number (omega arith) (omega arith) k.passes in
     not_from_false _ (ne_eqb _ 0 (set_some _ (i.number / 32) set_here)))

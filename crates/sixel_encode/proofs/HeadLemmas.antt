@@ -1,10 +1,9 @@
 -- How the texts of short repeats begin.
 use Rattle.std.proofs.Common.{◌≡◌, ◌∙◌, ℕ, ◌+◌, ◌/◌, ◌%◌, ◌<◌, ◌≤◌, Bool, true, false, List, [], ◌∷◌, ◌++◌, ap, arith}
-use Rattle.std.proofs.Common.{get_or, inl, inr, length, refl, set, subst, sym, take}
+use Rattle.std.proofs.Common.{get_or, inl, inr, length, refl, sym, take}
 use Rattle.std.specs.Prelude.{nat_lt, if◌then◌else◌}
-use Rattle.std.proofs.lemmas.Bool.{cases_eq, cases_lt, le-ltb, lt-ltb}
+use Rattle.std.proofs.lemmas.Bool.{cases_lt, le-ltb, lt-ltb}
 use Rattle.std.proofs.lemmas.Fmt.{decimal_digit}
-use Rattle.std.proofs.lemmas.List.{get_or-set_other, get_or-set_same}
 use Rattle.sixel_encode.specs.Heads.{HasHead, IsHead, head}
 use Rattle.sixel_encode.proofs.DecimalLemmas.{two_digits}
 use Rattle.sixel_encode.proofs.LineLemmas.{first_of_four}
@@ -52,14 +51,3 @@ head_put at count index long texts old new room few has wide is same =
     first_of_four at long old new bytes room (omega (arith, wide, three_at_most (nat_lt count 10)))
     (ap (λ (n : ℕ). take (at + n) new) (sym has.long) ∙ put)
     ∙ ap (λ (t : List ℕ). take at old ++ t) (ap (λ (n : ℕ). take n bytes) size ∙ has.begins)
-
--- one more head was put
-pub heads-more : (texts : List (List ℕ)) (count : ℕ) (bytes : List ℕ) → count < length texts → IsHead count bytes
-    → ((k : ℕ) → k < count → HasHead texts k) → (k : ℕ) → k < count + 1 → HasHead (set texts count bytes) k
-heads-more texts count bytes room is before k below = elim (cases_eq k count) [
-  | inl same ↦
-      subst (λ (n : ℕ). HasHead (set texts count bytes) n) (sym same)
-      (subst (IsHead count) (sym (get_or-set_same texts count bytes [] room)) is)
-  | inr other ↦
-      subst (IsHead k) (sym (get_or-set_other texts count k bytes [] other)) (before k (omega (arith, below, other)))
-]

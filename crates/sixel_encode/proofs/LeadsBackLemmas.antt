@@ -44,11 +44,11 @@ prefix p = canon_start ∷ raster p ∷ []
 abbrev middle : PictureValue → List Event
 middle p = map Step (define_commands p.palette ++ join_by (band_commands p) (NextLine ∷ []) (below (bands p)))
 
-middle_passed : (registers : ℕ) (p : PictureValue) → Parted registers p
+middle_passed : {registers : ℕ} {p : PictureValue} → Parted registers p
     → Passed registers p (prefix p) (middle p) (bands p - 1) (is_above p (bands p))
-middle_passed registers p h =
+middle_passed {registers} {p} h =
     let opened : Opened registers p (prefix p) (map Step (define_commands p.palette)) (length p.palette) =
-    defines_opened registers p (prefix p) h (raster_opens p) in
+    defines_opened h (raster_opens p) in
     let stands = ran_as opened (opens_stands p) in
     rw (map-append Step (define_commands p.palette) (join_by (band_commands p) (NextLine ∷ []) (below (bands p))))
     (ran_join stands (bands_passed (bands p) h stands.after (opened.after).at_margin))
@@ -60,11 +60,11 @@ box_above p x y h =
     let l : y < p.height = ltb-true y p.height parts.1 in
     and_from _ _ parts.0 (and_from _ _ parts.1 (lt-ltb (y / 6) (bands p) (omega arith)))
 
-finish_keeps : (registers : ℕ) (p : PictureValue) (before : List Event) (band : ℕ)
+finish_keeps : (registers : ℕ) {p : PictureValue} {before : List Event} {band : ℕ}
     → Stands p before band (is_above p (bands p)) → Keeps registers before (Finish false)
 unfolding breaks_raster_first breaks_raster_twice breaks_ratio breaks_box_size breaks_register breaks_colour_value
     breaks_repeat_zero breaks_unselected breaks_undefined breaks_redefined BreaksOutside BreaksUncovered
-finish_keeps registers p before band s = record {
+finish_keeps registers {p} {before} s = record {
   raster_first = rw s.has_box refl;
   raster_twice = rw s.has_box refl;
   ratio = refl;
@@ -86,18 +86,16 @@ finish_keeps registers p before band s = record {
 pub lists_break_no_rule : (registers : ℕ) → ListsBreakNoRule registers
 unfolding canon canon_commands picture_commands KeepEach
 lists_break_no_rule registers p picture =
-    let h : Parted registers p = parted registers p picture in
-    let m : Passed registers p (prefix p) (middle p) (bands p - 1)
-    (is_above p (bands p)) = middle_passed registers p h in
+    let h : Parted registers p = parted picture in
+    let m : Passed registers p (prefix p) (middle p) (bands p - 1) (is_above p (bands p)) = middle_passed h in
     keep_none registers (canon_start ∷ raster p ∷ (middle p ++ Finish false ∷ [])) (
       start_keeps registers,
       refl,
       (
-        raster_keeps registers p h,
+        raster_keeps h,
         refl,
         keep_append registers (prefix p) (middle p) (Finish false ∷ []) m.keeps
-            (keep_one registers (prefix p ++ middle p) (Finish false)
-            (finish_keeps registers p (prefix p ++ middle p) (bands p - 1) m.after) refl),
+            (keep_one registers (prefix p ++ middle p) (Finish false) (finish_keeps registers m.after) refl),
       ),
     )
 
@@ -112,18 +110,18 @@ colour_back (Some (Hls h l s)) = refl
 palette_entry : (xs : List (Option Parts)) (i : ℕ) → i < length xs → get_or xs i None ≡ palette_at xs i
 palette_entry xs i l = sym (ap option_flatten (slice_get-get_or xs i None l))
 
-left_palette : (p : PictureValue) (events : List Event) (band : ℕ) (done : ℕ → ℕ → Bool) → Stands p events band done
+left_palette : {p : PictureValue} {events : List Event} {band : ℕ} {done : ℕ → ℕ → Bool} → Stands p events band done
     → p.palette ≡ palette_left (length p.palette) events
 unfolding palette_left colour_of
-left_palette p events band done s =
+left_palette {p} {events} s =
     fill_by_all (λ r. colour_of events r) p.palette (length p.palette) None refl
     (λ r l. palette_entry p.palette r l
     ∙ sym (ap (option_and_then colour_by) (s.defines r) ∙ colour_back (palette_at p.palette r)))
 
-left_pixel : (p : PictureValue) (events : List Event) (band i : ℕ) → Stands p events band (is_above p (bands p))
-    → i < p.width * p.height → 0 < p.width →
-    get_or p.registers i 0 ≡ unwrap_or (register_at events (i % p.width) (i / p.width)) 0
-left_pixel p events band i s l w =
+left_pixel : {p : PictureValue} {events : List Event} {band : ℕ} (i : ℕ) → Stands p events band (is_above p (bands p))
+    → i < p.width * p.height → 0 < p.width
+    → get_or p.registers i 0 ≡ unwrap_or (register_at events (i % p.width) (i / p.width)) 0
+left_pixel {p} i s l w =
     let x : i % p.width < p.width = omega arith in
     let m : i < p.height * p.width = rw (mul_comm p.height p.width) l in
     let y : i / p.width < p.height = (div-lt_iff_lt-mul w).1 m in
@@ -132,32 +130,30 @@ left_pixel p events band i s l w =
     let e : i / p.width * p.width + i % p.width ≡ i = div-add-mod' i p.width in
     rw (s.paints (i % p.width) (i / p.width), there, e) refl
 
-left_pixels : (registers : ℕ) (p : PictureValue) (events : List Event) (band : ℕ) → Parted registers p
-    → Stands p events band (is_above p (bands p)) →
-    p.registers ≡ row_by_row p.width p.height (λ x y. unwrap_or (register_at events x y) 0)
-left_pixels registers p events band h s =
+left_pixels : {registers : ℕ} {p : PictureValue} {events : List Event} {band : ℕ} → Parted registers p
+    → Stands p events band (is_above p (bands p))
+    → p.registers ≡ row_by_row p.width p.height (λ x y. unwrap_or (register_at events x y) 0)
+left_pixels {p} {events} h s =
     rows_from_index p.width p.height (λ x y. unwrap_or (register_at events x y) 0) p.registers 0 h.count
-    (λ i l. left_pixel p events band i s l (omega (arith, h.some_width)))
+    (λ i l. left_pixel i s l (omega (arith, h.some_width)))
 
 -- a list after which all pixels are painted leaves the picture
-stands_left : (registers : ℕ) (p : PictureValue) (events : List Event) (band : ℕ) → Parted registers p
+stands_left : {registers : ℕ} {p : PictureValue} {events : List Event} {band : ℕ} → Parted registers p
     → Stands p events band (is_above p (bands p)) → picture_left registers events ≡ p
 unfolding picture_left
-stands_left registers p events band h s =
+stands_left {registers} {p} {events} h s =
     let box : unwrap_or (raster_before events) (record { pan = 1; pad = 1; width = 0; height = 0 })
     ≡ box_of p = rw s.has_box refl in
-    let palette : palette_left registers events ≡ p.palette = rw (← h.entries) (sym (left_palette p events band _ s)) in
+    let palette : palette_left registers events ≡ p.palette = rw (← h.entries) (sym (left_palette s)) in
     let pixels : row_by_row p.width p.height (λ x y. unwrap_or (register_at events x y) 0)
-    ≡ p.registers = sym (left_pixels registers p events band h s) in
+    ≡ p.registers = sym (left_pixels h s) in
     rw (box, palette, pixels) refl
 
 -- the picture that the canonical list of a picture leaves is the same
 pub lists_leave_their_picture : (registers : ℕ) → ListsLeaveTheirPicture registers
 unfolding canon canon_commands picture_commands
 lists_leave_their_picture registers p picture =
-    let h : Parted registers p = parted registers p picture in
-    let m : Passed registers p (prefix p) (middle p) (bands p - 1)
-    (is_above p (bands p)) = middle_passed registers p h in
-    stands_left registers p (canon_start ∷ raster p ∷ (middle p ++ Finish false ∷ [])) (bands p - 1) h
-    (stands_quiet p (prefix p ++ middle p) (Finish false) (bands p - 1) (bands p - 1)
-    (is_above p (bands p)) m.after refl refl (λ q. refl) (omega arith))
+    let h : Parted registers p = parted picture in
+    let m : Passed registers p (prefix p) (middle p) (bands p - 1) (is_above p (bands p)) = middle_passed h in
+    stands_left h
+    (stands_quiet (Finish false) (bands p - 1) m.after refl refl (λ q. refl) (omega arith))

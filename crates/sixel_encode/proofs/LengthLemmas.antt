@@ -138,41 +138,38 @@ joined_size f c w (x ∷ xs) e h k =
 
 -- ---- bands
 
-registers_short : (rs : List ℕ) (registers : ℕ) (p : PictureValue) (band : ℕ) → registers ≤ 1000
-    → p.width ≤ most_side → AllByRecursion (IsUsed registers p) rs
-    → AreShort (register_commands p band) (p.width + 5) rs
+registers_short : (rs : List ℕ) (registers : ℕ) (p : PictureValue) (band : ℕ) → registers ≤ 1000 → p.width ≤ most_side
+    → AllByRecursion (IsUsed registers p) rs → AreShort (register_commands p band) (p.width + 5) rs
 registers_short [] registers p band n w h = tt
 registers_short (r ∷ rs) registers p band n w h =
     let under : r < registers = (h.0).under in
     let one : size (register_commands p band r) ≤ p.width + 4 = register_size p band r (omega arith) w in
     (omega arith, registers_short rs registers p band n w h.1)
 
-band_size : (registers : ℕ) (p : PictureValue) (band : ℕ) → registers ≤ 1000 → Parted registers p → band < bands p
+band_size : {registers : ℕ} {p : PictureValue} (band : ℕ) → registers ≤ 1000 → Parted registers p → band < bands p
     → size (band_commands p band) + 1 ≤ entries_of p * (p.width + 5)
 unfolding band_commands
-band_size registers p band n h l =
+band_size {registers} {p} band n h l =
     le_trans
     (joined_size (register_commands p band) CarriageReturn (p.width + 5) (band_registers p band) refl
-    (registers_short (band_registers p band) registers p band n h.most_width (band_used registers p band h))
-    (band_some registers p band h l))
-    (mul-le-mul_right (p.width + 5) (band_length registers p band h))
+    (registers_short (band_registers p band) registers p band n h.most_width (band_used band h)) (band_some band h l))
+    (mul-le-mul_right (p.width + 5) (band_length band h))
 
-bands_short : (n a registers : ℕ) (p : PictureValue) → registers ≤ 1000 → Parted registers p → a + n ≤ bands p
+bands_short : (n a : ℕ) {registers : ℕ} {p : PictureValue} → registers ≤ 1000 → Parted registers p → a + n ≤ bands p
     → AreShort (band_commands p) (entries_of p * (p.width + 5)) (range_with_len a n)
-bands_short zero a registers p m h l = tt
-bands_short (suc n) a registers p m h l =
-    (band_size registers p a m h (omega arith), bands_short n (a + 1) registers p m h (omega arith))
+bands_short zero a m h l = tt
+bands_short (suc n) a m h l = (band_size a m h (omega arith), bands_short n (a + 1) m h (omega arith))
 
-bands_size : (registers : ℕ) (p : PictureValue) → registers ≤ 1000 → Parted registers p
+bands_size : {registers : ℕ} {p : PictureValue} → registers ≤ 1000 → Parted registers p
     → size (picture_commands p) + 1 ≤ bands p * (entries_of p * (p.width + 5))
 unfolding picture_commands
-bands_size registers p m h =
+bands_size {p} m h =
     let some : 1 ≤ bands p = omega (arith, h.some_height) in
     let long : length (below (bands p)) ≡ bands p = length-range_with_len 0 (bands p) in
     subst (λ n. size (join_by (band_commands p) (NextLine ∷ []) (below (bands p))) + 1
     ≤ n * (entries_of p * (p.width + 5))) long
     (joined_size (band_commands p) NextLine (entries_of p * (p.width + 5)) (below (bands p)) refl
-    (bands_short (bands p) 0 registers p m h (omega arith)) (omega arith))
+    (bands_short (bands p) 0 m h (omega arith)) (omega arith))
 
 -- ---- definitions
 
@@ -205,8 +202,7 @@ colour_size r (Rgb x y z) l h = define_size r 2 x y z l (lit< tt) (omega arith) 
 colour_size r (Hls x y z) l h = define_size r 1 x y z l (lit< tt) (omega arith) (omega arith) (omega arith)
 
 entry_size : (r : ℕ) (o : Option Parts) (rest : List Command) (m : ℕ) → r < 1000 → IfSome o IsColour
-    → size rest ≤ 18 * m
-    → size (cons_option (option_map (define_command r) o) rest) ≤ 18 * cond (is_some o) (1 + m) m
+    → size rest ≤ 18 * m → size (cons_option (option_map (define_command r) o) rest) ≤ 18 * cond (is_some o) (1 + m) m
 entry_size r None rest m l c h = h
 entry_size r (Some colour) rest m l c h =
     omega (arith, colour_size r colour l c, size_cons (define_command r colour) rest)
@@ -220,22 +216,22 @@ entry_colour (x ∷ xs) (suc r) h = entry_colour xs r h.1
 abbrev pub defines_from : List (Option Parts) → ℕ → ℕ → List Command
 defines_from palette a n = filter_map (λ r. option_map (define_command r) (palette_at palette r)) (range_with_len a n)
 
-defines_size : (n a registers : ℕ) (p : PictureValue) → registers ≤ 1000 → Parted registers p → a + n ≤ registers
+defines_size : (n a : ℕ) {registers : ℕ} {p : PictureValue} → registers ≤ 1000 → Parted registers p → a + n ≤ registers
     → size (defines_from p.palette a n) ≤ 18 * entries (λ i. is_some (palette_at p.palette i)) a n
-defines_size zero a registers p m h l = omega (arith, size_none)
-defines_size (suc n) a registers p m h l =
+defines_size zero a m h l = omega (arith, size_none)
+defines_size (suc n) a {p} m h l =
     entry_size a (palette_at p.palette a) (defines_from p.palette (a + 1) n)
     (entries (λ i. is_some (palette_at p.palette i)) (a + 1) n) (omega arith) (entry_colour p.palette a h.in_range)
-    (defines_size n (a + 1) registers p m h (omega arith))
+    (defines_size n (a + 1) m h (omega arith))
 
-entries_size : (registers : ℕ) (p : PictureValue) → registers ≤ 1000 → Parted registers p
+entries_size : {registers : ℕ} {p : PictureValue} → registers ≤ 1000 → Parted registers p
     → size (define_commands p.palette) ≤ 18 * entries_of p
 unfolding define_commands
-entries_size registers p n h =
+entries_size {registers} {p} n h =
     let long : length p.palette ≡ registers = h.entries in
     let counted : entries (λ i. is_some (palette_at p.palette i)) 0 (length p.palette) ≡ entries_of p =
     entries_are p.palette in
-    omega (arith, defines_size (length p.palette) 0 registers p n h (omega arith))
+    omega (arith, defines_size (length p.palette) 0 n h (omega arith))
 
 -- ---- the whole
 
@@ -274,12 +270,12 @@ parts_size p =
 -- the text of a picture isn't longer than the bound
 pub texts_are_short : (registers : ℕ) → registers ≤ 1000 → TextsAreShort registers
 texts_are_short registers n p picture =
-    let h : Parted registers p = parted registers p picture in
+    let h : Parted registers p = parted picture in
     let bytes : size (picture_commands p) + 1 ≤ bands p * (entries_of p * (p.width + 5)) =
-    bands_size registers p n h in
+    bands_size n h in
     let times : bands p * entries_of p * (p.width + 5) ≡ bands p * (entries_of p * (p.width + 5)) =
     mul_assoc (bands p) (entries_of p) (p.width + 5) in
-    omega (arith, parts_size p, raster_size p.width p.height h.most_width h.most_height, entries_size registers p n h)
+    omega (arith, parts_size p, raster_size p.width p.height h.most_width h.most_height, entries_size n h)
 
 -- a bound for any picture
 most_of : (bands k w registers : ℕ) → bands ≤ most_bands → k ≤ registers → w ≤ most_side
@@ -291,10 +287,9 @@ most_of bands k w registers a b c =
     omega arith
 
 pub texts_have_at_most : (most registers : ℕ) → registers ≤ 1000
-    → 22 + 18 * registers + most_bands * registers * 2053 ≤ most
-    → TextsHaveAtMost most registers
+    → 22 + 18 * registers + most_bands * registers * 2053 ≤ most → TextsHaveAtMost most registers
 texts_have_at_most most registers n l p picture =
-    let h : Parted registers p = parted registers p picture in
+    let h : Parted registers p = parted picture in
     let long : length p.palette ≡ registers = h.entries in
     let k : entries_of p ≤ length p.palette = count_by-le-length is_some p.palette in
     let high : p.height ≤ most_side = h.most_height in

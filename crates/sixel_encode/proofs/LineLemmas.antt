@@ -48,8 +48,7 @@ run_spelled count bits digits enough is =
 -- ---- the parts of a text, one after another
 
 -- the text up to the end of a part
-pub part_next : (from to n : ℕ) (xs : List ℕ) → from + n ≡ to
-    → take to xs ≡ take from xs ++ take n (drop from xs)
+pub part_next : (from to n : ℕ) (xs : List ℕ) → from + n ≡ to → take to xs ≡ take from xs ++ take n (drop from xs)
 part_next from to n xs sum = ap (λ (m : ℕ). take m xs) (sym sum) ∙ take-add from n xs
 
 -- the whole text

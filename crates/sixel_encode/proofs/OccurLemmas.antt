@@ -24,9 +24,9 @@ unfolding occurs
 occurs_is p band r = any_map (column_bits p band r) (λ bits. not (bits == 0)) (below p.width)
 
 -- a register that occurs in a band is one of the palette, and has a colour
-pub occurs_used : (registers : ℕ) (p : PictureValue) (band r : ℕ) → Parted registers p → occurs p band r ≡ true
+pub occurs_used : {registers : ℕ} {p : PictureValue} (band r : ℕ) → Parted registers p → occurs p band r ≡ true
     → IsUsed registers p r
-occurs_used registers p band r h here =
+occurs_used {registers} {p} band r h here =
     let i : InRange 0 p.width (λ x. not (column_bits p band r x == 0)) =
     range_any p.width 0 _ (sym (occurs_is p band r) ∙ here) in
     let k : InRange 0 6 (has_pixel p band r i.number) =
@@ -36,14 +36,14 @@ occurs_used registers p band r h here =
     let under : i.number < 0 + p.width = i.under in
     let within : i.number < p.width = omega arith in
     subst (IsUsed registers p) (eqb-true (register_of p i.number (6 * band + k.number)) r parts.1)
-    (pixel_used registers p h i.number (6 * band + k.number) within (ltb-true (6 * band + k.number) p.height parts.0))
+    (pixel_used h i.number (6 * band + k.number) within (ltb-true (6 * band + k.number) p.height parts.0))
 
-pub band_used : (registers : ℕ) (p : PictureValue) (band : ℕ) → Parted registers p
+pub band_used : {registers : ℕ} {p : PictureValue} (band : ℕ) → Parted registers p
     → AllByRecursion (IsUsed registers p) (band_registers p band)
 unfolding band_registers
-band_used registers p band h =
+band_used {registers} {p} band h =
     filter_range (IsUsed registers p) (occurs p band) (length p.palette) 0 (length p.palette) (omega arith)
-    (λ r l here. occurs_used registers p band r h here)
+    (λ r l here. occurs_used band r h here)
 
 -- ---- at least one
 
@@ -60,13 +60,13 @@ any_some q [] h = cc h
 any_some q (r ∷ rs) h = omega arith
 
 -- the register of a pixel of a band is one of the band's registers; if it passes, one of them does
-pub own_listed : (registers : ℕ) (p : PictureValue) (band x k : ℕ) (q : ℕ → Bool) → Parted registers p
-    → x < p.width → k < 6 → 6 * band + k < p.height → q (register_of p x (6 * band + k)) ≡ true
+pub own_listed : {registers : ℕ} {p : PictureValue} (band x k : ℕ) (q : ℕ → Bool) → Parted registers p → x < p.width
+    → k < 6 → 6 * band + k < p.height → q (register_of p x (6 * band + k)) ≡ true
     → list_any q (band_registers p band) ≡ true
 unfolding band_registers
-own_listed registers p band x k q h l m inside passes =
+own_listed {registers} {p} band x k q h l m inside passes =
     let own = register_of p x (6 * band + k) in
-    let used : own < registers = (pixel_used registers p h x (6 * band + k) l inside).under in
+    let used : own < registers = (pixel_used h x (6 * band + k) l inside).under in
     let entries : length p.palette ≡ registers = h.entries in
     any_filter (occurs p band) q (below (length p.palette))
     ∙ any_range (length p.palette) 0 own (λ r. occurs p band r && q r) (omega arith) (omega arith)
@@ -74,12 +74,12 @@ own_listed registers p band x k q h l m inside passes =
     (and_from _ _ (lt-ltb (6 * band + k) p.height inside) (eq-eqb own own refl))) passes)
 
 -- each band has at least one register
-pub band_some : (registers : ℕ) (p : PictureValue) (band : ℕ) → Parted registers p → band < bands p
+pub band_some : {registers : ℕ} {p : PictureValue} (band : ℕ) → Parted registers p → band < bands p
     → 1 ≤ length (band_registers p band)
-band_some registers p band h l =
+band_some {p} band h l =
     let some : 0 < p.width = omega (arith, h.some_width) in
     any_some (λ r. true) (band_registers p band)
-    (own_listed registers p band 0 0 (λ r. true) h some (omega arith) (omega arith) refl)
+    (own_listed band 0 0 (λ r. true) h some (omega arith) (omega arith) refl)
 
 -- ---- no more than the entries of the palette
 
@@ -117,14 +117,14 @@ kept_length (suc n) a q t h =
     kept_step a (filter q (range_with_len (a + 1) n)) (entries t (a + 1) n) (q a) (t a) (h a)
     (kept_length n (a + 1) q t h)
 
-pub band_length : (registers : ℕ) (p : PictureValue) (band : ℕ) → Parted registers p
+pub band_length : {registers : ℕ} {p : PictureValue} (band : ℕ) → Parted registers p
     → length (band_registers p band) ≤ entries_of p
 unfolding band_registers
-band_length registers p band h =
+band_length {p} band h =
     let kept : length (filter (occurs p band) (range_with_len 0 (length p.palette)))
     ≤ entries (λ i. is_some (palette_at p.palette i)) 0 (length p.palette) =
     kept_length (length p.palette) 0 (occurs p band) (λ i. is_some (palette_at p.palette i))
-    (λ r here. (occurs_used registers p band r h here).coloured) in
+    (λ r here. (occurs_used band r h here).coloured) in
     let all : entries (λ i. is_some (palette_at p.palette i)) 0 (length p.palette) ≡ count_by is_some p.palette =
     entries_are p.palette in
     omega arith

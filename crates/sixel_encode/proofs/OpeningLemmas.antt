@@ -125,26 +125,25 @@ opened_entry {before = before} None rest o l c e k = k before (opens_skip o e)
 opened_entry {before = before} {a = a} (Some colour) rest o l c e k =
     let one = opened_colour colour o l c e in ran_join one (k (before ++ Step (define_command a colour) ∷ []) one.after)
 
-opened_from : (n : ℕ) {registers : ℕ} {p : PictureValue} (before : List Event) (a : ℕ) → Parted registers p
+opened_from : (n : ℕ) {registers : ℕ} {p : PictureValue} {before : List Event} {a : ℕ} → Parted registers p
     → Opens p before a → a + n ≤ registers → Opened registers p before (map Step (defines_from p.palette a n)) (a + n)
-opened_from zero {p = p} before a h o l =
-    ran_none (subst (Opens p before) (let e : a ≡ a + 0 = omega arith in e) o)
-opened_from (suc n) {registers} {p} before a h o l =
+opened_from zero {p = p} {before} {a} h o l = ran_none (subst (Opens p before) (let e : a ≡ a + 0 = omega arith in e) o)
+opened_from (suc n) {registers} {p} {a} h o l =
     let e : a + 1 + n ≡ a + suc n = omega arith in
     opened_entry (palette_at p.palette a) (defines_from p.palette (a + 1) n) o (omega arith)
     (entry_colour p.palette a h.in_range) refl
     (λ b k. subst (Opened registers p b (map Step (defines_from p.palette (a + 1) n))) e
-    (opened_from n b (a + 1) h k (omega arith)))
+    (opened_from n h k (omega arith)))
 
 -- all definitions
-pub defines_opened : (registers : ℕ) (p : PictureValue) (before : List Event) → Parted registers p → Opens p before 0
+pub defines_opened : {registers : ℕ} {p : PictureValue} {before : List Event} → Parted registers p → Opens p before 0
     → Opened registers p before (map Step (define_commands p.palette)) (length p.palette)
 unfolding define_commands
-defines_opened registers p before h o =
+defines_opened {registers} {p} {before} h o =
     let entries : length p.palette ≡ registers = h.entries in
     subst (Opened registers p before (map Step (defines_from p.palette 0 (length p.palette))))
     (let e : 0 + length p.palette ≡ length p.palette = omega arith in e)
-    (opened_from (length p.palette) before 0 h o (omega arith))
+    (opened_from (length p.palette) h o (omega arith))
 
 -- after the definitions of all registers, the data may begin
 pub opens_stands : (p : PictureValue) (before : List Event) → Opens p before (length p.palette)
@@ -185,21 +184,21 @@ start_keeps registers = record {
   uncovered = λ h. cc h.0;
 }
 
-has_sides_of : (registers : ℕ) (p : PictureValue) → Parted registers p → has_sides (box_of p) ≡ true
-has_sides_of registers p h =
+has_sides_of : {registers : ℕ} {p : PictureValue} → Parted registers p → has_sides (box_of p) ≡ true
+has_sides_of {p} h =
     and_from _ _ (and_from _ _ (le-leb 1 p.width h.some_width) (le-leb p.width most_side h.most_width))
     (and_from _ _ (le-leb 1 p.height h.some_height) (le-leb p.height most_side h.most_height))
 
-pub raster_keeps : (registers : ℕ) (p : PictureValue) → Parted registers p
+pub raster_keeps : {registers : ℕ} {p : PictureValue} → Parted registers p
     → Keeps registers (canon_start ∷ []) (raster p)
 unfolding breaks_raster_first breaks_raster_twice breaks_ratio breaks_box_size breaks_register breaks_colour_value
     breaks_repeat_zero breaks_unselected breaks_undefined breaks_redefined BreaksOutside BreaksUncovered raster_before
     earliest
-raster_keeps registers p parts = record {
+raster_keeps parts = record {
   raster_first = refl;
   raster_twice = refl;
   ratio = refl;
-  box_size = ap not (has_sides_of registers p parts);
+  box_size = ap not (has_sides_of parts);
   register = refl;
   colour_value = refl;
   repeat_zero = refl;

@@ -37,8 +37,8 @@ pub record Parted (registers : ℕ) (p : PictureValue) : Type 0 where
   pub entries : length p.palette ≡ registers
   pub in_range : AllByRecursion (λ o. IfSome o IsColour) p.palette
 
-pub parted : (registers : ℕ) (p : PictureValue) → IsPicture registers p → Parted registers p
-parted registers p h =
+pub parted : {registers : ℕ} {p : PictureValue} → IsPicture registers p → Parted registers p
+parted {registers} {p} h =
     let tests = no_fault (is_side p.width && is_side p.height) (length p.registers == p.width * p.height)
     (list_all (λ r. nat_lt r registers) p.registers) (list_all (λ r. is_some (palette_at p.palette r)) p.registers)
     h.accepted in
@@ -62,9 +62,9 @@ all_there q xs i l h = true_from_ne_false (q (slice_index xs i))
     (λ f. (let some_fails : list_all q xs ≡ false = list_all_at q xs i 0 l f in cc (some_fails, h)))
 
 -- the register of a pixel is one of the palette, and has a colour
-pub pixel_used : (registers : ℕ) (p : PictureValue) → Parted registers p → (x y : ℕ) → x < p.width → y < p.height
+pub pixel_used : {registers : ℕ} {p : PictureValue} → Parted registers p → (x y : ℕ) → x < p.width → y < p.height
     → IsUsed registers p (register_of p x y)
-pixel_used registers p h x y l m =
+pixel_used {registers} {p} h x y l m =
     let i : y * p.width + x < length p.registers = rw h.count (mul-add-lt y p.width x p.height m l) in
     record {
       under = ltb-true _ registers (all_there (λ r. nat_lt r registers) p.registers (y * p.width + x) i h.within);

@@ -1,6 +1,6 @@
 -- The numbers of a range, in order.
 use Rattle.std.proofs.Common.{◌≡◌, ℕ, zero, suc, ◌+◌, ◌<◌, ◌≤◌, ◌⊎◌, inl, inr, Bool, true, false, ◌&&◌, ◌||◌, cond}
-use Rattle.std.proofs.Common.{List, [], ◌∷◌, ◌++◌, refl, ap, ◌∙◌, arith, add-one, eq-or-lt_of_le}
+use Rattle.std.proofs.Common.{List, [], ◌∷◌, ◌++◌, refl, ap, arith, add-one, eq-or-lt_of_le}
 use Rattle.std.specs.Prelude.{filter}
 use Rattle.std.specs.List.{range_with_len, list_any, AllByRecursion}
 use Rattle.std.proofs.lemmas.Bool.{cond_both, or_left, or_right}
@@ -13,17 +13,6 @@ range_then a (suc n) j e = ap (λ (ks : List ℕ). a ∷ ks) (range_then (a + 1)
 -- the longer range ends with one more number
 pub below_then : (n : ℕ) → below (n + 1) ≡ below n ++ n ∷ []
 below_then n = rw add-one (range_then 0 n n (omega arith))
-
-pub range_split : (n a m : ℕ) → range_with_len a (n + m) ≡ range_with_len a n ++ range_with_len (a + n) m
-range_split zero a m =
-    let none : 0 + m ≡ m = omega arith in
-    let start : a ≡ a + 0 = omega arith in
-    rw none (ap (λ (k : ℕ). range_with_len k m) start)
-range_split (suc n) a m =
-    let longer : suc n + m ≡ suc (n + m) = omega arith in
-    let start : a + 1 + n ≡ a + suc n = omega arith in
-    rw longer (ap (λ (ks : List ℕ). a ∷ ks) (range_split n (a + 1) m
-    ∙ ap (λ (k : ℕ). range_with_len (a + 1) n ++ range_with_len k m) start))
 
 -- ---- a number of the range that passes
 

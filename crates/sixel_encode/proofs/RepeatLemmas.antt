@@ -14,9 +14,9 @@ use Rattle.sixel_encode.specs.Columns.{ArePairs, NoFour, are_four}
 use Rattle.sixel_encode.proofs.MaskLemmas.{none_left}
 
 -- the first byte that passes in a group, if none before the group does
-pub first_behind : (test : ℕ → Bool) (from at end to : ℕ) (bytes : List ℕ) (index : ℕ) → from ≤ at
+pub first_behind : {test : ℕ → Bool} (from : ℕ) {at end : ℕ} (to : ℕ) {bytes : List ℕ} {index : ℕ} → from ≤ at
     → NonePasses test from at bytes → end ≤ to → IsFirstAt test at end bytes index → IsFirstAt test from to bytes index
-first_behind test from at end to bytes index low none high first = record {
+first_behind from {at} to low none high first = record {
   after = omega (arith, first.after);
   below = omega (arith, first.below);
   passes = first.passes;
@@ -36,7 +36,7 @@ last_group test from at last to end bytes None low high none same first =
       | inr past ↦ first k past (omega arith)
     ]
 last_group test from at last to end bytes (Some index) low high none same first =
-    first_behind test from last end to bytes index low (λ k after less. none k after (omega arith)) (omega arith) first
+    first_behind from to low (λ k after less. none k after (omega arith)) (omega arith) first
 
 -- which lanes of two groups are equal
 abbrev pub tests : List ℕ → List ℕ → List Bool
@@ -46,8 +46,7 @@ tests_are : (v w : List ℕ) → tests v w ≡ zip2 (λ a b. a == b) v w
 tests_are v w = tops_compared w8 (λ a b. a == b) v w
 
 length-tests : (v w : List ℕ) → length v ≡ 32 → length w ≡ 32 → length (tests v w) ≡ 32
-length-tests v w long wide =
-    ap length (tests_are v w) ∙ length-zip2 (λ (a b : ℕ). a == b) v w (long ∙ sym wide) ∙ long
+length-tests v w long wide = ap length (tests_are v w) ∙ length-zip2 (λ (a b : ℕ). a == b) v w (long ∙ sym wide) ∙ long
 
 test_at : (v w : List ℕ) (j : ℕ) → length v ≡ 32 → length w ≡ 32 → j < 32
     → get_or (tests v w) j false ≡ (get_or v j 0 == get_or w j 0)
@@ -64,8 +63,7 @@ length-chosen v w chosen long wide all =
     (tested ∙ sym (length-replicate {A = ℕ} 32 0)) ∙ tested
 
 pub chosen_at : (v w chosen : List ℕ) (j : ℕ) → length v ≡ 32 → length w ≡ 32 → length chosen ≡ 32 → j < 32
-    → get_or (sel_l (tests v w) chosen (replicate 32 0)) j 0
-    ≡ cond (get_or v j 0 == get_or w j 0) (get_or chosen j 0) 0
+    → get_or (sel_l (tests v w) chosen (replicate 32 0)) j 0 ≡ cond (get_or v j 0 == get_or w j 0) (get_or chosen j 0) 0
 chosen_at v w chosen j long wide all lt =
     let tested = length-tests v w long wide in
     let zeros = length-replicate {A = ℕ} 32 0 in
@@ -178,8 +176,7 @@ singles_below at r pairs begun bytes are is most clear k low high room =
 pub begun_none : (at pairs begun : ℕ) (bytes : List ℕ) → ArePairs at bytes pairs → begun ≡ 0 → AreBegun pairs begun
     → NoFour at (at + 30) bytes
 begun_none at pairs begun bytes are none is =
-    singles_below at 30 pairs begun bytes are is (omega arith)
-    (λ i lt. ap (λ (n : ℕ). bit_at n i) none ∙ bit_at-zero i)
+    singles_below at 30 pairs begun bytes are is (omega arith) (λ i lt. ap (λ (n : ℕ). bit_at n i) none ∙ bit_at-zero i)
 
 -- the lowest set bit
 pub begun_first : (at pairs begun : ℕ) (bytes : List ℕ) → ArePairs at bytes pairs → pairs < 2 ^ 32 → begun ≢ 0

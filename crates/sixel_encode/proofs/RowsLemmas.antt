@@ -15,10 +15,10 @@ use Rattle.sixel_encode.proofs.BitLemmas.{column_has}
 use Rattle.sixel_encode.proofs.PartedLemmas.{Parted}
 use Rattle.sixel_encode.proofs.RangeLemmas.{InRange, range_any}
 
-pub rows_are : (registers : ℕ) (p : PictureValue) (band first end : ℕ) → Parted registers p
+pub rows_are : {registers : ℕ} {p : PictureValue} (band first end : ℕ) → Parted registers p
     → first ≡ min (6 * band) p.height → end ≡ min (first + 6) p.height
     → AreRowsOf p band (take (end * p.width - first * p.width) (drop (first * p.width) p.registers)) p.width
-rows_are registers p band first end parts first_is end_is =
+rows_are {p} band first end parts first_is end_is =
     let w = p.width in
     let some : 1 ≤ w = parts.some_width in
     let all : length p.registers ≡ p.height * w = parts.count ∙ mul_comm w p.height in
@@ -26,7 +26,11 @@ rows_are registers p band first end parts first_is end_is =
     let within : end * w ≤ p.height * w = mul-le-mul_right w (omega arith) in
     let rows = take (end * w - first * w) (drop (first * w) p.registers) in
     let long : length rows ≡ end * w - first * w =
-    omega (arith, length-take (end * w - first * w) (drop (first * w) p.registers), length-drop (first * w) p.registers) in
+    omega (
+      arith,
+      length-take (end * w - first * w) (drop (first * w) p.registers),
+      length-drop (first * w) p.registers,
+    ) in
     let here : (k : ℕ) → k < 6 → 6 * band + k < p.height → k * w + w ≤ length rows = λ k small inside.
     let last : (first + (k + 1)) * w ≤ end * w = mul-le-mul_right w (omega arith) in
     let parted : (first + (k + 1)) * w ≡ first * w + (k + 1) * w = add-mul first (k + 1) w in
@@ -46,8 +50,7 @@ rows_are registers p band first end parts first_is end_is =
           let moved : first * w ≡ 6 * band * w = ap (λ (n : ℕ). n * w) start in
           let place : first * w + (k * w + x) ≡ (6 * band + k) * w + x = omega arith in
           get_or-take (end * w - first * w) (drop (first * w) p.registers) (k * w + x) 0 (omega arith)
-          ∙ get_or-drop (first * w) p.registers (k * w + x) 0
-          ∙ ap (λ (n : ℕ). get_or p.registers n 0) place;
+          ∙ get_or-drop (first * w) p.registers (k * w + x) 0 ∙ ap (λ (n : ℕ). get_or p.registers n 0) place;
     }
 
 -- ---- the bits of a column
@@ -58,9 +61,9 @@ no_pixel p band register x row past =
     let out : nat_lt (6 * band + row) p.height ≡ false = search (arith, nat_tests) in
     ap (λ (t : Bool). t && (register_of p x (6 * band + row) == register)) out
 
-same_pixel : (p : PictureValue) (band register x k : ℕ) (rows : List ℕ) → AreRowsOf p band rows p.width
+same_pixel : {p : PictureValue} {band : ℕ} (register x k : ℕ) {rows : List ℕ} → AreRowsOf p band rows p.width
     → x < p.width → k < 6 → is_in_row rows p.width register x k ≡ has_pixel p band register x k
-same_pixel p band register x k rows are lt small = elim (cases_lt (6 * band + k) p.height) [
+same_pixel {p} {band} register x k {rows} are lt small = elim (cases_lt (6 * band + k) p.height) [
   | inl inside ↦
       row_there rows p.width register x k _ (are.here k small inside)
       (ap (λ (r : ℕ). r == register) (are.same x k lt small inside))
@@ -70,11 +73,11 @@ same_pixel p band register x k rows are lt small = elim (cases_lt (6 * band + k)
       ∙ sym (no_pixel p band register x k (omega arith))
 ]
 
-pub row_bits_are : (p : PictureValue) (band register x : ℕ) (rows : List ℕ) → AreRowsOf p band rows p.width
+pub row_bits_are : {p : PictureValue} {band : ℕ} (register x : ℕ) {rows : List ℕ} → AreRowsOf p band rows p.width
     → x < p.width → row_bits rows p.width register x ≡ column_bits p band register x
 unfolding column_bits
-row_bits_are p band register x rows are lt =
-    let same = λ (k : ℕ) (small : k < 6). same_pixel p band register x k rows are lt small in
+row_bits_are register x are lt =
+    let same = λ (k : ℕ) (small : k < 6). same_pixel register x k are lt small in
     rw (
       same 0 (omega arith),
       same 1 (omega arith),

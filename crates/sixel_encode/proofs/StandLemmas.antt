@@ -76,12 +76,12 @@ paints_step true d k o r h e = rw (h refl) refl
 paints_step false d k o r h e = e
 
 -- an event that is neither raster attributes nor a definition, and paints points in their own registers
-pub stands_push : (p : PictureValue) (before : List Event) (e : Event) (line next : ℕ) (done f : ℕ → ℕ → Bool)
-    → Stands p before line done →
-    raster_of e ≡ None → ((r : ℕ) → definition_where (λ q. q == r) e ≡ None) → line + cond (is_next_line e) 1 0 ≡ next →
-    ((x y : ℕ) → falls before e x y ≡ f x y) → ((x y : ℕ) → f x y ≡ true → known before ≡ Some (register_of p x y)) →
-    Stands p (before ++ e ∷ []) next (λ x y. f x y || done x y)
-stands_push p before e line next done f s raster define move fall own = record {
+pub stands_push : {p : PictureValue} {before : List Event} (e : Event) {line : ℕ} (next : ℕ) {done : ℕ → ℕ → Bool}
+    (f : ℕ → ℕ → Bool) → Stands p before line done → raster_of e ≡ None
+    → ((r : ℕ) → definition_where (λ q. q == r) e ≡ None) → line + cond (is_next_line e) 1 0 ≡ next
+    → ((x y : ℕ) → falls before e x y ≡ f x y) → ((x y : ℕ) → f x y ≡ true → known before ≡ Some (register_of p x y))
+    → Stands p (before ++ e ∷ []) next (λ x y. f x y || done x y)
+stands_push {p} {before} e next {done} f s raster define move fall own = record {
   at_line = band_push before e ∙ ap (λ n. n + cond (is_next_line e) 1 0) s.at_line ∙ move;
   has_box = raster_push before e ∙ rw (s.has_box) refl;
   defines = λ r. definition_push before e r ∙ rw (define r) (s.defines r);
@@ -92,13 +92,12 @@ stands_push p before e line next done f s raster define move fall own = record {
 }
 
 -- the same for an event that paints nothing
-pub stands_quiet : (p : PictureValue) (before : List Event) (e : Event) (line next : ℕ) (done : ℕ → ℕ → Bool)
-    → Stands p before line done →
-    bits_of e ≡ 0 → raster_of e ≡ None → ((r : ℕ) → definition_where (λ q. q == r) e ≡ None)
-    → line + cond (is_next_line e) 1 0 ≡ next →
-    Stands p (before ++ e ∷ []) next done
-stands_quiet p before e line next done s bits raster define move =
-    stands_push p before e line next done (λ x y. false) s raster define move
+pub stands_quiet : {p : PictureValue} {before : List Event} (e : Event) {line : ℕ} (next : ℕ) {done : ℕ → ℕ → Bool}
+    → Stands p before line done → bits_of e ≡ 0 → raster_of e ≡ None
+    → ((r : ℕ) → definition_where (λ q. q == r) e ≡ None) → line + cond (is_next_line e) 1 0 ≡ next
+    → Stands p (before ++ e ∷ []) next done
+stands_quiet {before} e next s bits raster define move =
+    stands_push e next (λ x y. false) s raster define move
     (λ x y. idle_falls before e x y (rw bits refl)) (λ x y h. cc h)
 
 -- the same state, for an equal line and equal points
@@ -183,4 +182,4 @@ pub quiet_passed : {registers : ℕ} {p : PictureValue} {before : List Event} {e
     → line + cond (is_next_line e) 1 0 ≡ next → Passed registers p before (e ∷ []) next done
 quiet_passed {p = p} {before} {e} {line} {next} {done} s bits raster finish seven r5 r6 r7 r10 define move =
     ran_one (quiet_keeps s.has_box bits raster finish r5 r6 r7 r10) seven
-    (stands_quiet p before e line next done s bits raster define move)
+    (stands_quiet e next s bits raster define move)

@@ -37,8 +37,7 @@ before_other m b c cs few other =
 before_end : (m b : ℕ) → m < 3 → b ≢ 0
     → columns_text (b ∷ (replicate m b ++ [])) ≡ (63 + b) ∷ columns_text (replicate m b ++ [])
 before_end m b few some =
-    columns-end (suc m) b some ∙ one_more m b few
-    ∙ sym (ap (λ (t : List ℕ). (63 + b) ∷ t) (columns-end m b some))
+    columns-end (suc m) b some ∙ one_more m b few ∙ sym (ap (λ (t : List ℕ). (63 + b) ∷ t) (columns-end m b some))
 
 none_blank : (n : ℕ) → has_bits (replicate n 0 ++ []) ≡ false
 none_blank zero = refl
@@ -102,14 +101,12 @@ stretch (suc n) (b ∷ cs) within each =
     ∙ ap (λ (t : List ℕ). (63 + b) ∷ t)
     (stretch n cs (omega arith) (λ k lt. alone_later b k cs (each (suc k) (omega arith))))
 
-stretch_from : (from n : ℕ) (cs : List ℕ) → from + n ≤ length cs
-    → ((k : ℕ) → from ≤ k → k < from + n → IsAlone k cs)
+stretch_from : (from n : ℕ) (cs : List ℕ) → from + n ≤ length cs → ((k : ℕ) → from ≤ k → k < from + n → IsAlone k cs)
     → columns_text (drop from cs) ≡ sixels_of (take n (drop from cs)) ++ columns_text (drop n (drop from cs))
 stretch_from zero n cs within each = stretch n cs (omega arith) (λ k lt. each k (omega arith) (omega arith))
 stretch_from (suc from) n [] within each = absurd (omega arith)
 stretch_from (suc from) n (b ∷ cs) within each =
-    stretch_from from n cs (omega arith)
-    (λ k low high. alone_later b k cs (each (suc k) (omega arith) (omega arith)))
+    stretch_from from n cs (omega arith) (λ k low high. alone_later b k cs (each (suc k) (omega arith) (omega arith)))
 
 part_of : (from n : ℕ) (cs : List ℕ) → sixels_of (take n (drop from cs)) ≡ take n (drop from (sixels_of cs))
 part_of from n cs =
@@ -154,8 +151,7 @@ equal_from (suc n) a v cs room each =
     (equal_from n (suc a) v cs (omega arith) (λ k low high. each k (omega arith) (omega arith)))
 
 run_from : (start end v : ℕ) (cs : List ℕ) → start ≤ end → end ≤ length cs
-    → ((k : ℕ) → start ≤ k → k < end → get_or cs k 0 ≡ v)
-    → drop start cs ≡ replicate (end - start) v ++ drop end cs
+    → ((k : ℕ) → start ≤ k → k < end → get_or cs k 0 ≡ v) → drop start cs ≡ replicate (end - start) v ++ drop end cs
 run_from start end v cs low high each =
     let whole : start + (end - start) ≡ end = omega arith in
     sym (take-append-drop (end - start) (drop start cs))
@@ -175,8 +171,7 @@ run_inside start end v cs low high each other =
     ∙ ap (λ (t : List ℕ). run_text (end - start) v ++ columns_text t) (sym rest)
 
 -- a run at the end of the row
-run_at_end : (start v : ℕ) (cs : List ℕ) → start ≤ length cs
-    → ((k : ℕ) → start ≤ k → k < length cs → get_or cs k 0 ≡ v)
+run_at_end : (start v : ℕ) (cs : List ℕ) → start ≤ length cs → ((k : ℕ) → start ≤ k → k < length cs → get_or cs k 0 ≡ v)
     → columns_text (drop start cs) ≡ columns_text (replicate (length cs - start) v ++ [])
 run_at_end start v cs low each =
     ap columns_text (run_from start (length cs) v cs low (omega arith) each
@@ -185,14 +180,12 @@ run_at_end start v cs low each =
 -- blank columns at the end have no text
 pub blank_text : (start : ℕ) (cs : List ℕ) → start ≤ length cs
     → ((k : ℕ) → start ≤ k → k < length cs → get_or cs k 0 ≡ 0) → columns_text (drop start cs) ≡ []
-blank_text start cs low each =
-    run_at_end start 0 cs low each ∙ columns-blank (length cs - start) 0 refl
+blank_text start cs low each = run_at_end start 0 cs low each ∙ columns-blank (length cs - start) 0 refl
 
 -- the text of a run, at the end of the row or before another column
 pub run_behind : (start end v : ℕ) (cs : List ℕ) → start ≤ end → end ≤ length cs
     → ((k : ℕ) → start ≤ k → k < end → get_or cs k 0 ≡ v) → (end < length cs → get_or cs end 0 ≢ v)
-    → (end ≡ length cs → v ≢ 0)
-    → columns_text (drop start cs) ≡ run_text (end - start) v ++ columns_text (drop end cs)
+    → (end ≡ length cs → v ≢ 0) → columns_text (drop start cs) ≡ run_text (end - start) v ++ columns_text (drop end cs)
 run_behind start end v cs low high each other some = elim (cases_lt end (length cs)) [
   | inl inside ↦ run_inside start end v cs low inside each (other inside)
   | inr past ↦
@@ -245,9 +238,9 @@ sixels_are cs most k lt =
 -- ---- the text so far, one step after another
 
 -- the columns of a run have equal bits
-run_bits : (start end : ℕ) (cs : List ℕ) → IsRun start end (sixels_of cs)
-    → (k : ℕ) → start ≤ k → k < end → get_or cs k 0 ≡ get_or cs start 0
-run_bits start end cs run k low high =
+run_bits : {start end : ℕ} (cs : List ℕ) → IsRun start end (sixels_of cs) → (k : ℕ) → start ≤ k → k < end
+    → get_or cs k 0 ≡ get_or cs start 0
+run_bits {start} cs run k low high =
     let wide = length-map cs (λ bits. 63 + bits) in
     let within = run.within in
     let some = run.some in
@@ -258,21 +251,20 @@ run_bits start end cs run k low high =
     let e = run.equal k low high in
     omega arith
 
-run_other : (start end : ℕ) (cs : List ℕ) → IsRun start end (sixels_of cs) → end < length cs
+run_other : {start end : ℕ} (cs : List ℕ) → IsRun start end (sixels_of cs) → end < length cs
     → get_or cs end 0 ≢ get_or cs start 0
-run_other start end cs run inside = λ e.
+run_other {start} {end} cs run inside = λ e.
     let wide = length-map cs (λ bits. 63 + bits) in
     let some = run.some in
     let first : start < length cs = omega arith in
-    run.ends (omega arith)
-    (spelled_at cs end inside ∙ ap (λ (n : ℕ). 63 + n) e ∙ sym (spelled_at cs start first))
+    run.ends (omega arith) (spelled_at cs end inside ∙ ap (λ (n : ℕ). 63 + n) e ∙ sym (spelled_at cs start first))
 
 -- single sixels, then the repeat after them
-next_of : (cs : List ℕ) (from start end : ℕ) → IsRepeatAt from (sixels_of cs) start → IsRun start end (sixels_of cs)
+next_of : (cs : List ℕ) {from start end : ℕ} → IsRepeatAt from (sixels_of cs) start → IsRun start end (sixels_of cs)
     → (end ≡ length cs → get_or cs start 0 ≢ 0)
     → columns_text (drop from cs)
     ≡ (part from start (sixels_of cs) ++ run_text (end - start) (get_or cs start 0)) ++ columns_text (drop end cs)
-next_of cs from start end next run some =
+next_of cs {from} {start} {end} next run some =
     let wide = length-map cs (λ bits. 63 + bits) in
     let within = run.within in
     let more = run.some in
@@ -286,13 +278,11 @@ next_of cs from start end next run some =
             | inl lt ↦ lt
             | inr past ↦ absurd (some (omega arith) blank)
           ] in
-          let ink : get_or cs end 0 ≢ 0 = λ e. run_other start end cs run before (e ∙ sym blank) in
+          let ink : get_or cs end 0 ≢ 0 = λ e. run_other cs run before (e ∙ sym blank) in
           stretch_text cs from start end low (omega arith) ink (omega arith) next.before
     ] in
-    single
-    ∙ ap (λ (t : List ℕ). part from start (sixels_of cs) ++ t)
-    (run_behind start end (get_or cs start 0) cs (omega arith) (omega arith) (run_bits start end cs run)
-    (run_other start end cs run) some)
+    single ∙ ap (λ (t : List ℕ). part from start (sixels_of cs) ++ t)
+    (run_behind start end (get_or cs start 0) cs (omega arith) (omega arith) (run_bits cs run) (run_other cs run) some)
     ∙ sym (append_assoc (part from start (sixels_of cs)) (run_text (end - start) (get_or cs start 0))
     (columns_text (drop end cs)))
 
@@ -312,15 +302,15 @@ next_text xs from start end are next run some =
     let bits : get_or cs start 0 ≡ get_or xs start 0 - 63 = get_or-map (λ sixel. sixel - 63) xs start 0 0 inside in
     let least = (are start inside).0 in
     let ink : end ≡ length cs → get_or cs start 0 ≢ 0 = λ done none. some (omega arith) (omega arith) in
-    next_of cs from start end (subst (λ (t : List ℕ). IsRepeatAt from t start) e next)
+    next_of cs (subst (λ (t : List ℕ). IsRepeatAt from t start) e next)
     (subst (λ (t : List ℕ). IsRun start end t) e run) ink
     ∙ ap₂ (λ (t : List ℕ) (b : ℕ). (part from start t ++ run_text (end - start) b) ++ columns_text (drop end cs))
     (sym e) bits
 
 -- if the last repeat is blank, the column before it isn't
-last_of : (xs : List ℕ) (from start : ℕ) → from < start → IsRepeatAt from xs start → get_or xs start 0 ≡ 63
+last_of : {xs : List ℕ} {from start : ℕ} → from < start → IsRepeatAt from xs start → get_or xs start 0 ≡ 63
     → get_or xs (start - 1) 0 ≢ 63
-last_of xs from start low next blank = λ also.
+last_of {xs} {start} low next blank = λ also.
     let k = start - 1 in
     let at : k + 1 ≡ start = omega arith in
     let at1 : k + 2 ≡ start + 1 = omega arith in
@@ -378,18 +368,16 @@ last_text xs from to are low high none blank some =
     ∙ ap (λ (t : List ℕ). part from to t) (sym e)
 
 -- the end, if the last repeat is blank
-pub blank_end : (xs : List ℕ) (from start end : ℕ) → AreSixels xs → IsRepeatAt from xs start → IsRun start end xs
-    → end ≡ length xs → get_or xs start 0 ≡ 63
-    → columns_text (drop from (bits_of_sixels xs)) ≡ part from start xs
-blank_end xs from start end are next run done blank =
+pub blank_end : {xs : List ℕ} {from start end : ℕ} → AreSixels xs → IsRepeatAt from xs start → IsRun start end xs
+    → end ≡ length xs → get_or xs start 0 ≡ 63 → columns_text (drop from (bits_of_sixels xs)) ≡ part from start xs
+blank_end {xs} {from} {start} are next run done blank =
     let room = next.within in
     last_text xs from start are next.after (omega arith) next.before
-    (λ k low high. run.equal k low (omega arith) ∙ blank)
-    (λ less. last_of xs from start less next blank)
+    (λ k low high. run.equal k low (omega arith) ∙ blank) (λ less. last_of less next blank)
 
 -- the end, if no repeat is left
-pub ink_text : (xs : List ℕ) (from to : ℕ) → AreSixels xs → NoFour from (length xs) xs → IsInkEnd from to xs
+pub ink_text : {xs : List ℕ} {from to : ℕ} → AreSixels xs → NoFour from (length xs) xs → IsInkEnd from to xs
     → columns_text (drop from (bits_of_sixels xs)) ≡ part from to xs
-ink_text xs from to are none ink =
+ink_text {xs} {from} {to} are none ink =
     let high = ink.within in
     last_text xs from to are ink.after ink.within (λ k low lt room. none k low (omega arith) room) ink.blank ink.ink

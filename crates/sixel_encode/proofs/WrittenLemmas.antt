@@ -120,25 +120,24 @@ join_writable f c P [] s h k = tt
 join_writable f c P (r ∷ rs) s h k =
     all-append (λ c. CanWrite (Step c)) (f r) (flat_map (λ r. c ∷ f r) rs) (k r h.0) (rest_writable f c P rs s h.1 k)
 
-band_writable : (registers : ℕ) (p : PictureValue) (band : ℕ) → registers ≤ 65535 → Parted registers p
+band_writable : {registers : ℕ} {p : PictureValue} (band : ℕ) → registers ≤ 65535 → Parted registers p
     → AreWritable (band_commands p band)
 unfolding band_commands
-band_writable registers p band n h =
+band_writable {registers} {p} band n h =
     join_writable (register_commands p band) CarriageReturn (IsUsed registers p) (band_registers p band)
-    (record { is_event = tt; spellable = tt }) (band_used registers p band h)
+    (record { is_event = tt; spellable = tt }) (band_used band h)
     (λ r u. (let under : r < registers = u.under in register_writable p band r (omega arith) h.most_width))
 
 every : (xs : List ℕ) → AllByRecursion (λ x. Unit {0}) xs
 every [] = tt
 every (x ∷ xs) = (tt, every xs)
 
-bands_writable : (registers : ℕ) (p : PictureValue) → registers ≤ 65535 → Parted registers p
+bands_writable : {registers : ℕ} {p : PictureValue} → registers ≤ 65535 → Parted registers p
     → AreWritable (picture_commands p)
 unfolding picture_commands
-bands_writable registers p n h =
+bands_writable {p} n h =
     join_writable (band_commands p) NextLine (λ l. Unit {0}) (below (bands p))
-    (record { is_event = tt; spellable = tt })
-    (every (below (bands p))) (λ l u. band_writable registers p l n h)
+    (record { is_event = tt; spellable = tt }) (every (below (bands p))) (λ l u. band_writable l n h)
 
 -- ---- definitions
 
@@ -157,30 +156,30 @@ entry_writable : (r : ℕ) (o : Option Parts) (rest : List Command) → r ≤ 65
 entry_writable r None rest l c h = h
 entry_writable r (Some colour) rest l c h = (colour_writable r colour l c, h)
 
-defines_writable : (n a registers : ℕ) (p : PictureValue) → registers ≤ 65535 → Parted registers p → a + n ≤ registers
-    → AreWritable (defines_from p.palette a n)
-defines_writable zero a registers p m h l = tt
-defines_writable (suc n) a registers p m h l =
+defines_writable : (n a : ℕ) {registers : ℕ} {p : PictureValue} → registers ≤ 65535 → Parted registers p
+    → a + n ≤ registers → AreWritable (defines_from p.palette a n)
+defines_writable zero a m h l = tt
+defines_writable (suc n) a {p} m h l =
     entry_writable a (palette_at p.palette a) (defines_from p.palette (a + 1) n) (omega arith)
-    (entry_colour p.palette a h.in_range) (defines_writable n (a + 1) registers p m h (omega arith))
+    (entry_colour p.palette a h.in_range) (defines_writable n (a + 1) m h (omega arith))
 
-entries_writable : (registers : ℕ) (p : PictureValue) → registers ≤ 65535 → Parted registers p
+entries_writable : {registers : ℕ} {p : PictureValue} → registers ≤ 65535 → Parted registers p
     → AreWritable (define_commands p.palette)
 unfolding define_commands
-entries_writable registers p n h =
+entries_writable {registers} {p} n h =
     let long : length p.palette ≡ registers = h.entries in
-    defines_writable (length p.palette) 0 registers p n h (omega arith)
+    defines_writable (length p.palette) 0 n h (omega arith)
 
 -- ---- the whole
 
 pub events_can_be_written : (registers : ℕ) → registers ≤ 65535 → EventsCanBeWritten registers
 unfolding canon canon_commands
 events_can_be_written registers n p picture =
-    let h : Parted registers p = parted registers p picture in
+    let h : Parted registers p = parted picture in
     let u : p.width ≤ most_side = h.most_width in
     let v : p.height ≤ most_side = h.most_height in
-    let defines = entries_writable registers p n h in
-    let bits = bands_writable registers p n h in (
+    let defines = entries_writable n h in
+    let bits = bands_writable n h in (
       record { is_event = (lit≤ tt, (lit≤ tt, (lit≤ tt, tt))); spellable = omega arith },
       (
         record { is_event = (lit≤ tt, (lit≤ tt, (omega arith, (omega arith, tt)))); spellable = tt },

@@ -4,7 +4,7 @@ use Rattle.std.proofs.Common.{arith, get_or, length, map, refl, sym}
 use Rattle.std.specs.Borrow.{Bor}
 use Rattle.std.specs.Prelude.{All, Contains}
 use Rattle.std.proofs.lemmas.List.Elements.{All-nil, All-push, All-weaker}
-use Rattle.sixel_explain.specs.Explanations.{IsNearest, edits, most_edits}
+use Rattle.sixel_explain.specs.Explanations.{edits, most_edits}
 use Rattle.sixel_run.specs.Texts.{Text}
 
 -- the name that was kept takes this many edits; if none was, the count is the first that is too great
@@ -50,15 +50,3 @@ farther names word done kept fewest name n so is more = record {
   least = All-push (λ (other : Text). fewest ≤ edits other word) done name so.least (omega (arith, is, more));
   is_kept = so.is_kept;
 }
-
-pub near_end : (names : List Text) (word : Text) (kept : Option Text) (fewest : ℕ)
-    → SoFar names word names kept fewest → IsNearest names word kept
-near_end names word None fewest so =
-    All-weaker (λ (other : Text). fewest ≤ edits other word) (λ (other : Text). most_edits < edits other word)
-    (λ other most. omega (arith, most, so.is_kept)) names so.least
-near_end names word (Some name) fewest so = (
-  so.is_kept.0,
-  omega (arith, so.is_kept.1, so.is_kept.2),
-  All-weaker (λ (other : Text). fewest ≤ edits other word) (λ (other : Text). edits name word ≤ edits other word)
-      (λ other most. omega (arith, most, so.is_kept.1)) names so.least,
-)

@@ -1,12 +1,11 @@
 -- A line of the program asks for its topic.
-use Rattle.std.proofs.Common.{◌≡◌, ◌≢◌, ◌∙◌, ◌∷◌, ◌++◌, ◌==◌, ◌+◌, ◌-◌, ◌/◌, ◌%◌, ◌<◌, ◌≤◌, ◌⊎◌, ℕ, zero, suc, []}
+use Rattle.std.proofs.Common.{◌≡◌, ◌≢◌, ◌∙◌, ◌∷◌, ◌++◌, ◌==◌, ◌+◌, ◌-◌, ◌<◌, ◌≤◌, ◌⊎◌, ℕ, []}
 use Rattle.std.proofs.Common.{Bool, List, None, Option, Some, ap, append-nil, append_assoc, arith, codes, cond, drop}
 use Rattle.std.proofs.Common.{false, inl, inr, le-ltb, length, length-append, lt-ltb, map, nat_lt, ne_eqb, refl}
-use Rattle.std.proofs.Common.{subst, sym, take, true}
+use Rattle.std.proofs.Common.{sym, take, true}
 use Rattle.std.specs.Prelude.{decimal}
 use Rattle.std.specs.Char.{to_ascii_lowercase}
 use Rattle.std.specs.Cmp.Lexicographic.{pointwise}
-use Rattle.std.specs.Fmt.{digits, digits_onto, digit_glyph}
 use Rattle.std.specs.List.{onto_first}
 use Rattle.std.specs.Option.{option_or}
 use Rattle.std.specs.Str.{str_to_ascii_lowercase}
@@ -24,6 +23,7 @@ use Rattle.sixel_ppm.specs.declared.ppm.PpmReason.TheVariants as ppm
 use Rattle.sixel_run.specs.declared.fault.RunFault.{RunFault}
 use Rattle.sixel_run.specs.declared.fault.RunFault.TheVariants as fault
 use Rattle.sixel_run.specs.Texts.{Text, fault_parts, finding_line, line, pixel_parts, rule_name, spaced}
+use Rattle.sixel_run.proofs.DigitLemmas.{AreDigits, number, number_digits}
 use Rattle.sixel_explain.specs.declared.explanations.Topic.{Topic}
 use Rattle.sixel_explain.specs.declared.explanations.Topic.TheVariants as topic
 use Rattle.sixel_explain.specs.Explanations.{ArePasted, ends_in, last_name, line_of, listed_names, name_called, name_in}
@@ -100,60 +100,6 @@ named_alone t =
 
 -- ---- numbers
 
-abbrev pub AreDigits : Text → Type 0
-AreDigits [] = Unit {0}
-AreDigits (d ∷ ds) = ((48 ≤ d) × (d ≤ 57)) × AreDigits ds
-
--- the text has digits only, and one at least
-record IsNumber (text : Text) : Type 0 where
-  pub front : Text
-  pub last : ℕ
-  pub is : text ≡ front ++ last ∷ []
-  pub digits : AreDigits front
-  pub digit : (48 ≤ last) × (last ≤ 57)
-
-glyph : (d : ℕ) → d < 10 → (48 ≤ digit_glyph false d) × (digit_glyph false d ≤ 57)
-glyph d small = rw (lt-ltb d 10 small) (omega arith, omega arith)
-
-one_digit : (n : ℕ) → (48 ≤ digit_glyph false (n % 10)) × (digit_glyph false (n % 10) ≤ 57)
-one_digit n = glyph (n % 10) (omega arith)
-
-more_digits : (a b : Text) → AreDigits a → AreDigits b → AreDigits (a ++ b)
-more_digits [] b are more = more
-more_digits (d ∷ a) b are more = (are.0, more_digits a b are.1 more)
-
-either : (b : Bool) (x y : Text) → IsNumber x → IsNumber y → IsNumber (cond b x y)
-either true x y one other = one
-either false x y one other = other
-
--- digits before others
-before_digits : (k n : ℕ) (front : Text) (last : ℕ) → AreDigits front → (48 ≤ last) × (last ≤ 57)
-    → IsNumber (digits_onto k 10 false n (front ++ last ∷ []))
-before_digits zero n front last are digit =
-    record { front = front; last = last; is = refl; digits = are; digit = digit }
-before_digits (suc k) n front last are digit =
-    let d = digit_glyph false (n % 10) in
-    either (n / 10 == 0) (d ∷ (front ++ last ∷ [])) (digits_onto k 10 false (n / 10) (d ∷ (front ++ last ∷ [])))
-    (record { front = d ∷ front; last = last; is = refl; digits = (one_digit n, are); digit = digit })
-    (before_digits k (n / 10) (d ∷ front) last (one_digit n, are) digit)
-
-some_digits : (k n : ℕ) → IsNumber (digits_onto (suc k) 10 false n [])
-some_digits k n =
-    let d = digit_glyph false (n % 10) in
-    either (n / 10 == 0) (d ∷ []) (digits_onto k 10 false (n / 10) (d ∷ []))
-    (record { front = []; last = d; is = refl; digits = tt; digit = one_digit n })
-    (before_digits k (n / 10) [] d tt (one_digit n))
-
-number : (n : ℕ) → IsNumber (decimal n)
-unfolding digits
-number n = some_digits 63 n
-
-all_digits : (text : Text) → IsNumber text → AreDigits text
-all_digits text n = subst AreDigits (sym n.is) (more_digits n.front (n.last ∷ []) n.digits (n.digit, tt))
-
-pub number_digits : (n : ℕ) → AreDigits (decimal n)
-number_digits n = all_digits (decimal n) (number n)
-
 digits_are_low : (ds : Text) → AreDigits ds → low ds ≡ ds
 digits_are_low [] are = refl
 digits_are_low (d ∷ ds) are = rw (lt-ltb d 65 (omega (arith, are.0.1)), digits_are_low ds are.1) refl
@@ -184,11 +130,11 @@ digits_are_no_name ds are =
     (λ t is. true≢false (sym (names_begin_high t) ∙ ap begins_high is ∙ digits_begin_low ds are))
 
 pub low_number : (n : ℕ) → low (decimal n) ≡ decimal n
-low_number n = digits_are_low (decimal n) (all_digits (decimal n) (number n))
+low_number n = digits_are_low (decimal n) (number_digits n)
 
 pub number_nameless : (n : ℕ) → last_in (decimal n) ≡ None
 number_nameless n =
-    let are = all_digits (decimal n) (number n) in
+    let are = number_digits n in
     ap last_name (digits_are_one (decimal n) are) ∙ digits_are_no_name (decimal n) are
 
 -- ---- ends

@@ -1,5 +1,5 @@
 -- A list in which a definition comes after a select.
-use Rattle.std.proofs.Common.{◌≡◌, ◌≢◌, ◌⊎◌, inl, inr, ℕ, Bool, true, false, refl, lit≤}
+use Rattle.std.proofs.Common.{◌≡◌, ◌≢◌, ℕ, refl, lit≤}
 use Rattle.sixel_model.specs.declared.colour.Parts.TheVariants.{Rgb}
 use Rattle.sixel_model.specs.Rules.{Breaks, BreaksNone, BreaksOutside, BreaksUncovered, breaks_box_size}
 use Rattle.sixel_model.specs.Rules.{breaks_eight_bit, breaks_colour_value, breaks_ratio, breaks_raster_first}
@@ -20,18 +20,11 @@ use Rattle.sixel_judge.proofs.DecideLemmas.{decided_by, falls_searchable, blank_
 use Rattle.sixel_judge.proofs.DecideLemmas.{blank_first, outside_decided, blank_somewhere, both_decided}
 use Rattle.sixel_judge.proofs.DecideLemmas.{uncovered_decided, rule_decided, held_decided, position_decided}
 use Rattle.sixel_judge.proofs.DecideLemmas.{broken_decided, broken_or_none}
+use Rattle.sixel_judge.proofs.OnePixel.{second_of}
 use Rattle.sixel_judge.proofs.SearchLemmas.{decide_true, least_here, least_more, least_below, in_row}
 use Rattle.sixel_judge.proofs.SearchLemmas.{row_decided, first_point}
 use Rattle.sixel_field.specs.AtSelection.{loaded_on, shown_at_selection}
 use Rattle.sixel_field.specs.Laws.{LateDefinitionsCanDiffer, late_red}
-
-abbrev is_second : {A B : Type 0} → A ⊎ B → Bool
-is_second (inl a) = false
-is_second (inr b) = true
-
-second_of : {A B : Type 0} (s : A ⊎ B) → is_second s ≡ true → B
-second_of (inl a) h = cc
-second_of (inr b) h = b
 
 -- by computation, each rule is tested at each event
 unbroken : (profile : Profile) → BreaksNone (count_of profile) last_rule late_red

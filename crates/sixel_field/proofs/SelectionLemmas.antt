@@ -12,7 +12,7 @@ use Rattle.sixel_model.specs.declared.rule.Rule.TheVariants.{Uncovered}
 use Rattle.sixel_model.specs.Events.{is_data_command, named_by, raster_of, select_of}
 use Rattle.sixel_model.specs.Geometry.{falls}
 use Rattle.sixel_model.specs.Positions.{at_position, last_at, latest}
-use Rattle.sixel_model.specs.Rules.{BreaksNone, breaks_unselected, known, last_rule, raster_before}
+use Rattle.sixel_model.specs.Rules.{BreaksNone, known, last_rule, raster_before}
 use Rattle.sixel_model.proofs.KnownLemmas.{Known, known_is}
 use Rattle.sixel_model.proofs.LastLemmas.{at_there, item_there}
 use Rattle.sixel_model.proofs.PositionLemmas.{last_below_same}
@@ -25,9 +25,8 @@ use Rattle.sixel_terminal.proofs.PaintLemmas.{none_filled}
 use Rattle.sixel_terminal.proofs.PlainLemmas.{same_points_on_each}
 use Rattle.sixel_judge.specs.Portable.{IsPortable, Shows}
 use Rattle.sixel_judge.proofs.CoverLemmas.{box_at_data}
-use Rattle.sixel_judge.proofs.DrawLemmas.{falls_paints}
-use Rattle.sixel_judge.proofs.OptionLemmas.{some_from, some_value}
-use Rattle.sixel_judge.proofs.ShownLemmas.{left_is_portable}
+use Rattle.sixel_judge.proofs.OptionLemmas.{some_value}
+use Rattle.sixel_judge.proofs.ShownLemmas.{falls_known, left_is_portable}
 use Rattle.sixel_judge.proofs.WithinLemmas.{plain}
 use Rattle.sixel_encode.specs.Canon.{canon}
 use Rattle.sixel_encode.proofs.LeadsBackLemmas.{lists_break_no_rule, lists_leave_their_picture}
@@ -79,11 +78,6 @@ paints_selected t events before e x y r bits h =
 
 -- ---- the selected register is loaded
 
-known_there : (n : ℕ) (before : List Event) (e : Event) (x y : ℕ) → Keeps n before e → falls before e x y ≡ true
-    → IsSome (known before)
-unfolding breaks_unselected
-known_there n before e x y k h = some_from (known before) (rw (falls_paints before e x y h) at k.unselected)
-
 last_of_either : (b : Bool) (before : List Event) (r : ℕ) → Known before r
     → latest (if b then named_by else select_of) before ≡ Some r
 last_of_either true before r k = k.named
@@ -109,7 +103,7 @@ loaded_there n t events i e x y none first here bits touched =
     let there : IsSome (raster_before (take i events)) = box_at_data n (take i events) e k bits in
     let fell : falls (take i events) e x y ≡ true
     = sym (same_points_on_each t events i e x y (plain n events drawn) here there) ∙ touched in
-    let q : (r : ℕ) × (known (take i events) ≡ Some r) = some_value _ (known_there n (take i events) e x y k fell) in
+    let q : (r : ℕ) × (known (take i events) ≡ Some r) = some_value _ (falls_known n (take i events) e x y k fell) in
     loaded_known t (take i events) (q.0) (known_is (take i events) (q.0) (q.1)) (defines_taken events i first)
 
 -- ---- each event paints the same

@@ -55,11 +55,6 @@ may_then seen xs ys m = record {
 pub takes_none : {F : Type 0} (has_taken : F → F → List Placed → Type 0) (f : F) → TakesEvents has_taken f f []
 takes_none has_taken f = λ first seen h. subst (has_taken first f) (sym (append-nil seen)) h
 
-pub takes_then : {F : Type 0} (has_taken : F → F → List Placed → Type 0) (a b c : F) (xs ys : List Placed)
-    → TakesEvents has_taken a b xs → TakesEvents has_taken b c ys → TakesEvents has_taken a c (xs ++ ys)
-takes_then has_taken a b c xs ys one two = λ first seen h.
-    subst (has_taken first c) (append_assoc seen xs ys) (two first (seen ++ xs) (one first seen h))
-
 pub stops_first : {F S : Type 0} (has_taken : F → F → List Placed → Type 0)
     (may_stop : F → F → S → List Placed → Type 0) (a b : F) (xs ys : List Placed) (stop : S)
     → StopsAmong has_taken may_stop a b xs stop → StopsAmong has_taken may_stop a b (xs ++ ys) stop

@@ -1,6 +1,6 @@
 -- Adding a piece at the end, and what a prefix ends in after one more byte. Nothing here depends on which bytes spell
 -- which event.
-use Rattle.std.proofs.Common.{◌≡◌, ℕ, ◌+◌, ◌<◌, ◌≤◌, Bool, false, List, [], ◌∷◌, ◌++◌, length, refl, sym, ap, ◌∙◌}
+use Rattle.std.proofs.Common.{◌≡◌, ℕ, ◌+◌, ◌<◌, Bool, false, List, [], ◌∷◌, ◌++◌, length, refl, sym, ap, ◌∙◌}
 use Rattle.std.proofs.Common.{append_assoc, arith, length-append}
 use Rattle.std.specs.Prelude.{IsTrue}
 use Rattle.std.specs.List.{AllByRecursion}
@@ -74,11 +74,6 @@ begun-finish [] b h = absurd h
 begun-finish (Start eight ps ∷ es) b h = steps-finish es b h
 begun-finish (Step d ∷ es) b h = h
 begun-finish (Finish eight ∷ es) b h = h
-
-pub closed-more : (ps : List Piece) (n m : ℕ) → IsClosed ps n → n ≤ m → IsClosed ps m
-closed-more [] n m h le = tt
-closed-more (p ∷ []) n m h le = λ t. let k = h t in omega arith
-closed-more (p ∷ q ∷ ps) n m h le = closed-more (q ∷ ps) n m h le
 
 pub closed-at : (ps : List Piece) (p : Piece) (n : ℕ) → (IsTrue (is_open_ended p.event) → 0 < n)
     → IsClosed (ps ++ p ∷ []) n

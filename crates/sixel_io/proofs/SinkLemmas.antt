@@ -1,11 +1,10 @@
 -- What is put into a block, and what the sink behind it takes.
 use Rattle.std.proofs.Common.{◌≡◌, ℕ, zero, suc, ◌+◌, ◌-◌, ◌<◌, ◌≤◌, Option, Some, None, Result, Ok, Err, List, [], ◌∷◌}
-use Rattle.std.proofs.Common.{◌++◌, length, take, drop, get_or, refl, sym, ap, subst, ◌∙◌, append_assoc, arith}
+use Rattle.std.proofs.Common.{◌++◌, length, take, drop, refl, sym, ap, subst, ◌∙◌, append_assoc, arith}
 use Rattle.std.specs.Prelude.{Bool, true, false, OnOk}
 use Rattle.std.specs.Io.KnownBytes.{Appends, Keeps, append_known}
-use Rattle.std.proofs.KnownBytes.{Appends-trans}
 use Rattle.std.proofs.lemmas.List.{append-nil, append_cancel_left, length-append, length-take, take-append-drop}
-use Rattle.std.proofs.lemmas.List.{take_all, take_at, take_more, take-take}
+use Rattle.std.proofs.lemmas.List.{take_all, take_at, take-take}
 use Rattle.std.proofs.Math.Seq.{take-append-add}
 use Rattle.sixel_io.specs.Blocks.{Drains, PutsAllOrNone, PutsWhole, TakesMore, WritesThrough, in_all}
 use Rattle.sixel_io.specs.Devices.{NeverFlushes, Puts, SinkState, Writes, one_more}
@@ -20,26 +19,6 @@ prefix_given f xs i joins =
     let whole : f xs ≡ f (take i xs) ++ f (drop i xs) =
     ap f (sym (take-append-drop i xs)) ∙ joins (take i xs) (drop i xs) in
     ap (take (length (f (take i xs)))) whole ∙ take_at (f (take i xs)) (f (drop i xs)) _ refl
-
--- if the text of a prefix was put, and then nothing, a prefix of the whole text was put
-pub put_prefix : {X : Type 0} (f : List X → List ℕ) (xs : List X) (i : ℕ)
-    → ((ys zs : List X) → f (ys ++ zs) ≡ f ys ++ f zs)
-    → (a b c : Option (List ℕ)) → Appends a b (f (take i xs)) → Keeps b c → (n : ℕ) × Appends a c (take n (f xs))
-put_prefix f xs i joins None b c put kept = (0, tt)
-put_prefix f xs i joins (Some a) None c put kept = absurd put
-put_prefix f xs i joins (Some a) (Some b) None put kept = absurd kept
-put_prefix f xs i joins (Some a) (Some b) (Some c) put kept =
-    (length (f (take i xs)), rw (prefix_given f xs i joins) (kept ∙ put))
-
--- the text of i items was put, and then that of the next one
-pub put_more : {X : Type 0} (f : List X → List ℕ) (xs : List X) (i : ℕ) (x d : X)
-    → ((ys zs : List X) → f (ys ++ zs) ≡ f ys ++ f zs)
-    → (a b c : Option (List ℕ)) → i < length xs → x ≡ get_or xs i d → Appends a b (f (take i xs))
-    → Appends b c (f (x ∷ [])) → Appends a c (f (take (i + 1) xs))
-put_more f xs i x d joins a b c lt is put more =
-    let longer : f (take (i + 1) xs) ≡ f (take i xs) ++ f (x ∷ []) =
-    ap f (take_more xs i d lt ∙ ap (λ y. take i xs ++ y ∷ []) (sym is)) ∙ joins (take i xs) (x ∷ []) in
-    subst (λ (t : List ℕ). Appends a c t) (sym longer) (Appends-trans a b c _ _ put more)
 
 -- ---- what the sink took of the bytes that were put
 
@@ -133,16 +112,6 @@ pub puts-whole : {A E : Type 0} (result : Result A E) (a b : Option (List ℕ)) 
 puts-whole (Ok x) a b xs p = p
 puts-whole (Err e) a b xs p = (0, nothing_put a b p)
 
--- some bytes were put, and then a prefix of others; both together are a prefix of the whole
-pub puts-stopped : (a b c : Option (List ℕ)) (xs ys rest whole : List ℕ) → Appends a b xs
-    → ((n : ℕ) × Appends b c (take n ys)) → whole ≡ (xs ++ ys) ++ rest → (n : ℕ) × Appends a c (take n whole)
-puts-stopped a b c xs ys rest whole p q e =
-    let cut : (n : ℕ) × Appends a c (take n (xs ++ ys)) = (
-      length xs + q.0,
-      Appends-then a b c xs (take q.0 ys) _ p q.1 (take-append-add xs ys q.0),
-    ) in
-    rw e (puts-longer a c (xs ++ ys) rest cut)
-
 -- ---- a text put step by step
 
 -- the text after i steps is a prefix of the text after more
@@ -157,25 +126,7 @@ text-grows f s more (suc k) i =
       ap f last ∙ more (i + k) ∙ ap (λ (t : List ℕ). t ++ s (i + k)) before.1 ∙ append_assoc (f i) before.0 (s (i + k)),
     )
 
--- the first steps were put, and then a prefix of the next one
-pub steps-stopped : (f s : ℕ → List ℕ) → ((i : ℕ) → f (i + 1) ≡ f i ++ s i) → (i n : ℕ) → i < n
-    → (a b c : Option (List ℕ)) → Appends a b (f i) → ((m : ℕ) × Appends b c (take m (s i)))
-    → (m : ℕ) × Appends a c (take m (f n))
-steps-stopped f s more i n lt a b c p q =
-    let whole = text-grows f s more (n - (i + 1)) (i + 1) in
-    let end : i + 1 + (n - (i + 1)) ≡ n = omega arith in
-    puts-stopped a b c (f i) (s i) whole.0 (f n) p q
-    (ap f (sym end) ∙ whole.1 ∙ ap (λ (t : List ℕ). t ++ whole.0) (more i))
-
--- the first steps were put, and then the next one
-pub steps-put : (f s : ℕ → List ℕ) → ((i : ℕ) → f (i + 1) ≡ f i ++ s i) → (i : ℕ)
-    → (a b c : Option (List ℕ)) → Appends a b (f i) → Appends b c (s i) → Appends a c (f (i + 1))
-steps-put f s more i a b c p q = Appends-then a b c (f i) (s i) (f (i + 1)) p q (more i)
-
 -- ---- a text in two parts
-
-pub put-as : (a b : Option (List ℕ)) (xs ys : List ℕ) → xs ≡ ys → Appends a b xs → Appends a b ys
-put-as a b xs ys e p = subst (λ (t : List ℕ). Appends a b t) e p
 
 -- the first part was put, and then the second, or a prefix of it
 pub puts-joined : {A E : Type 0} (result : Result A E) (a b c : Option (List ℕ)) (xs ys zs : List ℕ) → zs ≡ xs ++ ys
@@ -187,10 +138,6 @@ puts-joined result a b c xs ys zs e p q = subst (λ (t : List ℕ). Puts result 
 pub puts-cut : (a b : Option (List ℕ)) (xs ys zs : List ℕ) → zs ≡ xs ++ ys → ((n : ℕ) × Appends a b (take n xs))
     → (n : ℕ) × Appends a b (take n zs)
 puts-cut a b xs ys zs e p = rw e (puts-longer a b xs ys p)
-
--- nothing was put
-pub puts-nothing : (a b : Option (List ℕ)) (zs : List ℕ) → Keeps a b → (n : ℕ) × Appends a b (take n zs)
-puts-nothing a b zs kept = (0, nothing_put a b kept)
 
 -- ---- calls on a sink, one after another
 

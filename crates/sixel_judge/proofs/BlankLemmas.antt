@@ -43,7 +43,7 @@ first_place p xs d i h = split (nat_lt (position_or_len p xs) (length xs)) refl 
     split false e h = cc
 
 -- the column and the row of an index
-some_width : (w h i : ℕ) → i < w * h → 0 < w
+pub some_width : (w h i : ℕ) → i < w * h → 0 < w
 some_width zero h i lt = absurd (omega arith)
 some_width (suc w) h i lt = omega arith
 

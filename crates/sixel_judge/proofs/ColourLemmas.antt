@@ -11,6 +11,8 @@ use Rattle.sixel_grammar.specs.declared.command.Event.{Event}
 use Rattle.sixel_grammar.specs.declared.command.Event.TheVariants.{Step}
 use Rattle.sixel_model.specs.Events.{Definition, definition_where, named_by}
 use Rattle.sixel_model.specs.Positions.{latest}
+use Rattle.sixel_model.specs.declared.colour.Parts.{Parts}
+use Rattle.sixel_model.specs.Colours.{is_colour}
 use Rattle.sixel_model.specs.Rules.{BreaksNone, breaks_colour_value, breaks_register, colour_by, colour_of}
 use Rattle.sixel_model.specs.Rules.{definition_of, gives_colour, known}
 use Rattle.sixel_model.proofs.KnownLemmas.{each_before, each_there, known_is, latest_each}
@@ -19,7 +21,12 @@ use Rattle.sixel_model.proofs.RuleLemmas.{Keeps, keeps_at}
 use Rattle.sixel_model.specs.declared.rule.Rule.TheVariants.{Uncovered}
 use Rattle.sixel_terminal.specs.Displays.{Display, registers_of}
 use Rattle.sixel_terminal.specs.Drawing.{defined_on, given_on, map_on}
-use Rattle.sixel_judge.proofs.DrawingStateLemmas.{given}
+
+-- an optional colour in range is a colour
+pub given : (o : Option Parts) → option_map_or is_colour o false ≡ true
+    → (c : Parts) × (o ≡ Some c) × (is_colour c ≡ true)
+given None h = cc
+given (Some c) h = (c, refl, h)
 
 -- the register that the event names is below n, and its definition gives a colour in range
 pub record IsSound (n : ℕ) (e : Event) : Type 0 where
@@ -88,6 +95,18 @@ unfolding breaks_colour_value
 define_some n r (Step (Define q s x y z)) sound = some_if (made s x y z) (q == r) (not-false _ sound.colour)
 define_some n r _ sound = tt
 
+good_if : (d : Definition) (b : Bool) → gives_colour d ≡ true
+    → IfSome (cond b (Some d) None) (λ d. gives_colour d ≡ true)
+good_if d true h = h
+good_if d false h = tt
+
+-- the definition in a sound event gives a colour in range
+define_good : (n r : ℕ) (e : Event) → IsSound n e
+    → IfSome (definition_where (λ q. q == r) e) (λ d. gives_colour d ≡ true)
+unfolding breaks_colour_value
+define_good n r (Step (Define q s x y z)) sound = good_if (made s x y z) (q == r) (not-false _ sound.colour)
+define_good n r _ sound = tt
+
 each_then : {X : Type 0} (P Q : X → Type 0) (xs : List X) → ((x : X) → P x → Q x) → AllByRecursion P xs
     → AllByRecursion Q xs
 each_then P Q [] more h = tt
@@ -118,3 +137,11 @@ map_defined t n r before d enough sound defined =
     = then_some_of colour_by _ d defined
     (latest_each (definition_where (λ q. q == r)) (λ d. IsSome (colour_by d)) before each) in
     rw (same, both) (some_unwrap _ _ there)
+
+-- the last definition of a register gives a colour in range
+pub definition_good : (n r : ℕ) (events : List Event) → BreaksNone n Uncovered events
+    → IfSome (definition_of events r) (λ d. gives_colour d ≡ true)
+unfolding definition_of
+definition_good n r events none =
+    latest_each (definition_where (λ q. q == r)) (λ d. gives_colour d ≡ true) events
+    (each_then (IsSound n) _ events (define_good n r) (each_sound n events none))

@@ -45,8 +45,7 @@ use Rattle.sixel_judge.specs.Verdicts.{IsFinding, IsVerdict, IsPixel, capped, gr
 use Rattle.sixel_judge.proofs.AlarmLemmas.{below_first, finish_last, not_there, plain_up_to, same_up_to, taken_get}
 use Rattle.sixel_judge.proofs.AlarmLemmas.{taken_there, taken_twice}
 use Rattle.sixel_judge.proofs.CoverLemmas.{box_later, box_there}
-use Rattle.sixel_judge.proofs.DrawingStateLemmas.{or_each}
-use Rattle.sixel_judge.proofs.OptionLemmas.{same_value, some_from, some_value}
+use Rattle.sixel_judge.proofs.OptionLemmas.{or_each, same_value, some_from, some_value}
 use Rattle.sixel_judge.proofs.ShownLemmas.{shows_left, size_left}
 use Rattle.sixel_judge.proofs.WithinLemmas.{if_seen, touches_data}
 
@@ -275,13 +274,13 @@ unseen_by_some registers i events e whole f here eight = record {
 
 -- ---- the size of the box, if the first broken rule comes after BoxSize
 
-earliest_each : {X A : Type 0} (f : X → Option A) (P : A → Type 0) (xs : List X)
+pub earliest_each : {X A : Type 0} (f : X → Option A) (P : A → Type 0) (xs : List X)
     → AllByRecursion (λ x. IfSome (f x) P) xs → IfSome (earliest f xs) P
 unfolding earliest
 earliest_each f P [] h = tt
 earliest_each f P (x ∷ xs) h = or_each P (f x) (earliest f xs) h.0 (earliest_each f P xs h.1)
 
-sides_if : (o : Option Attributes) → option_map_or (λ a. not (has_sides a)) o false ≡ false
+pub sides_if : (o : Option Attributes) → option_map_or (λ a. not (has_sides a)) o false ≡ false
     → IfSome o (λ a. has_sides a ≡ true)
 sides_if None h = tt
 sides_if (Some a) h = not-false _ h

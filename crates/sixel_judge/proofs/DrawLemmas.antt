@@ -1,33 +1,31 @@
 -- On the drawing of an event that breaks no rule.
-use Rattle.std.proofs.Common.{not, ◌≡◌, ◌≢◌, ◌==◌, ◌&&◌, ◌+◌, ◌%◌, ℕ, ◌<◌, ◌≤◌, Bool, true, false, Option, Some, None}
+use Rattle.std.proofs.Common.{not, ◌≡◌, ◌≢◌, ◌==◌, ◌&&◌, ◌+◌, ◌%◌, ℕ, ◌<◌, ◌≤◌, true, false, Option, Some, None}
 use Rattle.std.proofs.Common.{IsTrue, IsFalse, List, [], ◌∷◌, ◌++◌, arith, sym, ◌∙◌, ap, refl, ◌||◌}
-use Rattle.std.specs.Prelude.{IfSome, IsSome, is_none, nat_le, unwrap_or, if◌then◌else◌}
-use Rattle.std.specs.Option.{option_map, option_map_or, option_or}
+use Rattle.std.specs.Prelude.{is_none, nat_le, unwrap_or}
+use Rattle.std.specs.Option.{option_map, option_map_or}
 use Rattle.std.proofs.lemmas.Bool.{and_parts, eqb-true, eqb-false, false_from_ne_true, leb-true, not-false, not-true}
 use Rattle.std.proofs.lemmas.Bool.{not_from_false, or_parts}
 use Rattle.sixel_grammar.specs.Spelling.{IsSpellable}
 use Rattle.sixel_grammar.specs.declared.command.Command.TheVariants.{Sixel, Repeat}
 use Rattle.sixel_grammar.specs.declared.command.Event.{Event}
 use Rattle.sixel_grammar.specs.declared.command.Event.TheVariants.{Step}
-use Rattle.sixel_model.specs.Events.{Attributes, Definition, bits_of, columns_of, definition_where, has_sides}
+use Rattle.sixel_model.specs.Events.{Attributes, bits_of, columns_of, has_sides}
 use Rattle.sixel_model.specs.Events.{is_data_command, is_finish, is_painting, is_return, is_square, raster_of}
 use Rattle.sixel_model.specs.Pictures.{is_side, most_side}
 use Rattle.sixel_model.specs.Geometry.{band, column, falls, touches}
 use Rattle.sixel_model.specs.Rules.{BreaksOutside, breaks_box_size, breaks_raster_first, breaks_ratio}
-use Rattle.sixel_model.specs.Rules.{breaks_repeat_zero, breaks_unselected, definition_of, known, register_at}
+use Rattle.sixel_model.specs.Rules.{breaks_repeat_zero, breaks_unselected, known}
 use Rattle.sixel_model.specs.Grids.{Grid, blank_grid, painted_grid}
 use Rattle.sixel_model.proofs.CoverLemmas.{idle_falls}
-use Rattle.sixel_model.proofs.StepLemmas.{definition_push, register_push}
-use Rattle.sixel_judge.specs.declared.drawing_state.DrawingState.{DrawingState}
-use Rattle.sixel_judge.specs.Violations.{BreaksNoRule}
-use Rattle.sixel_judge.specs.Judging.{AreColoured, IsStateAfter, IsDrawn, IsUndrawn}
+use Rattle.sixel_judge.specs.declared.notes.Notes.{Notes}
+use Rattle.sixel_judge.specs.Judging.{BreaksNoRule, IsDrawn, IsUndrawn}
 use Rattle.sixel_judge.specs.Outside.{PaintsOutside}
-use Rattle.sixel_judge.specs.DrawingState.{known_in}
+use Rattle.sixel_judge.specs.Notes.{IsNotesAfter, known_in}
 use Rattle.sixel_judge.proofs.BlankLemmas.{small}
 use Rattle.sixel_judge.proofs.DrawnLemmas.{drawn_first, drawn_idle, undrawn_push}
-use Rattle.sixel_judge.proofs.DrawingStateLemmas.{keeps, known_below, known_is}
+use Rattle.sixel_judge.proofs.NotesLemmas.{known_is}
 use Rattle.sixel_judge.proofs.RunLemmas.{RunFits, run_fits, drawn_capped}
-use Rattle.sixel_judge.proofs.SteadyLemmas.{defined_there}
+use Rattle.sixel_judge.proofs.UnbrokenLemmas.{keeps}
 
 -- ---- a painting command
 
@@ -52,10 +50,10 @@ inside_alone s before e d none x y p =
     none (rw d.box (x, y, record { painted = p.painted; outside = p.outside }))
 
 -- the plane can paint the run
-pub run_fits_in : {registers : ℕ} {kept : ℕ → ℕ} (n : DrawingState) (s : Grid) (before : List Event) (e : Event)
-    → IsStateAfter registers n before → IsDrawn kept s before → BreaksNoRule registers before e → IsSpellable e
+pub run_fits_in : (registers : ℕ) {kept : ℕ → ℕ} (n : Notes) (s : Grid) (before : List Event) (e : Event)
+    → IsNotesAfter n before → IsDrawn kept s before → BreaksNoRule registers before e → IsSpellable e
     → is_painting e ≡ true → RunFits n.column n.band (columns_of 0 e) (bits_of e) s.width s.height
-run_fits_in n s before e a d none spellable paints =
+run_fits_in registers n s before e a d none spellable paints =
     let k = keeps before e none in
     let real = run_fits (column 0 before) (band before) (columns_of 0 e) (bits_of e) s.width s.height
     (inside_alone s before e d k.outside) (has_columns e k.repeat_zero paints) (few_bits e spellable)
@@ -69,13 +67,13 @@ run_fits_in n s before e a d none spellable paints =
     rw (column_same, band_same) real
 
 -- the grid after a painting command
-pub drawn_paint : {registers : ℕ} {kept : ℕ → ℕ} (n : DrawingState) (s : Grid) (before : List Event) (e : Event) (r : ℕ)
-    → IsStateAfter registers n before → IsDrawn kept s before → BreaksNoRule registers before e → IsSpellable e
+pub drawn_paint : (registers : ℕ) {kept : ℕ → ℕ} (n : Notes) (s : Grid) (before : List Event) (e : Event) (r : ℕ)
+    → IsNotesAfter n before → IsDrawn kept s before → BreaksNoRule registers before e → IsSpellable e
     → is_painting e ≡ true → known_in n ≡ Some r
     → IsDrawn kept (painted_grid s n.column n.band (columns_of 0 e) (bits_of e) (kept r)) (before ++ e ∷ [])
-drawn_paint n s before e r a d none spellable paints is =
+drawn_paint registers n s before e r a d none spellable paints is =
     drawn_capped s before e r n.column n.band (sym (known_is n before a) ∙ is) a.column_is a.band_is
-    (run_fits_in n s before e a d none spellable paints) d
+    (run_fits_in registers n s before e a d none spellable paints) d
 
 -- the grid after an event that doesn't paint
 pub drawn_still : {kept : ℕ → ℕ} (s : Grid) (before : List Event) (e : Event) → is_painting e ≡ false → IsDrawn kept s before
@@ -83,10 +81,10 @@ pub drawn_still : {kept : ℕ → ℕ} (s : Grid) (before : List Event) (e : Eve
 drawn_still s before e still d = drawn_idle s before e (eqb-true _ _ (not-false _ still)) d
 
 -- at a painting command a register is known
-pub knows : {registers : ℕ} (n : DrawingState) (before : List Event) (e : Event) → IsStateAfter registers n before
+pub knows : (registers : ℕ) (n : Notes) (before : List Event) (e : Event) → IsNotesAfter n before
     → BreaksNoRule registers before e → is_painting e ≡ true → known_in n ≡ None → ⊥
 unfolding breaks_unselected
-knows n before e a none paints is =
+knows registers n before e a none paints is =
     let k = keeps before e none in
     let unselected : is_painting e && is_none (known before) ≡ false = k.unselected in
     let unknown : known before ≡ None = sym (known_is n before a) ∙ is in
@@ -144,37 +142,10 @@ pub drawn_box : {kept : ℕ → ℕ} (registers : ℕ) (before : List Event) (e 
 drawn_box registers before e w h none is u =
     let good = good_raster _ before e w h none is in drawn_first before e w h good.0 good.1 good.2 u
 
--- ---- the registers that a command painted in
-
-pub some_stays : (o p : Option Definition) → IsSome p → IsSome (option_or o p)
-some_stays None p h = h
-some_stays (Some d) p h = refl
-
 -- an event that paints a point has a set bit
 pub falls_paints : (before : List Event) (e : Event) (x y : ℕ) → falls before e x y ≡ true → is_painting e ≡ true
 falls_paints before e x y h = not_from_false _ (false_from_ne_true (bits_of e % 64 == 0) (λ is.
     let no : true ≡ false = sym h ∙ idle_falls before e x y (eqb-true (bits_of e % 64) 0 is) in cc))
-
-coloured_there : {registers : ℕ} (n : DrawingState) (before : List Event) (e : Event) (x y r : ℕ)
-    → IsStateAfter registers n before → BreaksNoRule registers before e → AreColoured registers before → (b : Bool)
-    → falls before e x y ≡ b → (if b then known before else register_at before x y) ≡ Some r
-    → (r < registers) × IsSome (definition_of before r)
-coloured_there {registers} n before e x y r a none c true f is =
-    let paints = falls_paints before e x y f in
-    let low : IfSome (known_in n) (λ q. q < registers) = known_below n.selected n.named registers a.selected_below in
-    (rw (known_is n before a, is) at low, defined_there registers r before e (keeps before e none) paints is)
-coloured_there {registers} n before e x y r a none c false f is = c x y r is
-
-pub coloured_push : {registers : ℕ} (n : DrawingState) (before : List Event) (e : Event)
-    → IsStateAfter registers n before
-    → BreaksNoRule registers before e → AreColoured registers before → AreColoured registers (before ++ e ∷ [])
-coloured_push n before e a none c x y r is =
-    let there =
-    coloured_there n before e x y r a none c (falls before e x y) refl (sym (register_push before e x y) ∙ is) in (
-      there.0,
-      rw (definition_push before e r)
-          (some_stays (definition_where (λ q. q == r) e) (definition_of before r) there.1),
-    )
 
 -- a run that fits has a column and a band below 2^32
 pub narrow : (column band count bits width height : ℕ) → IsTrue (is_side width) → IsTrue (is_side height)

@@ -1,9 +1,9 @@
 -- Events that are read may be pushed, in order.
-use Rattle.std.proofs.Common.{◌≡◌, ℕ, true, false, not, IsTrue, ◌⊎◌, inl, inr, List, [], ◌∷◌, ◌++◌, Result, Ok, Err, None, Option, Some}
+use Rattle.std.proofs.Common.{◌≡◌, ℕ, true, false, not, IsTrue, ◌⊎◌, inl, inr, List, [], ◌∷◌, ◌++◌, Result, Ok, Err, Option, Some}
 use Rattle.std.proofs.Common.{sym, ◌∙◌, ap, subst, refl, arith, length, ◌+◌, ◌-◌, ◌<◌}
-use Rattle.std.specs.Prelude.{IfErr, OnErr, OnOk, replicate}
+use Rattle.std.specs.Prelude.{IfErr, OnErr, OnOk}
 use Rattle.std.proofs.lemmas.Bool.{and_from}
-use Rattle.std.proofs.lemmas.List.{length-replicate, map-append}
+use Rattle.std.proofs.lemmas.List.{map-append}
 use Rattle.sixel_grammar.specs.declared.command.Command.TheVariants.{Sixel}
 use Rattle.sixel_grammar.specs.declared.command.Event.{Event}
 use Rattle.sixel_grammar.specs.declared.command.Event.TheVariants.{Start, Step, Finish}
@@ -25,12 +25,13 @@ use Rattle.sixel_grammar.proofs.FollowingLemmas.{always_refused}
 use Rattle.sixel_grammar.proofs.StandLemmas.{read_complete}
 use Rattle.sixel_grammar.proofs.TotalLemmas.{complete_prefix, document_whole}
 use Rattle.sixel_grammar.proofs.WritableLemmas.{events_can}
+use Rattle.sixel_model.specs.Profiles.{count_of}
 use Rattle.sixel_judge.specs.Growth.{MayGrow, MayGrowAmong, MayGrowIn}
 use Rattle.sixel_judge.specs.Standing.{CheckerValue, StandsAfter, expects, is_start, is_whole}
 use Rattle.sixel_judge.specs.Stretches.{MayStep}
 use Rattle.sixel_judge.proofs.GrowthLemmas.{grows_among, grows_end}
 use Rattle.sixel_judge.proofs.PushLemmas.{any_step}
-use Rattle.sixel_judge.proofs.StandLemmas.{begun_goes_on, stands_expects, whole_ended, whole_events}
+use Rattle.sixel_judge.proofs.StandLemmas.{begun_goes_on, registers_of, stands_expects, whole_ended, whole_events}
 
 -- ---- an event of a prefix may come next
 
@@ -134,10 +135,10 @@ ok_says P (Err e) h = tt
 -- ---- what a checker has taken
 
 abbrev pub HasTaken : CheckerValue → CheckerValue → List Placed → Type 0
-HasTaken first now seen = StandsAfter (length first.state.palette) now seen
+HasTaken first now seen = StandsAfter (count_of first.profile) now seen
 
 abbrev pub MayStop : {S : Type 0} → CheckerValue → CheckerValue → S → List Placed → Type 0
-MayStop first now stop seen = MayGrowAmong (length first.state.palette) seen
+MayStop first now stop seen = MayGrowAmong (count_of first.profile) seen
 
 pub stops_one : {S : Type 0} (old new : CheckerValue) (p : Placed) (result : Result (Unit {0}) S)
     → OnErr result ((registers : ℕ) (seen : List Placed) → StandsAfter registers old seen
@@ -148,35 +149,33 @@ stops_one old new p (Err s) grows = λ first seen h. record {
   taken = p ∷ [];
   rest = [];
   are = refl;
-  holds = grows_end seen p (grows (length first.state.palette) seen h);
+  holds = grows_end seen p (grows (count_of first.profile) seen h);
 }
 
--- ---- a checker with any number of registers
+-- ---- a checker with the registers of its profile
 
-abbrev with_registers : ℕ → CheckerValue → CheckerValue
-with_registers n checker = record checker { state = record checker.state { palette = replicate n None } }
-
-registers_are : (n : ℕ) (checker : CheckerValue) → length (with_registers n checker).state.palette ≡ n
-registers_are n checker = length-replicate n None
+followed_registers : (n : ℕ) (reader : Reader) (checker : CheckerValue) (bytes : List ℕ)
+    → AreFollowed (StandsAfter n) reader checker bytes → count_of checker.profile ≡ n
+followed_registers n reader checker bytes a = registers_of n checker a.events a.taken
 
 had_first : (n : ℕ) (reader : Reader) (checker : CheckerValue) (bytes : List ℕ)
-    → AreFollowed (StandsAfter n) reader checker bytes
-    → AreFollowed (HasTaken (with_registers n checker)) reader checker bytes
+    → AreFollowed (StandsAfter n) reader checker bytes → AreFollowed (HasTaken checker) reader checker bytes
 had_first n reader checker bytes a =
-    subst (λ (k : ℕ). AreFollowed (StandsAfter k) reader checker bytes) (sym (registers_are n checker)) a
+    subst (λ (k : ℕ). AreFollowed (StandsAfter k) reader checker bytes)
+    (sym (followed_registers n reader checker bytes a)) a
 
--- some checker had this many registers first
+-- the checker itself had this many registers
 pub followed_for : (n : ℕ) (reader : Reader) (checker : CheckerValue) (bytes : List ℕ)
     → AreFollowed (StandsAfter n) reader checker bytes
     → (first : CheckerValue) × AreFollowed (HasTaken first) reader checker bytes
-followed_for n reader checker bytes a = (with_registers n checker, had_first n reader checker bytes a)
+followed_for n reader checker bytes a = (checker, had_first n reader checker bytes a)
 
 pub follows_for : (n : ℕ) (reader r : Reader) (old new : CheckerValue) (prefix more : List ℕ)
     → FollowsBytes HasTaken reader old r new more → AreFollowed (StandsAfter n) reader old prefix
     → AreFollowed (StandsAfter n) r new (prefix ++ more)
 follows_for n reader r old new prefix more follows a =
-    subst (λ (k : ℕ). AreFollowed (StandsAfter k) r new (prefix ++ more)) (registers_are n old)
-    (follows (with_registers n old) prefix (had_first n reader old prefix a))
+    subst (λ (k : ℕ). AreFollowed (StandsAfter k) r new (prefix ++ more)) (followed_registers n reader old prefix a)
+    (follows old prefix (had_first n reader old prefix a))
 
 -- the checker stopped for want of memory
 pub grows_in : (n : ℕ) (bytes : List ℕ) → HoldsIn (MayGrowAmong n) bytes → MayGrowIn n bytes
@@ -194,15 +193,16 @@ pub refuses_for : (S : Type 0) (n : ℕ) (reader r : Reader) (old new : CheckerV
     → AreFollowed (StandsAfter n) reader old prefix
     → (fault_of r ≡ Some fault) × ((rest : List ℕ) → IsFaultOf ((prefix ++ more) ++ rest) fault)
 refuses_for S n reader r old new prefix more fault halts a =
-    let refused = halts (with_registers n old) prefix (had_first n reader old prefix a) in
-    (refused.kept, always_refused (HasTaken (with_registers n old)) r new (prefix ++ more) fault refused)
+    let refused = halts old prefix (had_first n reader old prefix a) in
+    (refused.kept, always_refused (HasTaken old) r new (prefix ++ more) fault refused)
 
 pub stops_for : {S : Type 0} (n : ℕ) (reader r : Reader) (old new : CheckerValue) (prefix more : List ℕ) (stop : S)
     → HaltsWithin HasTaken MayStop reader old r new more (Stopped stop) → AreFollowed (StandsAfter n) reader old prefix
     → MayGrowIn n (prefix ++ more)
 stops_for n reader r old new prefix more stop halts a =
-    grows_in n (prefix ++ more) (subst (λ (k : ℕ). HoldsIn (MayGrowAmong k) (prefix ++ more)) (registers_are n old)
-    (halts (with_registers n old) prefix (had_first n reader old prefix a)))
+    grows_in n (prefix ++ more)
+    (subst (λ (k : ℕ). HoldsIn (MayGrowAmong k) (prefix ++ more)) (followed_registers n reader old prefix a)
+    (halts old prefix (had_first n reader old prefix a)))
 
 -- the events of a document are whole
 pub whole_then : (events : List Placed) (bytes : List ℕ) → Document events bytes → IsTrue (is_whole events)
@@ -211,22 +211,22 @@ whole_then events bytes document =
 
 -- ---- the document of a source
 
-had_none : (n : ℕ) (checker : CheckerValue) → StandsAfter n checker [] → HasTaken (with_registers n checker) checker []
-had_none n checker s = subst (λ (k : ℕ). StandsAfter k checker []) (sym (registers_are n checker)) s
+had_none : (n : ℕ) (checker : CheckerValue) → StandsAfter n checker [] → HasTaken checker checker []
+had_none n checker s = subst (λ (k : ℕ). StandsAfter k checker []) (sym (registers_of n checker [] s)) s
 
 -- some checker had this many registers first
 pub fresh_for : (n : ℕ) (checker : CheckerValue) → StandsAfter n checker []
     → (first : CheckerValue) × HasTaken first checker []
-fresh_for n checker s = (with_registers n checker, had_none n checker s)
+fresh_for n checker s = (checker, had_none n checker s)
 
 pub source_for : (n : ℕ) (old new : CheckerValue) (known : Option (List ℕ)) → FollowsSource HasTaken old new known
     → StandsAfter n old [] → IsFollowed (StandsAfter n) new known
 source_for n old new known follows s =
-    subst (λ (k : ℕ). IsFollowed (StandsAfter k) new known) (registers_are n old)
-    (follows (with_registers n old) (had_none n old s))
+    subst (λ (k : ℕ). IsFollowed (StandsAfter k) new known) (registers_of n old [] s)
+    (follows old (had_none n old s))
 
 pub source_grows : {S : Type 0} (n : ℕ) (old new : CheckerValue) (stop : S) (bytes : List ℕ)
     → HaltsSource HasTaken MayStop old new (SourceStopped stop) bytes → StandsAfter n old [] → MayGrowIn n bytes
 source_grows n old new stop bytes halts s =
-    grows_in n bytes (subst (λ (k : ℕ). HoldsIn (MayGrowAmong k) bytes) (registers_are n old)
-    (halts (with_registers n old) (had_none n old s)))
+    grows_in n bytes (subst (λ (k : ℕ). HoldsIn (MayGrowAmong k) bytes) (registers_of n old [] s)
+    (halts old (had_none n old s)))

@@ -14,12 +14,11 @@ use Rattle.sixel_model.specs.Grids.{Grid}
 use Rattle.sixel_model.proofs.PositionLemmas.{holds_before, holds_end, holds_within}
 use Rattle.sixel_model.proofs.RuleLemmas.{none_push}
 use Rattle.sixel_model.specs.Rules.{last_rule}
-use Rattle.sixel_judge.specs.declared.drawing_state.DrawingState.{DrawingState}
-use Rattle.sixel_judge.specs.Violations.{BreaksNoRule}
+use Rattle.sixel_judge.specs.declared.notes.Notes.{Notes}
 use Rattle.sixel_judge.specs.Growth.{MayGrow, MayGrowAmong, MayGrowIn}
-use Rattle.sixel_judge.specs.Judging.{IsGridAfter, IsUndrawn, StandsUnbroken}
+use Rattle.sixel_judge.specs.Judging.{BreaksNoRule, IsGridAfter, IsUndrawn, StandsUnbroken}
 use Rattle.sixel_judge.proofs.JudgeLemmas.{events_push}
-use Rattle.sixel_judge.proofs.DrawingStateLemmas.{keeps, seven_bits}
+use Rattle.sixel_judge.proofs.UnbrokenLemmas.{keeps, seven_bits}
 
 -- what holds always holds on a refusal
 pub err_says : {A E : Type 0} (P : Type 0) (r : Result A E) → P → OnErr r P
@@ -33,10 +32,10 @@ no_box kept None before e h = h
 no_box kept (Some s) before e h = cc
 
 -- the judge may allocate at raster attributes that break no rule, if there is no grid yet
-pub judge_grows : {registers : ℕ} {kept : ℕ → ℕ} (state : DrawingState) (grid : Option Grid) (before : List Event) (e : Event)
-    → grid ≡ None → IsSome (raster_of e) → StandsUnbroken registers kept state grid before
+pub judge_grows : {registers : ℕ} {kept : ℕ → ℕ} (notes : Notes) (grid : Option Grid) (before : List Event) (e : Event)
+    → grid ≡ None → IsSome (raster_of e) → StandsUnbroken registers kept notes grid before
     → BreaksNoRule registers before e → MayGrow registers before e
-judge_grows {registers} {kept} state grid before e is declares s none = record {
+judge_grows {registers} {kept} notes grid before e is declares s none = record {
   declares = declares;
   first = (no_box kept grid before is s.grid_is).no_box;
   unbroken = none_push registers last_rule before e s.unbroken (keeps before e none) (seven_bits _ before e none);

@@ -1,11 +1,14 @@
 pub mod PieceLemmas
-pub mod DrawingStateLemmas
+pub mod NotesLemmas
+pub mod TellLemmas
+pub mod HitLemmas
 pub mod ViolationLemmas
+pub mod UnbrokenLemmas
+pub mod PaletteLemmas
 pub mod OutsideLemmas
 pub mod DrawnLemmas
 pub mod BlankLemmas
 pub mod RunLemmas
-pub mod PixelLemmas
 pub mod WholeLemmas
 pub mod DrawLemmas
 pub mod JudgeLemmas

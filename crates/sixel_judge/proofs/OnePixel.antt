@@ -18,11 +18,11 @@ use Rattle.sixel_model.specs.declared.profile.Profile.{Profile}
 use Rattle.sixel_model.specs.declared.profile.Profile.TheVariants.{Registers16, Registers256}
 use Rattle.sixel_judge.specs.Laws.{OnePixelBreaksNone, one_pixel}
 
-abbrev is_second : {A B : Type 0} → A ⊎ B → Bool
+abbrev pub is_second : {A B : Type 0} → A ⊎ B → Bool
 is_second (inl a) = false
 is_second (inr b) = true
 
-second_of : {A B : Type 0} (s : A ⊎ B) → is_second s ≡ true → B
+pub second_of : {A B : Type 0} (s : A ⊎ B) → is_second s ≡ true → B
 second_of (inl a) h = cc
 second_of (inr b) h = b
 

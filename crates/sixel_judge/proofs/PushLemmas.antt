@@ -22,7 +22,7 @@ any_step [] c h d = h
 any_step (q ∷ qs) c h d = h
 
 -- after a command, any command may come next, if one may before it
-may_step_then : (seen : List Placed) (p : Placed) (c : Command) → p.event ≡ Step c → MayStep seen
+pub may_step_then : (seen : List Placed) (p : Placed) (c : Command) → p.event ≡ Step c → MayStep seen
     → MayStep (seen ++ p ∷ [])
 may_step_then [] p c is may d = absurd (let h = may c in cc)
 may_step_then (q ∷ qs) p c is may d =

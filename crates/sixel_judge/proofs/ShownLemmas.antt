@@ -6,6 +6,7 @@ use Rattle.std.specs.List.{list_any}
 use Rattle.std.specs.Option.{option_flatten, option_map}
 use Rattle.std.proofs.lemmas.Bool.{and_from, lt-ltb}
 use Rattle.std.proofs.lemmas.Option.{slice_get_within}
+use Rattle.std.proofs.Math.Bool.{or-true}
 use Rattle.sixel_grammar.specs.declared.command.Event.{Event}
 use Rattle.sixel_grammar.specs.Document.{AreWhole}
 use Rattle.sixel_model.specs.declared.colour.Parts.{Parts}
@@ -35,12 +36,12 @@ use Rattle.sixel_judge.proofs.CoverLemmas.{all_covered, box_at_data, box_later, 
 use Rattle.sixel_judge.proofs.DrawLemmas.{falls_paints}
 use Rattle.sixel_judge.proofs.OptionLemmas.{some_from, some_value}
 use Rattle.sixel_judge.proofs.SteadyLemmas.{painted_colour_is_left}
-use Rattle.sixel_judge.proofs.WithinLemmas.{data_kept, either_true, none_painted_outside, plain, touches_data}
+use Rattle.sixel_judge.proofs.WithinLemmas.{data_kept, none_painted_outside, plain, touches_data}
 
 -- ---- the last painting of a pixel
 
 -- at a command that paints a point, a register is known
-falls_known : (n : ℕ) (before : List Event) (e : Event) (x y : ℕ) → Keeps n before e → falls before e x y ≡ true
+pub falls_known : (n : ℕ) (before : List Event) (e : Event) (x y : ℕ) → Keeps n before e → falls before e x y ≡ true
     → IsSome (known before)
 unfolding breaks_unselected
 falls_known n before e x y k h = some_from (known before) (rw (falls_paints before e x y h) at k.unselected)
@@ -50,7 +51,7 @@ abbrev known_where : ℕ → ℕ → List Event → Event → Option (Option ℕ
 known_where x y before e = if falls before e x y then Some (known before) else None
 
 -- the last event that paints the point, and the known register there
-record IsLastPainting (events : List Event) (x y : ℕ) (o : Option ℕ) : Type 0 where
+pub record IsLastPainting (events : List Event) (x y : ℕ) (o : Option ℕ) : Type 0 where
   pub at : ℕ
   pub event : Event
   pub here : slice_get events at ≡ Some event
@@ -90,7 +91,7 @@ flat_some : (o : Option (Option ℕ)) (r : ℕ) → option_flatten o ≡ Some r 
 flat_some None r h = cc
 flat_some (Some p) r h = ap (λ (q : Option ℕ). Some q) h
 
-register_painting : (events : List Event) (x y r : ℕ) → register_at events x y ≡ Some r
+pub register_painting : (events : List Event) (x y r : ℕ) → register_at events x y ≡ Some r
     → IsLastPainting events x y (Some r)
 unfolding register_at last_at
 register_painting events x y r found = last_painting events x y (Some r) (flat_some _ r found)
@@ -247,7 +248,7 @@ seen_everywhere : (n : ℕ) (t : Display) (events : List Event) → BreaksNone n
     → is_seen_on t events ≡ true
 unfolding is_seen_on
 seen_everywhere n t events none =
-    rw (none_of_each is_eight_bit events (seven_bits_at n events none)) (either_true t.choices.eight_bit)
+    rw (none_of_each is_eight_bit events (seven_bits_at n events none)) (or-true t.choices.eight_bit)
 
 box_is_portable : (n : ℕ) (events : List Event) (a : Attributes) → AreWhole events → BreaksNone n last_rule events
     → raster_before events ≡ Some a → IsPortable n events (picture_left n events)

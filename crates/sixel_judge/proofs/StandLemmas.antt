@@ -14,6 +14,7 @@ use Rattle.sixel_grammar.specs.declared.command.Event.{Event}
 use Rattle.sixel_grammar.specs.declared.command.Event.TheVariants.{Start, Step, Finish}
 use Rattle.sixel_grammar.specs.declared.command.Placed.{Placed}
 use Rattle.sixel_model.specs.Events.{is_finish}
+use Rattle.sixel_model.specs.Profiles.{count_of}
 use Rattle.sixel_plane.specs.Covers.{kept_by}
 use Rattle.sixel_judge.specs.declared.progress.Progress.{Progress}
 use Rattle.sixel_judge.specs.declared.progress.Progress.TheVariants.{Fresh, Begun, Whole}
@@ -129,43 +130,58 @@ progress_push (q ∷ qs) p h =
 
 -- ---- what a checker has seen
 
-pub stands_none : (registers : ℕ) (checker : CheckerValue)
-    → JudgesAfter registers (kept_by checker.keeps) checker.finding checker.state checker.grid [] → checker.progress ≡ Fresh
-    → StandsAfter registers checker []
+pub stands_none : (registers : ℕ) (checker : CheckerValue) → count_of checker.profile ≡ registers
+    → JudgesAfter (kept_by checker.keeps) checker.profile checker.finding checker.notes checker.grid []
+    → checker.progress ≡ Fresh → StandsAfter registers checker []
 unfolding StandsAfter
-stands_none registers checker judges fresh = (judges, fresh, inl refl, tt)
+stands_none registers checker are judges fresh = (are, judges, fresh, inl refl, tt)
+
+-- a checker has this many registers
+pub registers_of : (registers : ℕ) (checker : CheckerValue) (seen : List Placed) → StandsAfter registers checker seen
+    → count_of checker.profile ≡ registers
+unfolding StandsAfter
+registers_of registers checker seen s = s.0
 
 -- its parts are those of a judge
 pub judges_inside : (registers : ℕ) (inside checker : CheckerValue) (seen : List Placed) → inside ≡ checker
-    → StandsAfter registers checker seen → JudgesAfter registers (kept_by inside.keeps) inside.finding inside.state inside.grid seen
+    → StandsAfter registers checker seen
+    → JudgesAfter (kept_by inside.keeps) inside.profile inside.finding inside.notes inside.grid seen
 unfolding StandsAfter
 judges_inside registers inside checker seen is s =
-    subst (λ (v : CheckerValue). JudgesAfter registers (kept_by v.keeps) v.finding v.state v.grid seen) (sym is) s.0
+    subst (λ (v : CheckerValue). JudgesAfter (kept_by v.keeps) v.profile v.finding v.notes v.grid seen) (sym is) s.1
+
+-- and they have as many registers
+pub registers_inside : (registers : ℕ) (inside checker : CheckerValue) (seen : List Placed) → inside ≡ checker
+    → StandsAfter registers checker seen → count_of inside.profile ≡ registers
+registers_inside registers inside checker seen is s =
+    ap (λ (v : CheckerValue). count_of v.profile) is ∙ registers_of registers checker seen s
 
 pub stands_expects : (registers : ℕ) (checker : CheckerValue) (seen : List Placed) (e : Event)
     → StandsAfter registers checker seen → expects_from checker.progress e ≡ expects seen e
 unfolding StandsAfter
-stands_expects registers checker seen e s = ap (λ (g : Progress). expects_from g e) s.1 ∙ expects_of seen e
+stands_expects registers checker seen e s = ap (λ (g : Progress). expects_from g e) s.2 ∙ expects_of seen e
 
 pub stands_whole_at : (registers : ℕ) (checker : CheckerValue) (seen : List Placed) → StandsAfter registers checker seen
     → is_whole_at checker.progress ≡ is_whole seen
 unfolding StandsAfter
-stands_whole_at registers checker seen s = ap is_whole_at s.1 ∙ whole_of seen
+stands_whole_at registers checker seen s = ap is_whole_at s.2 ∙ whole_of seen
 
 -- after one more expected event
 pub stands_push : (others registers : ℕ) (old new : CheckerValue) (first seen : List Placed) (p : Placed)
     → StandsAfter others old first → IsTrue (expects first p.event) → IsSpellable p.event
-    → StandsAfter registers old seen → JudgesAfter registers (kept_by new.keeps) new.finding new.state new.grid (seen ++ p ∷ [])
+    → StandsAfter registers old seen → new.profile ≡ old.profile
+    → JudgesAfter (kept_by new.keeps) new.profile new.finding new.notes new.grid (seen ++ p ∷ [])
     → new.progress ≡ progress_with p.event → StandsAfter registers new (seen ++ p ∷ [])
 unfolding StandsAfter
-stands_push others registers old new first seen p f expected spellable s judges far =
+stands_push others registers old new first seen p f expected spellable s profile judges far =
     let may : IsTrue (expects seen p.event) =
     sym (stands_expects _ old seen p.event s) ∙ stands_expects _ old first p.event f ∙ expected in (
+      ap count_of profile ∙ s.0,
       judges,
       far ∙ sym (progress_push seen p may),
-      subst ArePrefix (sym (events_push seen p)) (prefix_next seen p s.2 may),
+      subst ArePrefix (sym (events_push seen p)) (prefix_next seen p s.3 may),
       subst (AllByRecursion IsSpellable) (sym (events_push seen p))
-          (all-append IsSpellable (events_of seen) (p.event ∷ []) s.3 (spellable, tt)),
+          (all-append IsSpellable (events_of seen) (p.event ∷ []) s.4 (spellable, tt)),
     )
 
 -- if the finish has come, the events are whole
@@ -174,5 +190,5 @@ pub stands_whole : (others registers : ℕ) (checker : CheckerValue) (first seen
     → IsTrue (is_whole first) → StandsAfter registers checker seen → AreWhole (events_of seen)
 unfolding StandsAfter
 stands_whole others registers checker first seen f whole s =
-    prefix_whole (events_of seen) s.2
+    prefix_whole (events_of seen) s.3
     (whole_events seen ∙ sym (stands_whole_at _ checker seen s) ∙ stands_whole_at _ checker first f ∙ whole)

@@ -1,10 +1,12 @@
 -- On stretches of sixels that break no rule.
-use Rattle.std.proofs.Common.{◌≡◌, ℕ, zero, suc, ◌+◌, ◌-◌, ◌*◌, ◌%◌, ◌<◌, ◌≤◌, ◌&&◌, Bool, true, false, not, IsTrue}
+use Rattle.std.proofs.Common.{◌≡◌, ℕ, zero, suc, ◌+◌, ◌-◌, ◌*◌, ◌%◌, ◌<◌, ◌≤◌, ◌&&◌, ◌||◌, Bool, true, false, not}
+use Rattle.std.proofs.Common.{IsTrue}
 use Rattle.std.proofs.Common.{Option, Some, None, List, [], ◌∷◌, ◌++◌, length, get_or, set, take, refl, sym, ap, ap₂}
 use Rattle.std.proofs.Common.{◌∙◌, subst, arith, append_assoc, inl, inr}
-use Rattle.std.specs.Prelude.{IsSome, is_none, is_some, nat_le, if◌then◌else◌}
+use Rattle.std.specs.Prelude.{IsFalse, IsSome, is_none, is_some, nat_le, nat_lt, if◌then◌else◌}
 use Rattle.std.specs.List.{AllByRecursion}
 use Rattle.std.specs.Option.{option_map_or}
+use Rattle.std.proofs.Math.Bool.{and-false, or-false}
 use Rattle.std.proofs.lemmas.Bool.{and_parts, eqb-true, leb-true, not-false, not-true}
 use Rattle.std.proofs.lemmas.List.{append-nil, get_or-take, length-take-le}
 use Rattle.std.proofs.lemmas.Bool.{cond-true, lt-ltb}
@@ -19,25 +21,28 @@ use Rattle.sixel_grammar.specs.declared.command.Event.{Event}
 use Rattle.sixel_grammar.specs.declared.command.Event.TheVariants.{Step}
 use Rattle.sixel_grammar.specs.declared.command.Placed.{Placed}
 use Rattle.sixel_grammar.proofs.PieceLemmas.{all-append}
-use Rattle.sixel_model.specs.Colours.{palette_at}
-use Rattle.sixel_model.specs.Events.{is_finish, is_painting}
+use Rattle.sixel_model.specs.Events.{is_painting}
 use Rattle.sixel_model.specs.Geometry.{band, column}
 use Rattle.sixel_model.specs.Pictures.{is_side, most_side}
-use Rattle.sixel_model.specs.Rules.{breaks_box_size, breaks_colour_value, breaks_ratio, breaks_register}
-use Rattle.sixel_model.specs.Rules.{breaks_repeat_zero}
+use Rattle.sixel_model.specs.Profiles.{count_of}
+use Rattle.sixel_model.specs.Rules.{BreaksOutside, BreaksUncovered, FallsOutside, breaks_box_size, breaks_colour_value}
+use Rattle.sixel_model.specs.Rules.{breaks_ratio, breaks_raster_first, breaks_raster_twice, breaks_redefined}
+use Rattle.sixel_model.specs.Rules.{breaks_register, breaks_repeat_zero, breaks_undefined, breaks_unselected}
+use Rattle.sixel_model.specs.Rules.{definition_of, known as known_before}
+use Rattle.sixel_model.specs.declared.profile.Profile.{Profile}
+use Rattle.sixel_model.proofs.RuleLemmas.{keeps_none}
 use Rattle.sixel_model.specs.Grids.{Grid, cell}
-use Rattle.sixel_model.specs.declared.rule.Rule.TheVariants.{Undefined, Unselected}
 use Rattle.sixel_plane.specs.Covers.{kept_by}
 use Rattle.sixel_plane.specs.Stretches.{sixel_of, stretched_grid}
 use Rattle.sixel_plane.proofs.PlaneStretchLemmas.{stretched_blank, stretched_height, stretched_length, stretched_more}
 use Rattle.sixel_plane.proofs.PlaneStretchLemmas.{stretched_none, stretched_width}
-use Rattle.sixel_judge.specs.declared.drawing_state.DrawingState.{DrawingState}
+use Rattle.sixel_judge.specs.declared.notes.Notes.{Notes}
 use Rattle.sixel_judge.specs.declared.progress.Progress.{Progress}
 use Rattle.sixel_judge.specs.declared.progress.Progress.TheVariants.{Begun, Whole}
 use Rattle.sixel_judge.specs.declared.verdict.Finding.{Finding}
-use Rattle.sixel_judge.specs.Violations.{BreaksNoRule, rule_in, undefined_in, unselected_in}
-use Rattle.sixel_judge.specs.Judging.{IsStateAfter, IsDrawn, JudgesAfter, StandsUnbroken, box_of}
-use Rattle.sixel_judge.specs.DrawingState.{known_in, next_column, next_painted}
+use Rattle.sixel_judge.specs.Judging.{BreaksNoRule, IsDrawn, JudgesAfter, StandsUnbroken, box_of}
+use Rattle.sixel_judge.specs.Notes.{IsNotesAfter, known_in, marked, next_painted}
+use Rattle.sixel_judge.specs.Outside.{IsFirstIfAny}
 use Rattle.sixel_judge.specs.Standing.{CheckerValue, StandsAfter, expects, is_start, is_whole, progress_of}
 use Rattle.sixel_judge.specs.Standing.{progress_with}
 use Rattle.sixel_judge.specs.Stretches.{AreBlank, Fits, IsPaintedIn, IsStretchedIn, MayStep, blank_byte, moved_by}
@@ -46,46 +51,69 @@ use Rattle.sixel_judge.specs.Verdicts.{IsFinding, capped}
 use Rattle.sixel_judge.proofs.BlankLemmas.{small}
 use Rattle.sixel_judge.proofs.DrawLemmas.{drawn_paint, drawn_still}
 use Rattle.sixel_judge.proofs.JudgeLemmas.{events_push, judge_broken, judge_goes_on}
-use Rattle.sixel_judge.proofs.DrawingStateLemmas.{state_push}
+use Rattle.sixel_judge.proofs.NotesLemmas.{known_is, notes_push}
 use Rattle.sixel_judge.proofs.OutsideLemmas.{IsCapped, inside_fits, no_bits_fit, none_outside}
-use Rattle.sixel_judge.proofs.PixelLemmas as pixels
+use Rattle.sixel_judge.proofs.PushLemmas.{may_step_then}
 use Rattle.sixel_judge.proofs.RunLemmas.{falls_first}
-use Rattle.sixel_judge.proofs.StandLemmas.{prefix_next, progress_push, whole_push}
+use Rattle.sixel_judge.proofs.StandLemmas.{prefix_next, progress_push}
+use Rattle.sixel_judge.proofs.UnbrokenLemmas.{painted_defined}
 
 -- ---- one sixel inside the box, in a register that a command painted in before
 
 abbrev sixel : ℕ → Event
 sixel bits = Step (Sixel bits)
 
-and_no : (b : Bool) → (b && false) ≡ false
-and_no true = refl
-and_no false = refl
-
 has : {A : Type 0} (o : Option A) → IsSome o → is_none o ≡ false
 has None h = cc
 has (Some x) h = refl
 
-sixel_rule : (n : DrawingState) (bits : ℕ) → unselected_in n (sixel bits) ≡ false → undefined_in n (sixel bits) ≡ false
-    → rule_in n true (sixel bits) ≡ None
-unfolding breaks_ratio breaks_box_size breaks_register breaks_colour_value breaks_repeat_zero
-sixel_rule n bits selected defined =
-    ap₂ (λ (a b : Bool). if a then Some Unselected else if b then Some Undefined else None) selected defined
+-- no point that the event covers lies outside the box
+not_outside : {kept : ℕ → ℕ} (s : Grid) (before : List Event) (e : Event) → IsDrawn kept s before
+    → IsFirstIfAny (FallsOutside before e (box_of s)) None → ¬ BreaksOutside before e
+unfolding BreaksOutside
+not_outside s before e d first broken = let point = rw d.box at broken in first point.0 point.1 point.2
+
+-- a sixel in a box breaks no rule, unless one on its register, or `Outside`
+sixel_keeps : (registers : ℕ) {kept : ℕ → ℕ} (s : Grid) (before : List Event) (bits : ℕ) → IsDrawn kept s before
+    → IsFalse (breaks_unselected before (sixel bits)) → IsFalse (breaks_undefined before (sixel bits))
+    → IsFirstIfAny (FallsOutside before (sixel bits) (box_of s)) None → BreaksNoRule registers before (sixel bits)
+unfolding breaks_raster_first breaks_raster_twice breaks_ratio breaks_box_size breaks_register breaks_colour_value
+    breaks_repeat_zero breaks_redefined BreaksUncovered
+sixel_keeps registers s before bits d selected defined first rule =
+    keeps_none registers rule before (sixel bits) (record {
+      raster_first = rw d.box refl;
+      raster_twice = rw d.box refl;
+      ratio = refl;
+      box_size = refl;
+      register = refl;
+      colour_value = refl;
+      repeat_zero = refl;
+      unselected = selected;
+      undefined = defined;
+      redefined = refl;
+      outside = not_outside s before (sixel bits) d first;
+      uncovered = λ h. let ends : false ≡ true = h.0 in cc;
+    }) refl
 
 side : (n : ℕ) → IsTrue (is_side n) → n ≤ most_side
 side n h = leb-true n most_side (and_parts (nat_le 1 n) (nat_le n most_side) h).1
 
--- it breaks no rule
-sixel_breaks_none : {registers : ℕ} {kept : ℕ → ℕ} (n : DrawingState) (s : Grid) (before : List Event) (bits r : ℕ) → IsPaintedIn n r
-    → Fits n 1 s → IsStateAfter registers n before → IsDrawn kept s before → BreaksNoRule registers before (sixel bits)
-sixel_breaks_none {registers} {kept} n s before bits r known fits a d =
+-- a sixel inside the box, in a register that was painted in, breaks no rule
+sixel_breaks_none : {registers : ℕ} {kept : ℕ → ℕ} (n : Notes) (s : Grid) (before : List Event) (bits r : ℕ)
+    → IsPaintedIn n r → Fits n 1 s → StandsUnbroken registers kept n (Some s) before
+    → BreaksNoRule registers before (sixel bits)
+unfolding breaks_unselected breaks_undefined
+sixel_breaks_none {registers} n s before bits r known fits u =
     let e : Event = sixel bits in
-    let selected : unselected_in n e ≡ false =
-    ap (λ (o : Option ℕ). is_painting e && is_none o) known.known ∙ and_no (is_painting e) in
-    let defined : undefined_in n e ≡ false =
-    ap (λ (o : Option ℕ). is_painting e && option_map_or (λ q. is_none (palette_at n.palette q)) o false) known.known
-    ∙ ap (λ (b : Bool). is_painting e && b) (has (palette_at n.palette r) known.coloured) ∙ and_no (is_painting e) in
-    let least = pixels.least_by_state kept n (Some s) before e true None refl (sym (sixel_rule n bits selected defined)) a d
-    in
+    let a = u.notes_are in
+    let d = u.grid_is in
+    let is : known_before before ≡ Some r = sym (known_is n before a) ∙ known.known in
+    let has_one : IsSome (definition_of before r) =
+    painted_defined registers r before u.unbroken (sym (a.painted_is r known.low) ∙ known.painted) in
+    let selected = ap (λ (o : Option ℕ). is_painting e && is_none o) is ∙ and-false (is_painting e) in
+    let defined =
+    ap (λ (o : Option ℕ). is_painting e && option_map_or (λ q. is_none (definition_of before q)) o false) is
+    ∙ ap (λ (b : Bool). is_painting e && b) (has (definition_of before r) has_one) ∙ and-false (is_painting e) in
     let w : IsCapped n.column n.band (column 0 before) (band before) s.width s.height = record {
       column_is = a.column_is;
       band_is = a.band_is;
@@ -94,38 +122,49 @@ sixel_breaks_none {registers} {kept} n s before bits r known fits a d =
     } in
     let inside = inside_fits n.column n.band (column 0 before)
     (band before) s.width s.height 1 bits w fits.columns fits.rows in
-    let first = falls_first before e (box_of s) None
-    (none_outside (column 0 before) 1 (band before) bits s.width s.height inside) in
-    pixels.none_eight_bit registers before e refl
-    (pixels.none_before_end registers before e refl (pixels.none_outside registers before e s d least first))
+    sixel_keeps registers s before bits d selected defined
+    (falls_first before e (box_of s) None
+    (none_outside (column 0 before) 1 (band before) bits s.width s.height inside))
 
 set_there : (xs : List Bool) (k : ℕ) → get_or xs k false ≡ true → set xs k true ≡ xs
 set_there [] k is = cc
 set_there (x ∷ xs) zero is = ap (λ (b : Bool). b ∷ xs) (sym is)
 set_there (x ∷ xs) (suc k) is = ap (λ (l : List Bool). x ∷ l) (set_there xs k is)
 
-marks_stay : (n : DrawingState) (r : ℕ) (b : Bool) → IsPaintedIn n r
-    → (if b then option_map_or (λ q. set n.painted q true) (known_in n) n.painted else n.painted) ≡ n.painted
+mark_stays : (xs : List Bool) (r : ℕ) (c : Bool) → get_or xs r false ≡ true → (if c then set xs r true else xs) ≡ xs
+mark_stays xs r true is = set_there xs r is
+mark_stays xs r false is = refl
+
+marks_stay : (n : Notes) (r : ℕ) (b : Bool) → IsPaintedIn n r
+    → (if b then marked n.painted (known_in n) else n.painted) ≡ n.painted
 marks_stay n r false known = refl
 marks_stay n r true known =
-    ap (λ (o : Option ℕ). option_map_or (λ q. set n.painted q true) o n.painted) known.known
-    ∙ set_there n.painted r known.painted
+    ap (marked n.painted) known.known ∙ mark_stays n.painted r (nat_lt r 256) known.painted
 
--- the drawing state moves by one column
-sixel_by_state : {registers : ℕ} {kept : ℕ → ℕ} (n : DrawingState) (s : Grid) (before : List Event) (bits r : ℕ) → IsPaintedIn n r
-    → Fits n 1 s
-    → IsStateAfter registers n before → IsDrawn kept s before
-    → IsStateAfter registers (moved_by 1 n) (before ++ sixel bits ∷ [])
-sixel_by_state {registers} n s before bits r known fits a d =
-    let e : Event = sixel bits in
+late_stays : (early paints declared : Bool) → declared ≡ true → (early || (paints && not declared)) ≡ early
+late_stays early paints declared is =
+    ap (λ (b : Bool). early || (paints && not b)) is
+    ∙ ap (λ (b : Bool). early || b) (and-false paints) ∙ or-false early
+
+-- the notes after a sixel in a box that changes no mark
+notes_sixel : {kept : ℕ → ℕ} (n : Notes) (s : Grid) (before : List Event) (bits : ℕ) → IsNotesAfter n before
+    → IsDrawn kept s before → next_painted n (sixel bits) ≡ n.painted
+    → IsNotesAfter (passed_by 1 n) (before ++ sixel bits ∷ [])
+notes_sixel n s before bits a d marks =
+    let declared : n.declared ≡ true = a.declared_is ∙ ap is_some d.box in
+    rw (marks, or-false n.declared, late_stays n.early (is_painting (sixel bits)) n.declared declared) at
+    (notes_push n before (sixel bits) a)
+
+-- the notes move by one column
+sixel_by_notes : {kept : ℕ → ℕ} (n : Notes) (s : Grid) (before : List Event) (bits r : ℕ)
+    → IsPaintedIn n r → Fits n 1 s → IsNotesAfter n before → IsDrawn kept s before
+    → IsNotesAfter (moved_by 1 n) (before ++ sixel bits ∷ [])
+sixel_by_notes n s before bits r known fits a d =
     let room = small s.width d.width in
     let columns = fits.columns in
-    let moves : next_column n e ≡ n.column + 1 = omega (arith, room, columns) in
-    let marks : next_painted n e ≡ n.painted = marks_stay n r (is_painting e) known in
-    subst (λ (c : ℕ). IsStateAfter registers (record n { column = c }) (before ++ e ∷ [])) moves
-    (subst (λ (marked : List Bool). IsStateAfter registers (record n { column = next_column n e; painted = marked })
-    (before ++ e ∷ [])) marks
-    (state_push n before e a (sixel_breaks_none n s before bits r known fits a d)))
+    let moves : capped (n.column + 1) ≡ n.column + 1 = omega (arith, room, columns) in
+    subst (λ (c : ℕ). IsNotesAfter (record n { column = c }) (before ++ sixel bits ∷ [])) moves
+    (notes_sixel n s before bits a d (marks_stay n r (is_painting (sixel bits)) known))
 
 -- grids with the same pixels are drawn by the same events
 drawn_same : {kept : ℕ → ℕ} (s t : Grid) (before : List Event) → t.width ≡ s.width → t.height ≡ s.height
@@ -145,20 +184,22 @@ drawn_same s t before wide high long same d = record {
 }
 
 -- the grid after one more column of a stretch
-sixel_drawn : {registers : ℕ} {kept : ℕ → ℕ} (n : DrawingState) (s : Grid) (before : List Event) (f : ℕ → ℕ) (left line k r : ℕ)
+sixel_drawn : {registers : ℕ} {kept : ℕ → ℕ} (n : Notes) (s : Grid) (before : List Event) (f : ℕ → ℕ)
+    (left line k r : ℕ)
     → f k ≤ 63 → 0 < s.width → n.column ≡ left + k → n.band ≡ line → IsPaintedIn n r
     → Fits n 1 (stretched_grid s left line k f (kept r))
-    → IsStateAfter registers n before → IsDrawn kept (stretched_grid s left line k f (kept r)) before → (b : Bool)
+    → StandsUnbroken registers kept n (Some (stretched_grid s left line k f (kept r))) before → (b : Bool)
     → is_painting (sixel (f k)) ≡ b
     → IsDrawn kept (stretched_grid s left line (k + 1) f (kept r)) (before ++ sixel (f k) ∷ [])
-sixel_drawn {registers} {kept} n s before f left line k r few some at_column at_band known fits a d true paints =
+sixel_drawn {registers} {kept} n s before f left line k r few some at_column at_band known fits u true paints =
     let t : Grid = stretched_grid s left line k f (kept r) in
     let e : Event = sixel (f k) in
-    let drawn = drawn_paint n t before e r a d (sixel_breaks_none n t before (f k) r known fits a d) few paints
+    let drawn = drawn_paint registers n t before e r u.notes_are u.grid_is
+    (sixel_breaks_none n t before (f k) r known fits u) few paints
     known.known in
     subst (λ (q : Grid). IsDrawn kept q (before ++ e ∷ [])) (stretched_more s left line k f (kept r) some)
     (rw (at_column, at_band) at drawn)
-sixel_drawn {registers} {kept} n s before f left line k r few some at_column at_band known fits a d false idle =
+sixel_drawn {registers} {kept} n s before f left line k r few some at_column at_band known fits u false idle =
     let t : Grid = stretched_grid s left line k f (kept r) in
     let e : Event = sixel (f k) in
     let blank : f k % 64 ≡ 0 = eqb-true _ _ (not-false _ idle) in
@@ -166,13 +207,14 @@ sixel_drawn {registers} {kept} n s before f left line k r few some at_column at_
     let wide = stretched_width s left line k f (kept r) in
     let high = stretched_height s left line k f (kept r) in
     drawn_same t (stretched_grid s left line (k + 1) f (kept r)) (before ++ e ∷ [])
-    (stretched_width s left line (k + 1) f (kept r) ∙ sym wide) (stretched_height s left line (k + 1) f (kept r) ∙ sym high)
+    (stretched_width s left line (k + 1) f (kept r) ∙ sym wide)
+    (stretched_height s left line (k + 1) f (kept r) ∙ sym high)
     (stretched_length s left line (k + 1) f (kept r)
     ∙ ap₂ (λ (w h : ℕ). w * h) (sym (stretched_width s left line (k + 1) f (kept r)))
     (sym (stretched_height s left line (k + 1) f (kept r))))
     (λ x y inside_x inside_y.
     stretched_blank s left line k f (kept r) x y none (rw wide at inside_x) (rw high at inside_y))
-    (drawn_still t before e idle d)
+    (drawn_still t before e idle u.grid_is)
 
 -- ---- k of them
 
@@ -186,7 +228,7 @@ sixels_more place at (suc k) (b ∷ bytes) here lt =
     ap (λ (l : List Placed). record { place = place; event = Step (Sixel (b - 63)) } ∷ l)
     (sixels_more (place + 1) at k bytes (omega arith) (omega arith))
 
-none_drawn : {kept : ℕ → ℕ} (n : DrawingState) (s : Grid) (before : List Event) (f : ℕ → ℕ) (r : ℕ) → IsDrawn kept s before
+none_drawn : {kept : ℕ → ℕ} (n : Notes) (s : Grid) (before : List Event) (f : ℕ → ℕ) (r : ℕ) → IsDrawn kept s before
     → IsDrawn kept (stretched_grid s n.column n.band 0 f r) before
 none_drawn n s before f r d =
     let wide = stretched_width s n.column n.band 0 f r in
@@ -201,35 +243,37 @@ few_bits b is =
     omega (arith, leb-true b 126 parts.1)
 
 -- the state after k sixels of a stretch
-pub stretch_stands : {registers : ℕ} {kept : ℕ → ℕ} (n : DrawingState) (s : Grid) (seen : List Placed) (place count r : ℕ)
+pub stretch_stands : {registers : ℕ} {kept : ℕ → ℕ} (n : Notes) (s : Grid) (seen : List Placed) (place count r : ℕ)
     (bytes : List ℕ)
     → count ≤ length bytes → ((k : ℕ) → k < count → is_data (get_or bytes k 0) ≡ true) → IsPaintedIn n r
     → Fits n count s → StandsUnbroken registers kept n (Some s) (events_of seen) → (k : ℕ) → k ≤ count
-    → StandsUnbroken registers kept (moved_by k n) (Some (stretched_grid s n.column n.band k (sixel_of bytes count) (kept r)))
+    → StandsUnbroken registers kept (moved_by k n)
+    (Some (stretched_grid s n.column n.band k (sixel_of bytes count) (kept r)))
     (events_of (seen ++ sixels_from place (take k bytes)))
 stretch_stands {registers} {kept} n s seen place count r bytes long each known fits u zero le =
     let f : ℕ → ℕ = sixel_of bytes count in
     let still : n.column ≡ n.column + 0 = omega arith in
-    subst (λ (l : List Placed). StandsUnbroken registers kept (moved_by 0 n) (Some (stretched_grid s n.column n.band 0 f (kept r)))
+    subst (λ (l : List Placed). StandsUnbroken registers kept (moved_by 0 n)
+    (Some (stretched_grid s n.column n.band 0 f (kept r)))
     (events_of l)) (sym (append-nil seen))
     (record {
       unbroken = u.unbroken;
-      state_is = subst (λ (c : ℕ). IsStateAfter registers (record n { column = c }) (events_of seen)) still u.state_is;
+      bytes = u.bytes;
+      notes_are = subst (λ (c : ℕ). IsNotesAfter (record n { column = c }) (events_of seen)) still u.notes_are;
       grid_is = none_drawn n s (events_of seen) f (kept r) u.grid_is;
-      coloured = u.coloured;
     })
 stretch_stands {registers} {kept} n s seen place count r bytes long each known fits u (suc k) le =
     let f : ℕ → ℕ = sixel_of bytes count in
     let before = seen ++ sixels_from place (take k bytes) in
     let t : Grid = stretched_grid s n.column n.band k f (kept r) in
-    let m : DrawingState = moved_by k n in
+    let m : Notes = moved_by k n in
     let v = stretch_stands n s seen place count r bytes long each known fits u k (omega arith) in
     let bits : f k ≡ get_or bytes k 0 - 63 = cond-true _ _ _ (lt-ltb k count (omega arith)) in
     let p : Placed = record { place = place + k; event = Step (Sixel (f k)) } in
     let wide = stretched_width s n.column n.band k f (kept r) in
     let high = stretched_height s n.column n.band k f (kept r) in
     let painted : IsPaintedIn m r =
-    record { known = known.known; coloured = known.coloured; painted = known.painted } in
+    record { known = known.known; low = known.low; painted = known.painted } in
     let columns = fits.columns in
     let rows = fits.rows in
     let one : Fits m 1 t = record { columns = omega (arith, wide, columns); rows = omega (arith, high, rows) } in
@@ -237,10 +281,10 @@ stretch_stands {registers} {kept} n s seen place count r bytes long each known f
     let few : f k ≤ 63 = omega (arith, bits, few_bits (get_or bytes k 0) (each k (omega arith))) in
     let after = judge_goes_on m (moved_by 1 m) (Some t)
     (Some (stretched_grid s n.column n.band (k + 1) f (kept r))) before p v
-    (sixel_breaks_none m t (events_of before) (f k) r painted one v.state_is v.grid_is)
-    (sixel_by_state m t (events_of before) (f k) r painted one v.state_is v.grid_is)
+    (sixel_breaks_none m t (events_of before) (f k) r painted one v)
+    (sixel_by_notes m t (events_of before) (f k) r painted one v.notes_are v.grid_is)
     (sixel_drawn m s
-    (events_of before) f n.column n.band k r few some refl refl painted one v.state_is v.grid_is _ refl) in
+    (events_of before) f n.column n.band k r few some refl refl painted one v _ refl) in
     let events : before ++ p ∷ [] ≡ seen ++ sixels_from place (take (suc k) bytes) =
     append_assoc seen (sixels_from place (take k bytes)) (p ∷ [])
     ∙ ap (λ (l : List Placed). seen ++ l)
@@ -252,47 +296,46 @@ stretch_stands {registers} {kept} n s seen place count r bytes long each known f
     (Some (stretched_grid s n.column n.band (suc k) f (kept r))) (events_of l)) events
     (subst (λ (c : ℕ). StandsUnbroken registers kept (record n { column = c })
     (Some (stretched_grid s n.column n.band (suc k) f (kept r))) (events_of (before ++ p ∷ []))) column
-    (subst (λ (j : ℕ). StandsUnbroken registers kept (moved_by 1 m) (Some (stretched_grid s n.column n.band j f (kept r)))
+    (subst (λ (j : ℕ). StandsUnbroken registers kept (moved_by 1 m)
+    (Some (stretched_grid s n.column n.band j f (kept r)))
     (events_of (before ++ p ∷ []))) next after))
 
 -- ---- sixels without a set bit, wherever they lie
 
 -- one breaks no rule
-blank_breaks_none : {registers : ℕ} {kept : ℕ → ℕ} (n : DrawingState) (s : Grid) (before : List Event)
-    → IsStateAfter registers n before
-    → IsDrawn kept s before → BreaksNoRule registers before (sixel 0)
-blank_breaks_none {registers} {kept} n s before a d =
-    let e : Event = sixel 0 in
-    let least = pixels.least_by_state kept n (Some s) before e true None refl (sym (sixel_rule n 0 refl refl)) a d in
-    let first = falls_first before e (box_of s) None
+blank_breaks_none : (registers : ℕ) {kept : ℕ → ℕ} (s : Grid) (before : List Event) → IsDrawn kept s before
+    → BreaksNoRule registers before (sixel 0)
+unfolding breaks_unselected breaks_undefined
+blank_breaks_none registers s before d =
+    sixel_keeps registers s before 0 d refl refl
+    (falls_first before (sixel 0) (box_of s) None
     (none_outside (column 0 before) 1 (band before) 0 s.width s.height
-    (no_bits_fit (column 0 before) 1 (band before) 0 s.width s.height refl)) in
-    pixels.none_eight_bit registers before e refl
-    (pixels.none_before_end registers before e refl (pixels.none_outside registers before e s d least first))
+    (no_bits_fit (column 0 before) 1 (band before) 0 s.width s.height refl)))
 
 -- the bits of a byte
 blank_bits : (b : ℕ) → b ≡ blank_byte → b - 63 ≡ 0
 blank_bits b is = omega arith
 
 -- the state after k sixels of a stretch of them
-pub passed_stands : {registers : ℕ} {kept : ℕ → ℕ} (n : DrawingState) (s : Grid) (seen : List Placed) (place count : ℕ)
+pub passed_stands : {registers : ℕ} {kept : ℕ → ℕ} (n : Notes) (s : Grid) (seen : List Placed) (place count : ℕ)
     (bytes : List ℕ)
     → count ≤ length bytes → AreBlank bytes count → StandsUnbroken registers kept n (Some s) (events_of seen)
     → (k : ℕ) → k ≤ count
     → StandsUnbroken registers kept (passed_by k n) (Some s) (events_of (seen ++ sixels_from place (take k bytes)))
 passed_stands {registers} {kept} n s seen place count bytes long blank u zero le =
-    let at = u.state_is.column_is in
+    let at = u.notes_are.column_is in
     let still : n.column ≡ capped (n.column + 0) = omega (arith, at) in
-    subst (λ (l : List Placed). StandsUnbroken registers kept (passed_by 0 n) (Some s) (events_of l)) (sym (append-nil seen))
+    subst (λ (l : List Placed). StandsUnbroken registers kept (passed_by 0 n) (Some s) (events_of l))
+    (sym (append-nil seen))
     (subst (λ (c : ℕ). StandsUnbroken registers kept (record n { column = c }) (Some s) (events_of seen)) still u)
 passed_stands {registers} {kept} n s seen place count bytes long blank u (suc k) le =
     let before = seen ++ sixels_from place (take k bytes) in
-    let m : DrawingState = passed_by k n in
+    let m : Notes = passed_by k n in
     let v = passed_stands n s seen place count bytes long blank u k (omega arith) in
-    let none = blank_breaks_none m s (events_of before) v.state_is v.grid_is in
+    let none = blank_breaks_none _ s (events_of before) v.grid_is in
     let p : Placed = record { place = place + k; event = Step (Sixel 0) } in
     let after = judge_goes_on m (passed_by 1 m) (Some s) (Some s) before p v none
-    (state_push m (events_of before) (sixel 0) v.state_is none)
+    (notes_sixel m s (events_of before) 0 v.notes_are v.grid_is refl)
     (drawn_still s (events_of before) (sixel 0) refl v.grid_is) in
     let bits : 0 ≡ get_or bytes k 0 - 63 = sym (blank_bits (get_or bytes k 0) (blank k (omega arith))) in
     let events : before ++ p ∷ [] ≡ seen ++ sixels_from place (take (suc k) bytes) =
@@ -325,15 +368,6 @@ pub record IsBegun (progress : Progress) (seen : List Placed) : Type 0 where
   pub spellable : AllByRecursion IsSpellable (events_of seen)
   pub may_step : MayStep seen
 
-may_step_on : (seen : List Placed) (p : Placed) (c : Command) → p.event ≡ Step c → MayStep seen
-    → MayStep (seen ++ p ∷ [])
-may_step_on [] p c is may d = absurd (let h = may c in cc)
-may_step_on (q ∷ qs) p c is may d =
-    let parts = and_parts (not (is_whole (q ∷ qs))) (not (is_start (Step c))) (may c) in
-    let goes_on : is_whole ((q ∷ qs) ++ p ∷ []) ≡ false =
-    whole_push (q ∷ qs) p (not-true (is_whole (q ∷ qs)) parts.0) ∙ ap is_finish is in
-    ap (λ (b : Bool). not b && not (is_start (Step d))) goes_on
-
 begun_now : (seen : List Placed) (c : Command) → MayStep seen → progress_of seen ≡ Begun
 begun_now [] c may = absurd (let h = may c in cc)
 begun_now (q ∷ qs) c may =
@@ -351,7 +385,7 @@ begun_on progress seen p c is spellable b =
       prefix = subst ArePrefix (sym (events_push seen p)) (prefix_next seen p b.prefix may);
       spellable = subst (AllByRecursion IsSpellable) (sym (events_push seen p))
           (all-append IsSpellable (events_of seen) (p.event ∷ []) b.spellable (spellable, tt));
-      may_step = may_step_on seen p c is b.may_step;
+      may_step = may_step_then seen p c is b.may_step;
     }
 
 pub begun_stretch : (progress : Progress) (seen : List Placed) (place : ℕ) (prefix : List ℕ)
@@ -370,29 +404,30 @@ pub begun_of : (registers : ℕ) (checker : CheckerValue) (seen : List Placed) �
     → StandsAfter registers checker seen → IsBegun checker.progress seen
 unfolding StandsAfter
 begun_of registers checker seen may s = record {
-  progress_is = s.1;
-  prefix = s.2;
-  spellable = s.3;
+  progress_is = s.2;
+  prefix = s.3;
+  spellable = s.4;
   may_step = may;
 }
 
-stands_begun : (registers : ℕ) (checker : CheckerValue) (seen : List Placed)
-    → JudgesAfter registers (kept_by checker.keeps) checker.finding checker.state checker.grid seen → IsBegun checker.progress seen
-    → StandsAfter registers checker seen
+stands_begun : (registers : ℕ) (checker : CheckerValue) (seen : List Placed) → count_of checker.profile ≡ registers
+    → JudgesAfter (kept_by checker.keeps) checker.profile checker.finding checker.notes checker.grid seen
+    → IsBegun checker.progress seen → StandsAfter registers checker seen
 unfolding StandsAfter
-stands_begun registers checker seen judges b = (judges, b.progress_is, b.prefix, b.spellable)
+stands_begun registers checker seen are judges b = (are, judges, b.progress_is, b.prefix, b.spellable)
 
-judges_then : (kept : ℕ → ℕ) (registers : ℕ) (place count : ℕ) (bytes : List ℕ) (o : Option Finding) (n next : DrawingState)
+judges_then : (kept : ℕ → ℕ) (profile : Profile) (place count : ℕ) (bytes : List ℕ) (o : Option Finding)
+    (n next : Notes)
     (grid drawn : Option Grid) (seen : List Placed) → count ≤ length bytes
     → ((k : ℕ) → k < count → is_data (get_or bytes k 0) ≡ true)
     → (IsSome o → (next ≡ n) × (drawn ≡ grid)) → (o ≡ None → IsStretchedIn kept bytes count n grid next drawn)
-    → JudgesAfter registers kept o n grid seen
-    → JudgesAfter registers kept o next drawn (seen ++ sixels_from place (take count bytes))
-judges_then kept registers place count bytes (Some f) n next grid drawn seen long each broken taken j =
+    → JudgesAfter kept profile o n grid seen
+    → JudgesAfter kept profile o next drawn (seen ++ sixels_from place (take count bytes))
+judges_then kept profile place count bytes (Some f) n next grid drawn seen long each broken taken j =
     broken_stays seen (sixels_from place (take count bytes)) f j
-judges_then kept registers place count bytes None n next None drawn seen long each broken taken j = absurd (taken refl)
-judges_then kept registers place count bytes None n next (Some s) None seen long each broken taken j = absurd (taken refl)
-judges_then kept registers place count bytes None n next (Some s) (Some drawn) seen long each broken taken j =
+judges_then kept profile place count bytes None n next None drawn seen long each broken taken j = absurd (taken refl)
+judges_then kept profile place count bytes None n next (Some s) None seen long each broken taken j = absurd (taken refl)
+judges_then kept profile place count bytes None n next (Some s) (Some drawn) seen long each broken taken j =
     elim (taken refl) [
       | inl is ↦
           rw (is.next_is, is.drawn_is)
@@ -404,25 +439,20 @@ judges_then kept registers place count bytes None n next (Some s) (Some drawn) s
 -- after a stretch of sixels
 pub stretch_taken : (registers place count : ℕ) (bytes : List ℕ) (old new : CheckerValue) (seen : List Placed)
     → count ≤ length bytes → ((k : ℕ) → k < count → is_data (get_or bytes k 0) ≡ true) → MayStep seen
-    → new.keeps ≡ old.keeps → new.finding ≡ old.finding → new.progress ≡ old.progress
-    → (IsSome old.finding → (new.state ≡ old.state) × (new.grid ≡ old.grid))
-    → (old.finding ≡ None → IsStretchedIn (kept_by old.keeps) bytes count old.state old.grid new.state new.grid)
+    → new.keeps ≡ old.keeps → new.profile ≡ old.profile → new.finding ≡ old.finding → new.progress ≡ old.progress
+    → (IsSome old.finding → (new.notes ≡ old.notes) × (new.grid ≡ old.grid))
+    → (old.finding ≡ None → IsStretchedIn (kept_by old.keeps) bytes count old.notes old.grid new.notes new.grid)
     → StandsAfter registers old seen → StandsAfter registers new (seen ++ sixels_from place (take count bytes))
 unfolding StandsAfter
-stretch_taken registers place count bytes old new seen long each may kept finding progress broken taken s =
-    let judges = judges_then (kept_by old.keeps) registers place count bytes old.finding old.state new.state old.grid new.grid seen long
-    each broken taken s.0 in
+stretch_taken registers place count bytes old new seen long each may kept profile finding progress broken taken s =
+    let judges = judges_then (kept_by old.keeps) old.profile place count bytes old.finding old.notes new.notes old.grid
+    new.grid seen long each broken taken s.1 in
     let short = length-take-le count bytes long in
     let begun = begun_stretch old.progress seen place (take count bytes)
     (λ k lt. ap is_data (get_or-take count bytes k 0 (omega (arith, short))) ∙ each k (omega (arith, short)))
     (begun_of registers old seen may s) in
-    stands_begun registers new (seen ++ sixels_from place (take count bytes))
-    (subst (λ (b : Bool). JudgesAfter registers (kept_by b) new.finding new.state new.grid
-    (seen ++ sixels_from place (take count bytes))) (sym kept)
-    (subst (λ (o : Option Finding). JudgesAfter registers (kept_by old.keeps) o new.state new.grid
-    (seen ++ sixels_from place (take count bytes)))
-    (sym finding) judges))
-    (subst (λ (g : Progress). IsBegun g (seen ++ sixels_from place (take count bytes))) (sym progress) begun)
+    stands_begun registers new (seen ++ sixels_from place (take count bytes)) (ap count_of profile ∙ s.0)
+    (rw (kept, profile, finding) judges) (rw progress begun)
 
 -- a prefix of a stretch, and the sixel after it
 pub begun_take : (progress : Progress) (seen : List Placed) (place k : ℕ) (stretch : List ℕ) → k ≤ length stretch

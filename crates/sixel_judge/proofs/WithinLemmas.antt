@@ -5,6 +5,7 @@ use Rattle.std.specs.Prelude.{nat_le, nat_lt, slice_get, IfSome, IsFalse, IsSome
 use Rattle.std.specs.Bool.{then_some}
 use Rattle.std.specs.Option.{option_and_then, option_map_or}
 use Rattle.std.proofs.lemmas.Bool.{and_parts, leb-true, ltb-true, not-false, true_from_ne_false}
+use Rattle.std.proofs.Math.Bool.{or-true}
 use Rattle.sixel_grammar.specs.declared.command.Event.{Event}
 use Rattle.sixel_model.specs.Events.{Attributes, columns_of, is_data_command, is_in_box, is_repeat_of_zero, is_square}
 use Rattle.sixel_model.specs.Events.{raster_of}
@@ -95,15 +96,11 @@ data_inside n t events a i e x y none box here touched =
     = sym (same_points_on_each t events i e x y (plain n events none) here there) ∙ touched in
     inside_box (take i events) e a x y k.outside at fell
 
-pub either_true : (b : Bool) → (b || true) ≡ true
-either_true true = refl
-either_true false = refl
-
 -- clipping cuts off no point of the box before
 kept_inside : (t : Display) (before : List Event) (a : Attributes) (x y : ℕ) → raster_before before ≡ Some a
     → is_in_box a x y ≡ true → is_kept_on t before x y ≡ true
 unfolding is_kept_on
-kept_inside t before a x y box inside = rw (box, inside) (either_true (not t.choices.clips))
+kept_inside t before a x y box inside = rw (box, inside) (or-true (not t.choices.clips))
 
 -- clipping cuts off no point that a data command touches
 pub data_kept : (n : ℕ) (t u : Display) (events : List Event) (i : ℕ) (e : Event) (x y : ℕ)

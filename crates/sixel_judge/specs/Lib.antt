@@ -1,8 +1,9 @@
 pub mod Verdicts
 pub mod Judging
 pub mod Standing
-pub mod DrawingState
-pub mod Violations
+pub mod Notes
+pub mod Counting
+pub mod Covering
 pub mod Outside
 pub mod Growth
 pub mod Stretches

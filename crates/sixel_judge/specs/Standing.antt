@@ -9,8 +9,10 @@ use Rattle.sixel_grammar.specs.Faults.{ArePrefix}
 use Rattle.sixel_grammar.specs.Spelling.{IsSpellable}
 use Rattle.sixel_model.specs.Events.{is_finish}
 use Rattle.sixel_model.specs.Grids.{Grid}
+use Rattle.sixel_model.specs.Profiles.{count_of}
+use Rattle.sixel_model.specs.declared.profile.Profile.{Profile}
 use Rattle.sixel_plane.specs.Covers.{kept_by}
-use Rattle.sixel_judge.specs.declared.drawing_state.DrawingState.{DrawingState}
+use Rattle.sixel_judge.specs.declared.notes.Notes.{Notes}
 use Rattle.sixel_judge.specs.declared.progress.Progress.{Progress}
 use Rattle.sixel_judge.specs.declared.progress.Progress.TheVariants.{Fresh, Begun, Whole}
 use Rattle.sixel_judge.specs.declared.verdict.Finding.{Finding}
@@ -53,8 +55,9 @@ progress_with e = if is_finish e then Whole else Begun
 -- `keeps` says whether its grid has the registers that paint
 pub record CheckerValue : Type 0 where
   pub keeps : Bool
+  pub profile : Profile
   pub finding : Option Finding
-  pub state : DrawingState
+  pub notes : Notes
   pub grid : Option Grid
   pub progress : Progress
 
@@ -62,6 +65,7 @@ pub record CheckerValue : Type 0 where
 -- commands and a finish
 unfoldable pub StandsAfter : ℕ → CheckerValue → List Placed → Type 0
 StandsAfter registers checker seen =
-    JudgesAfter registers (kept_by checker.keeps) checker.finding checker.state checker.grid seen
+    (count_of checker.profile ≡ registers)
+    × JudgesAfter (kept_by checker.keeps) checker.profile checker.finding checker.notes checker.grid seen
     × (checker.progress ≡ progress_of seen)
     × ArePrefix (events_of seen) × AllByRecursion IsSpellable (events_of seen)

@@ -43,8 +43,9 @@ impl<P: Cover> Model for Checker<P> {
 
     ghost view = { λ c. record {
       keeps = P.keeps;
+      profile = c.judge.profile;
       finding = c.judge.finding;
-      state = c.judge.state;
+      notes = c.judge.notes;
       grid = option_map P.grid c.judge.plane;
       progress = c.progress;
     } };

@@ -1,10 +1,11 @@
 //! A checker as a follower of the events that are read.
 
-ghost use Rattle.std.specs.Prelude.{◌++◌, ◌∷◌, [], ℕ, List, OnErr, OnOk, length};
+ghost use Rattle.std.specs.Prelude.{◌++◌, ◌∷◌, [], ℕ, List, OnErr, OnOk};
 ghost use Rattle.sixel_grammar.specs.Document.{events_of};
 ghost use Rattle.sixel_grammar.specs.Following.{MayFollow, command_at};
 ghost use Rattle.sixel_grammar.specs.declared.command.Event.TheVariants.{Step};
 ghost use Rattle.sixel_grammar.specs.declared.command.Placed.{Placed as PlacedValue};
+ghost use Rattle.sixel_model.specs.Profiles.{count_of};
 ghost use Rattle.sixel_judge.specs.Growth.{MayGrow, MayGrowAmong};
 ghost use Rattle.sixel_judge.specs.Standing.{StandsAfter};
 
@@ -49,13 +50,13 @@ fn push_rarely<P: Cover>(
     push_command(checker, place, command)
 }
 
-/// It has as many registers as the palette that it had first.
+/// It has the registers of the profile that it had first.
 impl<P: Cover> Follower for Checker<P> {
     type Stop = AllocError;
 
-    ghost has_taken = { λ first now seen. StandsAfter (length first.state.palette) now seen };
+    ghost has_taken = { λ first now seen. StandsAfter (count_of first.profile) now seen };
 
-    ghost may_stop = { λ first now stop seen. MayGrowAmong (length first.state.palette) seen };
+    ghost may_stop = { λ first now stop seen. MayGrowAmong (count_of first.profile) seen };
 
     #[inline(never)]
     fn take(&mut self, placed: &Placed) -> Result<(), AllocError> {

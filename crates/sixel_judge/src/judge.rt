@@ -15,10 +15,11 @@ ghost use Rattle.sixel_judge.specs.Judging.{JudgesAfter};
 ghost use Rattle.sixel_judge.specs.Verdicts.{IsVerdict, outcome_of};
 ghost use Rattle.sixel_judge.specs.declared.verdict.Verdict.{Verdict as VerdictValue};
 
-use crate::drawing_state::DrawingState;
-use crate::pixels::{draw, picture_of, violation_of};
+use crate::notes::Notes;
+use crate::pixels::{draw, picture_of};
 use crate::stretch::try_take_stretch;
 use crate::verdict::{Finding, Outcome, Verdict};
+use crate::violation::violation_of;
 use sixel_grammar::Placed;
 use sixel_model::Profile;
 use sixel_plane::{Cover, Plane};
@@ -27,8 +28,9 @@ use std::alloc::{AllocError, Global};
 /// The state after some events: the first broken rule, or, while none is broken, what the rules need to know of them.
 #[derive(Drop)]
 pub(crate) struct Judge<P: Cover> {
+    pub profile: Profile,
     pub finding: Option<Finding>,
-    pub state: DrawingState,
+    pub notes: Notes,
     /// The pixels of the box, from the first raster attributes on.
     pub plane: Option<P>,
 }
@@ -36,11 +38,14 @@ pub(crate) struct Judge<P: Cover> {
 impl<P: Cover> Judge<P> {
     /// The state before any event.
     pub(crate) fn new(profile: Profile) -> Judge<P>
-        ensures { JudgesAfter (count_of profile) (kept_by P.keeps) result.finding result.state (option_map P.grid result.plane) [] }
+        ensures profile { result.profile ≡ profile }
+        ensures none { JudgesAfter (kept_by P.keeps) result.profile result.finding result.notes
+            (option_map P.grid result.plane) [] }
     {
         Judge {
+            profile,
             finding: None,
-            state: DrawingState::new(profile),
+            notes: Notes::new(),
             plane: None,
         }
     }
@@ -50,22 +55,27 @@ impl<P: Cover> Judge<P> {
     /// Its callees are inlined too: a caller that knows the kind of the event keeps only the code for that kind.
     #[inline(always)]
     pub(crate) fn step(&mut self, alloc: Global, placed: &Placed) -> Result<(), AllocError>
-        requires stands { (registers : ℕ) × (seen : List PlacedValue)
-            × JudgesAfter registers (kept_by P.keeps) self.old.finding self.old.state (option_map P.grid self.old.plane) seen }
+        requires stands { (seen : List PlacedValue)
+            × JudgesAfter (kept_by P.keeps) self.old.profile self.old.finding self.old.notes
+            (option_map P.grid self.old.plane) seen }
         requires spellable { IsSpellable placed.now.event }
-        ensures ok { OnOk result ((registers : ℕ) (seen : List PlacedValue)
-            → JudgesAfter registers (kept_by P.keeps) self.old.finding self.old.state (option_map P.grid self.old.plane) seen
-            → JudgesAfter registers (kept_by P.keeps) self.new.finding self.new.state (option_map P.grid self.new.plane)
+        ensures ok { OnOk result ((seen : List PlacedValue)
+            → JudgesAfter (kept_by P.keeps) self.old.profile self.old.finding self.old.notes
+            (option_map P.grid self.old.plane) seen
+            → JudgesAfter (kept_by P.keeps) self.new.profile self.new.finding self.new.notes
+            (option_map P.grid self.new.plane)
             (seen ++ placed.now ∷ [])) }
+        ensures profile { self.new.profile ≡ self.old.profile }
         ensures err { OnErr result (self.new ≡ self.old) }
-        ensures grows { OnErr result ((registers : ℕ) (seen : List PlacedValue)
-            → JudgesAfter registers (kept_by P.keeps) self.old.finding self.old.state (option_map P.grid self.old.plane) seen
-            → MayGrow registers (events_of seen) placed.now.event) }
+        ensures grows { OnErr result ((seen : List PlacedValue)
+            → JudgesAfter (kept_by P.keeps) self.old.profile self.old.finding self.old.notes
+            (option_map P.grid self.old.plane) seen
+            → MayGrow (count_of self.old.profile) (events_of seen) placed.now.event) }
     {
         if self.finding.is_some() {
             return Ok(());
         }
-        match violation_of(&self.state, &self.plane, &placed.event) {
+        match violation_of(self.profile, &self.notes, &self.plane, &placed.event) {
             Some(violation) => {
                 self.finding = Some(Finding {
                     rule: violation.rule,
@@ -74,8 +84,8 @@ impl<P: Cover> Judge<P> {
                 });
             }
             None => {
-                draw(alloc, &self.state, &mut self.plane, &placed.event)?;
-                self.state.take(&placed.event);
+                draw(alloc, &self.notes, &mut self.plane, &placed.event)?;
+                self.notes.take_but_early(&placed.event);
             }
         }
         Ok(())
@@ -86,39 +96,40 @@ impl<P: Cover> Judge<P> {
     /// nothing has changed.
     #[inline(always)]
     pub(crate) fn try_take_stretch(&mut self, bytes: &[u8], count: usize) -> bool
-        requires stands { (registers : ℕ) × (seen : List PlacedValue)
-            × JudgesAfter registers (kept_by P.keeps) self.old.finding self.old.state (option_map P.grid self.old.plane) seen }
+        requires stands { (seen : List PlacedValue)
+            × JudgesAfter (kept_by P.keeps) self.old.profile self.old.finding self.old.notes
+            (option_map P.grid self.old.plane) seen }
         requires sixels { (k : ℕ) → k < count → IsTrue (is_data (slice_index bytes.now k)) }
         requires bytes { count ≤ length bytes.now }
+        ensures profile { self.new.profile ≡ self.old.profile }
         ensures finding { self.new.finding ≡ self.old.finding }
         ensures broken { IsSome self.old.finding → self.new ≡ self.old }
         ensures taken { result ≡ true → self.old.finding ≡ None → IsStretchedIn (kept_by P.keeps) bytes.now count
-            self.old.state (option_map P.grid self.old.plane) self.new.state (option_map P.grid self.new.plane) }
+            self.old.notes (option_map P.grid self.old.plane) self.new.notes (option_map P.grid self.new.plane) }
         ensures kept { result ≡ false → self.new ≡ self.old }
     {
         if self.finding.is_some() {
             return true;
         }
         match &mut self.plane {
-            Some(plane) => try_take_stretch(&mut self.state, plane, bytes, count),
+            Some(plane) => try_take_stretch(&mut self.notes, plane, bytes, count),
             None => false,
         }
     }
 
     /// The verdict on a whole list, without the picture.
     pub(crate) fn outcome(self) -> Outcome
-        requires { (registers : ℕ) × (seen : List PlacedValue)
-            × JudgesAfter registers (kept_by P.keeps) self.finding self.state (option_map P.grid self.plane) seen
+        requires { (seen : List PlacedValue)
+            × JudgesAfter (kept_by P.keeps) self.profile self.finding self.notes
+            (option_map P.grid self.plane) seen
             × AreWhole (events_of seen) }
-        ensures { (registers : ℕ) (seen : List PlacedValue)
-            → JudgesAfter registers (kept_by P.keeps) self.finding self.state (option_map P.grid self.plane) seen
-            → (verdict : VerdictValue) × IsVerdict registers seen verdict × (result ≡ outcome_of verdict) }
+        ensures { (seen : List PlacedValue)
+            → JudgesAfter (kept_by P.keeps) self.profile self.finding self.notes
+            (option_map P.grid self.plane) seen
+            → (verdict : VerdictValue) × IsVerdict (count_of self.profile) seen verdict
+            × (result ≡ outcome_of verdict) }
     {
-        let Judge {
-            finding,
-            state: _,
-            plane,
-        } = self;
+        let Judge { finding, plane, .. } = self;
         match (finding, plane) {
             (Some(finding), _) => Outcome::Broken(finding),
             (None, Some(plane)) => Outcome::Portable {
@@ -133,21 +144,24 @@ impl<P: Cover> Judge<P> {
 impl<P: Plane> Judge<P> {
     /// The verdict on a whole list.
     pub(crate) fn verdict(self) -> Verdict
-        requires { (registers : ℕ) × (seen : List PlacedValue)
-            × JudgesAfter registers (kept_by P.keeps) self.finding self.state (option_map P.grid self.plane) seen
+        requires { (seen : List PlacedValue)
+            × JudgesAfter (kept_by P.keeps) self.profile self.finding self.notes
+            (option_map P.grid self.plane) seen
             × AreWhole (events_of seen) }
-        ensures { (registers : ℕ) (seen : List PlacedValue)
-            → JudgesAfter registers (kept_by P.keeps) self.finding self.state (option_map P.grid self.plane) seen
-            → IsVerdict registers seen result }
+        ensures { (seen : List PlacedValue)
+            → JudgesAfter (kept_by P.keeps) self.profile self.finding self.notes
+            (option_map P.grid self.plane) seen
+            → IsVerdict (count_of self.profile) seen result }
     {
         let Judge {
+            profile,
             finding,
-            state,
+            notes,
             plane,
         } = self;
         match (finding, plane) {
             (Some(finding), _) => Verdict::Broken(finding),
-            (None, Some(plane)) => Verdict::Portable(picture_of(state, plane)),
+            (None, Some(plane)) => Verdict::Portable(picture_of(profile, &notes, plane)),
             (None, None) => unreachable!(),
         }
     }

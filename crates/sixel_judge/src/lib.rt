@@ -5,11 +5,12 @@
 
 mod checker;
 mod colours;
-mod drawing_state;
 pub mod events;
 mod following;
+pub mod hits;
 mod judge;
 pub mod laws;
+pub mod notes;
 pub mod outside;
 mod pixels;
 mod progress;

@@ -1,11 +1,14 @@
 //! Where a run of columns paints outside the box.
 
-ghost use Rattle.std.specs.Prelude.{◌≡◌, ◌≤◌, ◌+◌, ◌*◌, ◌↔◌, ℕ, IsTrue};
+ghost use Rattle.std.specs.Prelude.{◌≡◌, ◌≤◌, ◌+◌, ◌*◌, ◌↔◌, ℕ, IsTrue, true};
 ghost use Rattle.sixel_model.specs.Geometry.{band_rows};
 ghost use Rattle.sixel_judge.specs.Outside.{IsFirstIfAny, PaintsOutside, first_column};
+ghost use Rattle.sixel_judge.specs.Stretches.{Fits};
 ghost use Rattle.sixel_judge.specs.Verdicts.{capped};
 
+use crate::notes::Notes;
 use sixel_model::{BAND_ROWS, is_set};
+use sixel_plane::Cover;
 
 /// The pixel row of a bit of a band, at most `u64::MAX`.
 fn row_of(band: u64, bit: u32) -> u64
@@ -59,6 +62,23 @@ pub fn is_inside(column: u64, band: u64, count: u64, width: u32, height: u32) ->
     column <= width as u64
         && count <= width as u64 - column
         && band < height as u64 / BAND_ROWS as u64
+}
+
+/// Whether `count` columns from the current one on lie in the box, with all six rows of their band.
+#[inline(always)]
+pub fn fits<P: Cover>(notes: &Notes, plane: &P, count: usize) -> bool
+    ensures within { result ≡ true → Fits notes.now count (P.grid plane.now) }
+    ensures column { result ≡ true → notes.now.column ≤ u32.MAX }
+    ensures band { result ≡ true → notes.now.band ≤ u32.MAX }
+    ensures columns { result ≡ true → notes.now.column + count ≤ u32.MAX }
+{
+    is_inside(
+        notes.column,
+        notes.band,
+        count as u64,
+        plane.width(),
+        plane.height(),
+    )
 }
 
 /// As `outside_pixel`, row by row.

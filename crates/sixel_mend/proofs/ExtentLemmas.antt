@@ -42,15 +42,15 @@ pub record IsDepth (n : ℕ) (p : ℕ → Bool) (d : ℕ) : Type 0 where
   pub few : d ≤ n
   pub passes : 0 < d → p (d - 1) ≡ true
 
-is_depth_step : (n : ℕ) (p : ℕ → Bool) (b : Bool) → p n ≡ b → IsDepth n p (depth_below n p)
+is_depth_step : {n : ℕ} {p : ℕ → Bool} (b : Bool) → p n ≡ b → IsDepth n p (depth_below n p)
     → IsDepth (suc n) p (if b then suc n else depth_below n p)
-is_depth_step n p true e h =
+is_depth_step {n} true e h =
     let last : suc n - 1 ≡ n = omega arith in record { few = omega arith; passes = λ some. rw last e }
-is_depth_step n p false e h = record { few = omega (arith, h.few); passes = h.passes }
+is_depth_step false e h = record { few = omega (arith, h.few); passes = h.passes }
 
 pub is_depth : (n : ℕ) (p : ℕ → Bool) → IsDepth n p (depth_below n p)
 is_depth zero p = record { few = omega arith; passes = λ some. absurd (omega arith) }
-is_depth (suc n) p = is_depth_step n p (p n) refl (is_depth n p)
+is_depth (suc n) p = is_depth_step (p n) refl (is_depth n p)
 
 -- ---- a side that a command reaches
 
@@ -166,10 +166,10 @@ touched_corner m w h before e some =
       to = omega (arith, columns);
     })
 
-pub extent_push : (m : Mending) (w h : ℕ) (before : List Event) (e : Event) (width height : ℕ)
+pub extent_push : (m : Mending) (w h : ℕ) {before : List Event} (e : Event) {width height : ℕ}
     → IsExtent (mending_terminal m w h) before width height
     → IsExtent (mending_terminal m w h) (before ++ e ∷ []) (next_width width before e) (next_height height before e)
-extent_push m w h before e width height is =
+extent_push m w h {before} e {width} {height} is =
     let t = mending_terminal m w h in
     let rows = depth (bits_of e) in
     let right = column 1 before + columns_of 1 e in

@@ -52,10 +52,10 @@ capped_side side rows to = by (rows == 0)
 
 -- ---- one more event
 
-pub measures_push : (e f : Extent) (before : List Event) (event : Event) → Measures e before
+pub measures_push : {e : Extent} (f : Extent) {before : List Event} (event : Event) → Measures e before
     → f.column ≡ next_column e event → f.band ≡ next_band e event → f.width ≡ reached_column e event
     → f.height ≡ reached_row e event → f.declared ≡ next_declared e event → Measures f (before ++ event ∷ [])
-measures_push e f before event s c b w h d =
+measures_push f {before} event s c b w h d =
     let rows = depth (bits_of event) in
     let columns = columns_of 1 event in
     record {
@@ -69,7 +69,7 @@ measures_push e f before event s c b w h d =
           ∙ ap (λ (n : ℕ). min n most) (sym (band_push before event));
       width = next_width s.width before event;
       height = next_height s.height before event;
-      extent = λ m v u. extent_push m v u before event s.width s.height (s.extent m v u);
+      extent = λ m v u. extent_push m v u event (s.extent m v u);
       width_is =
           w ∙ ap₂ (λ (a n : ℕ). reached a rows (min (n + columns) most)) s.width_is s.column_is
           ∙ ap (reached (min s.width most) rows) (capped_sum (column 1 before) columns)
@@ -85,14 +85,14 @@ measures_push e f before event s c b w h d =
     }
 
 -- an event that is no command
-pub measures_idle : (e : Extent) (before : List Event) (event : Event)
+pub measures_idle : {e : Extent} {before : List Event} (event : Event)
     → ((command : Command) → event ≡ Step command → ⊥) → Measures e before → Measures e (before ++ event ∷ [])
-measures_idle e before (Step command) no_step s = absurd (no_step command refl)
-measures_idle e before (Start eight parameters) no_step s =
-    measures_push e e before (Start eight parameters) s (omega (arith, s.column_is)) (omega (arith, s.band_is))
+measures_idle (Step command) no_step s = absurd (no_step command refl)
+measures_idle {e} (Start eight parameters) no_step s =
+    measures_push e (Start eight parameters) s (omega (arith, s.column_is)) (omega (arith, s.band_is))
     refl refl (or_none e.declared)
-measures_idle e before (Finish eight) no_step s =
-    measures_push e e before (Finish eight) s (omega (arith, s.column_is)) (omega (arith, s.band_is)) refl refl
+measures_idle {e} (Finish eight) no_step s =
+    measures_push e (Finish eight) s (omega (arith, s.column_is)) (omega (arith, s.band_is)) refl refl
     (or_none e.declared)
 
 pub measures_none : (e : Extent) → e.column ≡ 0 → e.band ≡ 0 → e.width ≡ 0 → e.height ≡ 0 → e.declared ≡ None
@@ -122,41 +122,39 @@ abbrev moved : Extent → ℕ → Extent
 moved e n = record e { column = e.column + n }
 
 -- one of its sixels
-one_inside : (e : Extent) (before : List Event) (bits : ℕ) → Measures e before → e.column + 1 ≤ e.width
+one_inside : {e : Extent} {before : List Event} (bits : ℕ) → Measures e before → e.column + 1 ≤ e.width
     → 6 * e.band + depth bits ≤ e.height → Measures (moved e 1) (before ++ Step (Sixel bits) ∷ [])
-one_inside e before bits s across down =
-    measures_push e (moved e 1) before (Step (Sixel bits)) s (omega (arith, s.width_is, across))
+one_inside {e} bits s across down =
+    measures_push (moved e 1) (Step (Sixel bits)) s (omega (arith, s.width_is, across))
     (omega (arith, s.band_is)) (sym (side_stays e.width (depth bits) (e.column + 1) across))
     (sym (side_stays e.height (depth bits) (6 * e.band + depth bits) down)) (or_none e.declared)
 
-pub measures_stretch : (bytes : List ℕ) (e : Extent) (before : List Event) → Measures e before
+pub measures_stretch : (bytes : List ℕ) {e : Extent} {before : List Event} → Measures e before
     → e.column + length bytes ≤ e.width
     → ((k : ℕ) → k < length bytes → 6 * e.band + depth (slice_index bytes k - 63) ≤ e.height)
     → Measures (moved e (length bytes)) (before ++ sixels_of bytes)
-measures_stretch [] e before s across down =
+measures_stretch [] {e} {before} s across down =
     subst (Measures (moved e 0)) (sym (append-nil before)) (same_there (e.column + 0) (omega arith))
   where
     same_there : (n : ℕ) → n ≡ e.column → Measures (record e { column = n }) before
     same_there n is = rw is s
-measures_stretch (b ∷ bytes) e before s across down =
+measures_stretch (b ∷ bytes) {e} {before} s across down =
     let sixel = Step (Sixel (b - 63)) in
-    let one = one_inside e before (b - 63) s (omega (arith, across)) (down 0 (omega arith)) in
-    let all = measures_stretch bytes (moved e 1) (before ++ sixel ∷ []) one (omega (arith, across))
-    (λ k lt. down (suc k) (omega (arith, lt))) in
+    let one = one_inside (b - 63) s (omega (arith, across)) (down 0 (omega arith)) in
+    let all = measures_stretch bytes one (omega (arith, across)) (λ k lt. down (suc k) (omega (arith, lt))) in
     let count : e.column + 1 + length bytes ≡ e.column + length (b ∷ bytes) = omega arith in
     subst (λ (n : ℕ). Measures (record e { column = n }) (before ++ sixels_of (b ∷ bytes))) count
     (subst (Measures (moved (moved e 1) (length bytes))) (append_assoc before (sixel ∷ []) (sixels_of bytes)) all)
 
 -- ---- events with their offsets
 
-pub measures_one : (e : Extent) (seen : List Placed) (p : Placed) → Measures e (events_of seen ++ p.event ∷ [])
+pub measures_one : {e : Extent} (seen : List Placed) (p : Placed) → Measures e (events_of seen ++ p.event ∷ [])
     → Measures e (events_of (seen ++ p ∷ []))
-measures_one e seen p s = subst (Measures e) (sym (events_then seen (p ∷ []))) s
+measures_one {e} seen p s = subst (Measures e) (sym (events_then seen (p ∷ []))) s
 
-pub measures_sixels : (e : Extent) (seen : List Placed) (place : ℕ) (bytes : List ℕ)
+pub measures_sixels : {e : Extent} (seen : List Placed) (place : ℕ) (bytes : List ℕ)
     → Measures e (events_of seen ++ sixels_of bytes) → Measures e (events_of (seen ++ sixels_from place bytes))
-measures_sixels e seen place bytes s =
+measures_sixels {e} seen place bytes s =
     subst (Measures e)
     (ap (λ (es : List Event). events_of seen ++ es) (sym (sixels_are place bytes))
-    ∙ sym (events_then seen (sixels_from place bytes)))
-    s
+    ∙ sym (events_then seen (sixels_from place bytes))) s

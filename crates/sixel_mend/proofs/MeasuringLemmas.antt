@@ -29,8 +29,7 @@ stands_after m (inr h) none = (m.extent, h.0, h.1)
 
 -- a reader that had read some bytes has read some or has a fault after a piece, too
 pub stands_still : {S : Type 0} (result : Result (Unit {0}) (Halt S)) (m new : Measured) (before bytes : List ℕ)
-    → HasMeasured m before
-    → OnOk result (FollowsBytes takes m.reader m.extent new.reader new.extent bytes)
+    → HasMeasured m before → OnOk result (FollowsBytes takes m.reader m.extent new.reader new.extent bytes)
     → IfErr result (HaltsWithin takes stops m.reader m.extent new.reader new.extent bytes)
     → HasStood new.reader new.extent
 stands_still (Ok u) m new before bytes measured followed halted =

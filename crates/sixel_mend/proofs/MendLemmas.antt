@@ -46,29 +46,29 @@ over_some (Some a) g s n h = let same : sides_of a ≡ s = cc in ap (λ (x : Sid
 capped_over : (n d : ℕ) → d ≤ most → max (min n most) d ≡ min (max n d) most
 capped_over n d le = omega (arith, le)
 
-pub sized_alone : (e : Extent) (m : Mending) (events : List Event) → Measures e events → e.declared ≡ None
+pub sized_alone : {e : Extent} (m : Mending) {events : List Event} → Measures e events → e.declared ≡ None
     → IsSized m events e.width e.height
-sized_alone e m events s none =
+sized_alone m {events} s none =
     let box : option_map sides_of (raster_before events) ≡ None = sym s.declared_is ∙ none in
     record {
       width = side_over events (λ a. a.width) s.width;
       height = side_over events (λ a. a.height) s.height;
-      size = size_by m 0 0 events s.width s.height (s.extent m 0 0);
+      size = size_by m 0 0 (s.extent m 0 0);
       width_is = s.width_is ∙ ap (λ (n : ℕ). min n most)
           (sym (over_none (raster_before events) (λ a. a.width) s.width box));
       height_is = s.height_is ∙ ap (λ (n : ℕ). min n most)
           (sym (over_none (raster_before events) (λ a. a.height) s.height box));
     }
 
-pub sized_over : (e : Extent) (m : Mending) (events : List Event) (sides : Sides) → Measures e events
+pub sized_over : {e : Extent} (m : Mending) {events : List Event} (sides : Sides) → Measures e events
     → e.declared ≡ Some sides → sides.width ≤ most → sides.height ≤ most
     → IsSized m events (max e.width sides.width) (max e.height sides.height)
-sized_over e m events sides s some wide high =
+sized_over m {events} sides s some wide high =
     let box : option_map sides_of (raster_before events) ≡ Some sides = sym s.declared_is ∙ some in
     record {
       width = side_over events (λ a. a.width) s.width;
       height = side_over events (λ a. a.height) s.height;
-      size = size_by m 0 0 events s.width s.height (s.extent m 0 0);
+      size = size_by m 0 0 (s.extent m 0 0);
       width_is =
           ap (λ (n : ℕ). max n sides.width) s.width_is ∙ capped_over s.width sides.width wide
           ∙ ap (λ (n : ℕ). min n most)
@@ -89,7 +89,7 @@ same_large : (w h width height : ℕ) → w ≡ min width most → h ≡ min hei
     → (nat_lt most_side width || nat_lt most_side height) ≡ (nat_lt most_side w || nat_lt most_side h)
 same_large w h width height e f = grind (arith, nat_tests)
 
-sides_from : (w h : ℕ) → ((w == 0) || (h == 0)) ≡ false → (nat_lt most_side w || nat_lt most_side h) ≡ false
+pub sides_from : (w h : ℕ) → ((w == 0) || (h == 0)) ≡ false → (nat_lt most_side w || nat_lt most_side h) ≡ false
     → (is_side w && is_side h) ≡ true
 sides_from w h some few = grind (arith, nat_tests)
 
@@ -111,10 +111,10 @@ is_large registers m events width height e f = rw (e, f) refl
 abbrev judged_by : Bool → Bool → Result (Unit {0}) MendFault
 judged_by a b = if a then Err Empty else if b then Err TooLarge else Ok tt
 
-pub size_refused : (registers : ℕ) (m : Mending) (bytes : List ℕ) (placed : List Placed) (w h : ℕ) (fault : MendFault)
+pub size_refused : (registers : ℕ) {m : Mending} {bytes : List ℕ} {placed : List Placed} {w h : ℕ} (fault : MendFault)
     → Document placed bytes → IsSized m (events_of placed) w h → judged w h ≡ Err fault
     → Mends registers m bytes (Err fault)
-size_refused registers m bytes placed w h fault doc s judgement =
+size_refused registers {m} {bytes} {placed} {w} {h} fault doc s judgement =
     by ((w == 0) || (h == 0)) (nat_lt most_side w || nat_lt most_side h) refl refl judgement
   where
     by : (a b : Bool) → ((w == 0) || (h == 0)) ≡ a → (nat_lt most_side w || nat_lt most_side h) ≡ b
@@ -162,9 +162,9 @@ sides_accepted w h u judgement =
 few_sides : (w h : ℕ) → (is_side w && is_side h) ≡ true → (w ≤ 2048) × (h ≤ 2048)
 few_sides w h sides = (grind (arith, nat_tests), grind (arith, nat_tests))
 
-pub size_accepted : (m : Mending) (events : List Event) (w h : ℕ) → IsSized m events w h
+pub size_accepted : {m : Mending} {events : List Event} {w h : ℕ} → IsSized m events w h
     → (is_side w && is_side h) ≡ true → IsSize m events w h
-size_accepted m events w h s sides =
+size_accepted {m} {events} {w} {h} s sides =
     let few = few_sides w h sides in
     subst (λ (n : ℕ). IsSize m events n h) (exact w s.width s.width_is few.0)
     (subst (λ (n : ℕ). IsSize m events s.width n) (exact h s.height s.height_is few.1) s.size)
@@ -172,15 +172,14 @@ size_accepted m events w h s sides =
 -- ---- the picture
 
 is_too_many : (registers : ℕ) (m : Mending) (events : List Event) (w h : ℕ) → (is_side w && is_side h) ≡ true
-    → registers < length (distinct (mended_colours m events w h))
-    → Err TooManyColours ≡ mended registers m events w h
+    → registers < length (distinct (mended_colours m events w h)) → Err TooManyColours ≡ mended registers m events w h
 unfolding mended
 is_too_many registers m events w h sides many =
     let some : ((w == 0) || (h == 0)) ≡ false = grind (arith, nat_tests) in
     let small : (nat_lt most_side w || nat_lt most_side h) ≡ false = grind (arith, nat_tests) in
     rw (some, small, lt-ltb registers (length (distinct (mended_colours m events w h))) many) refl
 
-is_mended : (registers : ℕ) (m : Mending) (events : List Event) (w h : ℕ) → (is_side w && is_side h) ≡ true
+pub is_mended : (registers : ℕ) (m : Mending) (events : List Event) (w h : ℕ) → (is_side w && is_side h) ≡ true
     → length (distinct (mended_colours m events w h)) ≤ registers
     → Ok (picture_of registers w h (mended_colours m events w h)) ≡ mended registers m events w h
 unfolding mended
@@ -211,13 +210,13 @@ unfolding screen_on
 whole_screen m events w h = length_rows w h (shown_on (mending_terminal m w h) events)
 
 -- what the numbering of the colours gives is what mending gives
-pub numbered : (registers : ℕ) (m : Mending) (bytes : List ℕ) (events : List Placed) (w h : ℕ) (colours : List Parts)
+pub numbered : (registers : ℕ) {m : Mending} {bytes : List ℕ} {events : List Placed} {w h : ℕ} (colours : List Parts)
     (result : Result PictureValue MendFault) → IsMeasured m bytes events w h
     → colours ≡ mended_colours m (events_of events) w h
     → IfOk result (λ (p : PictureValue). p ≡ picture_of registers w h colours)
     → IfOk result (λ (p : PictureValue). length (distinct colours) ≤ registers)
     → IfErr result (IsNumberingFault registers colours) → Mends registers m bytes result
-numbered registers m bytes events w h colours (Ok p) d is picture few refused =
+numbered registers {m} {events} {w} {h} colours (Ok p) d is picture few refused =
     let small = subst (λ (cs : List Parts). length (distinct cs) ≤ registers) is few in (
       events,
       d.document,
@@ -229,21 +228,21 @@ numbered registers m bytes events w h colours (Ok p) d is picture few refused =
             ∙ is_mended registers m (events_of events) w h d.sides small,
       ),
     )
-numbered registers m bytes events w h colours (Err TooManyColours) d is picture few refused =
+numbered registers {m} {events} {w} {h} colours (Err TooManyColours) d is picture few refused =
     let many = subst (λ (cs : List Parts). registers < length (distinct cs)) is refused in
     (events, d.document, (w, h, d.size, is_too_many registers m (events_of events) w h d.sides many))
-numbered registers m bytes events w h colours (Err OutOfMemory) d is picture few refused =
+numbered registers {events} {w} {h} colours (Err OutOfMemory) d is picture few refused =
     (events, d.document, (w, h, d.size, d.sides))
-numbered registers m bytes events w h colours (Err (Grammar f)) d is picture few refused = absurd refused
-numbered registers m bytes events w h colours (Err Empty) d is picture few refused = absurd refused
-numbered registers m bytes events w h colours (Err TooLarge) d is picture few refused = absurd refused
+numbered registers colours (Err (Grammar f)) d is picture few refused = absurd refused
+numbered registers colours (Err Empty) d is picture few refused = absurd refused
+numbered registers colours (Err TooLarge) d is picture few refused = absurd refused
 
 -- a fault of the second reading
-pub reading_refused : (registers : ℕ) (m : Mending) (bytes : List ℕ) (events : List Placed) (w h : ℕ)
+pub reading_refused : (registers : ℕ) {m : Mending} {bytes : List ℕ} {events : List Placed} {w h : ℕ}
     (fault : MendFault) → IsMeasured m bytes events w h → IsReadingFault bytes fault
     → Mends registers m bytes (Err fault)
-reading_refused registers m bytes events w h (Grammar f) d is = is
-reading_refused registers m bytes events w h OutOfMemory d is = (events, d.document, (w, h, d.size, d.sides))
-reading_refused registers m bytes events w h Empty d is = absurd is
-reading_refused registers m bytes events w h TooLarge d is = absurd is
-reading_refused registers m bytes events w h TooManyColours d is = absurd is
+reading_refused registers (Grammar f) d is = is
+reading_refused registers {events} {w} {h} OutOfMemory d is = (events, d.document, (w, h, d.size, d.sides))
+reading_refused registers Empty d is = absurd is
+reading_refused registers TooLarge d is = absurd is
+reading_refused registers TooManyColours d is = absurd is

@@ -227,8 +227,7 @@ found_next seen palette c d (inr h) = by (is_same d c) refl
 all_found_next : (seen : List Parts) (palette : List (Option Parts)) (c : Parts) (more : List Parts)
     → AllByRecursion (IsFound seen palette) more → AllByRecursion (IsFound (seen ++ c ∷ []) (without c palette)) more
 all_found_next seen palette c [] h = tt
-all_found_next seen palette c (d ∷ more) h =
-    (found_next seen palette c d h.0, all_found_next seen palette c more h.1)
+all_found_next seen palette c (d ∷ more) h = (found_next seen palette c d h.0, all_found_next seen palette c more h.1)
 
 few_step : (seen more : List Parts) (palette : List (Option Parts)) (c : Parts) (b : Bool)
     → list_any (is_same c) seen ≡ b → IsFound seen palette c
@@ -249,8 +248,7 @@ few_from seen (c ∷ more) palette h =
 
 -- if each colour has an entry in a palette, there are at most as many distinct colours as entries
 pub few_colours : (colours : List Parts) (palette : List (Option Parts))
-    → AllByRecursion (λ c. list_any (is_entry c) palette ≡ true) colours
-    → length (distinct colours) ≤ length palette
+    → AllByRecursion (λ c. list_any (is_entry c) palette ≡ true) colours → length (distinct colours) ≤ length palette
 few_colours colours palette h = rw zero-add at (few_from [] colours palette (found colours h))
   where
     found : (cs : List Parts) → AllByRecursion (λ c. list_any (is_entry c) palette ≡ true) cs
@@ -271,5 +269,4 @@ entry_there (o ∷ palette) (suc r) c h = or_right (is_entry c o) _ (entry_there
 pub each_by_index : {X : Type 0} (P : X → Type 0) (xs : List X) (d : X)
     → ((i : ℕ) → i < length xs → P (get_or xs i d)) → AllByRecursion P xs
 each_by_index P [] d h = tt
-each_by_index P (x ∷ xs) d h =
-    (h 0 (omega arith), each_by_index P xs d (λ i lt. h (suc i) (omega (arith, lt))))
+each_by_index P (x ∷ xs) d h = (h 0 (omega arith), each_by_index P xs d (λ i lt. h (suc i) (omega (arith, lt))))

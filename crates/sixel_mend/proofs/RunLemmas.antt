@@ -43,7 +43,7 @@ distinct_more pixels i pixel there =
     ap distinct (one_more pixels i pixel there) ∙ distinct-snoc (colours_to pixels i) (colour_in_ink pixel)
 
 -- the state after one more pixel
-pub pushed : (kept more : Colours) (registers : List ℕ) (pixels : List Ink) (i : ℕ) (pixel : Ink) (register : ℕ)
+pub pushed : {kept more : Colours} {registers : List ℕ} (pixels : List Ink) (i : ℕ) (pixel : Ink) (register : ℕ)
     → slice_get pixels i ≡ Some pixel
     → HoldsPixels kept None 0 registers (length pixels - i) (length pixels) (colours_to pixels i)
     → register
@@ -51,7 +51,7 @@ pub pushed : (kept more : Colours) (registers : List ℕ) (pixels : List Ink) (i
     → Fills more (with_colour (distinct (colours_to pixels i)) (colour_in_ink pixel))
     → HoldsPixels more None 0 (registers ++ register ∷ []) (length pixels - (i + 1)) (length pixels)
     (colours_to pixels (i + 1))
-pushed kept more registers pixels i pixel register there holds is fills =
+pushed {kept} {more} {registers} pixels i pixel register there holds is fills =
     let lt : i < length pixels = slice_get_within pixels i pixel there in
     let less : (length pixels - (i + 1)) + 1 ≡ length pixels - i = omega (arith, lt) in
     subst
@@ -67,36 +67,33 @@ pub record Repeats (kept : Colours) (last : Option Numbered) (pixels : List Ink)
   pub has : HasRegister (distinct (colours_to pixels i)) (colour_in_ink pixel) register
   pub knows : KnowsLast last (distinct (colours_to pixels i))
 
-once_more : (kept : Colours) (last : Option Numbered) (pixels : List Ink) (pixel : Ink) (register : ℕ)
-    (registers : List ℕ) (i : ℕ) → slice_get pixels i ≡ Some pixel
-    → Repeats kept last pixels pixel register registers i
+once_more : {kept : Colours} {last : Option Numbered} {pixels : List Ink} {pixel : Ink} {register : ℕ}
+    {registers : List ℕ} {i : ℕ} → slice_get pixels i ≡ Some pixel → Repeats kept last pixels pixel register registers i
     → Repeats kept last pixels pixel register (registers ++ register ∷ []) (i + 1)
-once_more kept last pixels pixel register registers i there before =
+once_more {last} {pixels} {pixel} {register} {i} there before =
     let seen = distinct (colours_to pixels i) in
-    let again = seen_again kept seen last pixel register before.has before.holds.fills before.knows in
+    let again = seen_again last pixel register before.has before.holds.fills before.knows in
     let same : distinct (colours_to pixels (i + 1)) ≡ seen =
     distinct_more pixels i pixel there ∙ seen_before seen (colour_in_ink pixel) before.has.0 in
     record {
-      holds = pushed kept kept registers pixels i pixel register there before.holds again.0 again.1;
+      holds = pushed pixels i pixel register there before.holds again.0 again.1;
       has = subst (λ (s : List Parts). HasRegister s (colour_in_ink pixel) register) (sym same) before.has;
       knows = subst (λ (s : List Parts). KnowsLast last s) (sym same) before.knows;
     }
 
 -- and after a run of it
-pub repeated : (kept : Colours) (last : Option Numbered) (pixels : List Ink) (pixel : Ink) (register : ℕ)
-    (registers : List ℕ) (i n end : ℕ) → end ≡ i + n → AreAll pixels i end pixel
+pub repeated : {kept : Colours} {last : Option Numbered} {pixels : List Ink} {pixel : Ink} {register : ℕ}
+    {registers : List ℕ} {i : ℕ} (n end : ℕ) → end ≡ i + n → AreAll pixels i end pixel
     → Repeats kept last pixels pixel register registers i
     → Repeats kept last pixels pixel register (registers ++ replicate n register) end
-repeated kept last pixels pixel register registers i zero end is all before =
+repeated {kept} {last} {pixels} {pixel} {register} {registers} {i} zero end is all before =
     let same : end ≡ i = omega (arith, is) in
     subst (λ (e : ℕ). Repeats kept last pixels pixel register (registers ++ replicate 0 register) e) (sym same)
     (subst (λ (rs : List ℕ). Repeats kept last pixels pixel register rs i) (sym (append-nil registers)) before)
-repeated kept last pixels pixel register registers i (suc n) end is all before =
+repeated {kept} {last} {pixels} {pixel} {register} {registers} {i} (suc n) end is all before =
     let less : end ≡ (i + n) + 1 = omega (arith, is) in
-    let first = repeated kept last pixels pixel register registers i n (i + n) refl
-    (λ k from to. all k from (omega (arith, to, less))) before in
-    let one = once_more kept last pixels pixel register (registers ++ replicate n register) (i + n)
-    (all (i + n) (omega arith) (omega (arith, less))) first in
+    let first = repeated n (i + n) refl (λ k from to. all k from (omega (arith, to, less))) before in
+    let one = once_more (all (i + n) (omega arith) (omega (arith, less))) first in
     let counted : n + 1 ≡ suc n = omega arith in
     let joined : (registers ++ replicate n register) ++ register ∷ [] ≡ registers ++ replicate (suc n) register =
     append_assoc registers (replicate n register) (register ∷ [])
@@ -108,12 +105,11 @@ repeated kept last pixels pixel register registers i (suc n) end is all before =
 -- ---- the run of the pixel before
 
 -- the pixel before an index has its register
-pub last_has : (kept : Colours) (registers : List ℕ) (pixels : List Ink) (i j : ℕ) (pixel : Ink) (register : ℕ) → j < i
-    → i ≤ length pixels
-    → HoldsPixels kept None 0 registers (length pixels - i) (length pixels) (colours_to pixels i)
+pub last_has : {kept : Colours} {registers : List ℕ} (pixels : List Ink) (i j : ℕ) (pixel : Ink) (register : ℕ) → j < i
+    → i ≤ length pixels → HoldsPixels kept None 0 registers (length pixels - i) (length pixels) (colours_to pixels i)
     → slice_get pixels j ≡ Some pixel → register ≡ get_or registers j 0
     → HasRegister (distinct (colours_to pixels i)) (colour_in_ink pixel) register
-last_has kept registers pixels i j pixel register low inside holds there read =
+last_has pixels i j pixel register low inside holds there read =
     let colours = colours_to pixels i in
     let seen = distinct colours in
     let long : length colours ≡ i = omega (arith, holds.whole, inside) in
@@ -124,13 +120,10 @@ last_has kept registers pixels i j pixel register low inside holds there read =
     same_Some (get_or pixels j pixel) pixel
     (sym (slice_get-get_or pixels j pixel (omega (arith, low, inside))) ∙ there) in
     let colour : get_or colours j d ≡ colour_in_ink pixel =
-    get_or-map colour_in_ink (take i pixels) j pixel d few
-    ∙ ap colour_in_ink (get_or-take i pixels j pixel low ∙ is) in
+    get_or-map colour_in_ink (take i pixels) j pixel d few ∙ ap colour_in_ink (get_or-take i pixels j pixel low ∙ is) in
     let any = seen_at seen colours j d holds.all_seen lt in (
       subst (λ (c : Parts). list_any (is_same c) seen ≡ true) colour any,
-      read
-          ∙ ap (λ (rs : List ℕ). get_or rs j 0) holds.numbered
-          ∙ get_or-map (register_among seen) colours j d 0 lt
+      read ∙ ap (λ (rs : List ℕ). get_or rs j 0) holds.numbered ∙ get_or-map (register_among seen) colours j d 0 lt
           ∙ ap (register_among seen) colour,
     )
 

@@ -1,10 +1,9 @@
 -- The mended picture: its parts, its text, and what it keeps.
-use Rattle.std.proofs.Common.{◌≡◌, ◌==◌, ◌≤◌, ◌<◌, ◌+◌, ◌*◌, ℕ, Bool, true, false, ◌&&◌, ◌||◌, Option, Some, None, List, []}
+use Rattle.std.proofs.Common.{◌≡◌, ◌==◌, ◌≤◌, ◌<◌, ◌+◌, ℕ, Bool, true, false, ◌&&◌, ◌||◌, Option, Some, None, List, []}
 use Rattle.std.proofs.Common.{◌∷◌, Ok, Err, length, max, refl, sym, ap, subst, ◌∙◌, arith}
 use Rattle.std.specs.Prelude.{nat_lt, if◌then◌else◌}
 use Rattle.std.specs.Option.{option_map_or}
 use Rattle.std.proofs.lemmas.Bool.{ltb-false}
-use Rattle.std.proofs.lemmas.Bool.Decides.{nat_tests}
 use Rattle.sixel_grammar.specs.declared.command.Event.{Event}
 use Rattle.sixel_grammar.specs.declared.command.Placed.{Placed}
 use Rattle.sixel_grammar.specs.Document.{events_of, most_bytes}
@@ -17,7 +16,6 @@ use Rattle.sixel_model.specs.Events.{Attributes}
 use Rattle.sixel_model.specs.Pictures.{IsPicture, PictureValue, is_side, most_side, register_of}
 use Rattle.sixel_model.specs.Profiles.{count_of}
 use Rattle.sixel_model.specs.Rules.{BreaksNone, last_rule, picture_left, raster_before}
-use Rattle.sixel_model.proofs.GridLemmas.{length_rows}
 use Rattle.sixel_model.proofs.PictureLemmas.{at_most_256}
 use Rattle.sixel_ppm.specs.PpmReading.{distinct, picture_of}
 use Rattle.sixel_terminal.specs.Drawing.{screen_on, shown_on}
@@ -31,6 +29,7 @@ use Rattle.sixel_mend.specs.declared.mending.MendFault.TheVariants.{Empty, TooLa
 use Rattle.sixel_mend.specs.declared.mending.Mending.{Mending}
 use Rattle.sixel_mend.specs.Screens.{mending_terminal}
 use Rattle.sixel_mend.specs.Mended.{mended, mended_colours}
+use Rattle.sixel_mend.proofs.MendLemmas.{sides_from, whole_screen}
 use Rattle.sixel_mend.proofs.NumberLemmas.{numbered_is_picture, pixel_found}
 use Rattle.sixel_mend.proofs.SizeLemmas.{touched_anywhere}
 use Rattle.sixel_mend_laws.specs.Laws.{MendedIsPortable, NothingIsLost}
@@ -45,10 +44,6 @@ pub record IsMended (registers : ℕ) (m : Mending) (events : List Event) (width
   pub sides : (is_side width && is_side height) ≡ true
   pub few : length (distinct (mended_colours m events width height)) ≤ registers
   pub is : p ≡ picture_of registers width height (mended_colours m events width height)
-
-sides_from : (width height : ℕ) → ((width == 0) || (height == 0)) ≡ false
-    → (nat_lt most_side width || nat_lt most_side height) ≡ false → (is_side width && is_side height) ≡ true
-sides_from width height some few = grind (arith, nat_tests)
 
 pub mended_is : (registers : ℕ) (m : Mending) (events : List Event) (width height : ℕ) (p : PictureValue)
     → Ok p ≡ mended registers m events width height → IsMended registers m events width height p
@@ -74,12 +69,6 @@ mended_is registers m events width height p h =
     }
 
 -- ---- the picture is one
-
-whole_screen : (m : Mending) (events : List Event) (width height : ℕ)
-    → length (mended_colours m events width height) ≡ width * height
-unfolding screen_on
-whole_screen m events width height =
-    length_rows width height (shown_on (mending_terminal m width height) events)
 
 pub mended_is_picture : (registers : ℕ) (m : Mending) (events : List Event) (width height : ℕ) (p : PictureValue)
     → IsColour m.background → IsMended registers m events width height p → IsPicture registers p

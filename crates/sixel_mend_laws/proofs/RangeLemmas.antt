@@ -3,7 +3,7 @@ use Rattle.std.proofs.Common.{◌≡◌, ℕ, zero, suc, Bool, true, false, Opti
 use Rattle.std.proofs.Common.{get_or, length, replicate, refl, take, arith}
 use Rattle.std.specs.Prelude.{◌%◌, ◌*◌, ◌+◌, slice_get, unwrap_or, if◌then◌else◌}
 use Rattle.std.specs.List.{AllByRecursion, list_all, range_with_len}
-use Rattle.std.specs.Option.{option_and_then, option_map, option_or}
+use Rattle.std.specs.Option.{option_and_then, option_map}
 use Rattle.std.proofs.lemmas.Bool.{and_parts, leb-true}
 use Rattle.sixel_grammar.specs.declared.command.Event.{Event}
 use Rattle.sixel_model.specs.declared.colour.Parts.{Parts}
@@ -15,6 +15,7 @@ use Rattle.sixel_model.specs.Positions.{at_position, last_at, last_below, latest
 use Rattle.sixel_model.proofs.KnownLemmas.{latest_each}
 use Rattle.sixel_terminal.specs.Drawing.{defined_on, given_on, inked_on, map_on, paints_in, screen_on, shown_on}
 use Rattle.sixel_terminal.specs.Drawing.{stood_on, taken_on}
+use Rattle.sixel_judge.proofs.OptionLemmas.{or_each}
 use Rattle.sixel_mend.specs.declared.mending.Mending.{Mending}
 use Rattle.sixel_mend.specs.Screens.{mending_terminal, starting_colour, starting_colours, vt340_colours}
 
@@ -34,15 +35,11 @@ unwrap_either : {A : Type 0} (P : A → Type 0) (o : Option A) (d : A) → IfSom
 unwrap_either P None d h k = k
 unwrap_either P (Some a) d h k = h
 
-or_either : {A : Type 0} (P : A → Type 0) (o p : Option A) → IfSome o P → IfSome p P → IfSome (option_or o p) P
-or_either P None p h k = k
-or_either P (Some a) p h k = h
-
 below_each : {A : Type 0} (P : A → Type 0) (n : ℕ) (f : ℕ → Option A) → ((i : ℕ) → IfSome (f i) P)
     → IfSome (last_below n f) P
 unfolding last_below
 below_each P zero f h = tt
-below_each P (suc n) f h = or_either P (f n) (last_below n f) (h n) (below_each P n f h)
+below_each P (suc n) f h = or_each P (f n) (last_below n f) (h n) (below_each P n f h)
 
 last_each : {X A : Type 0} (P : A → Type 0) (f : List X → X → Option A) (xs : List X)
     → ((before : List X) (x : X) → IfSome (f before x) P) → IfSome (last_at f xs) P

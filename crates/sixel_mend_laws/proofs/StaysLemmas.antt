@@ -1,11 +1,8 @@
 -- A portable picture stays as it is.
-use Rattle.std.proofs.Common.{◌≡◌, ◌==◌, ◌≤◌, ◌<◌, ◌+◌, ◌*◌, ◌/◌, ◌%◌, ℕ, true, false, ◌&&◌, ◌||◌, not, Option, Some}
-use Rattle.std.proofs.Common.{[], ◌∷◌, None, IfSome, List, nat_le, Ok, length, inl, inr, refl, sym, subst, ◌∙◌, arith}
-use Rattle.std.specs.Prelude.{nat_lt}
+use Rattle.std.proofs.Common.{◌≡◌, ◌≤◌, ◌<◌, ◌+◌, ◌*◌, ◌/◌, ◌%◌, ℕ, true, ◌&&◌, Option, Some}
+use Rattle.std.proofs.Common.{IfSome, List, nat_le, Ok, length, inl, inr, refl, sym, subst, ◌∙◌, arith}
 use Rattle.std.specs.List.{AllByRecursion, list_any}
-use Rattle.std.specs.Option.{option_map_or, option_or}
-use Rattle.std.proofs.lemmas.Bool.{and_parts, cases_lt, le-ltb, leb-true, not-false}
-use Rattle.std.proofs.lemmas.Bool.Decides.{nat_tests}
+use Rattle.std.proofs.lemmas.Bool.{and_parts, cases_lt, leb-true}
 use Rattle.std.proofs.lemmas.List.{length-replicate}
 use Rattle.std.proofs.lemmas.List.FromFn.{length-map-range_with_len}
 use Rattle.std.proofs.lemmas.Nat.{mod_below, row-Below}
@@ -18,8 +15,7 @@ use Rattle.sixel_model.specs.declared.rule.Rule.TheVariants.{Uncovered}
 use Rattle.sixel_model.specs.Colours.{is_entry, palette_at}
 use Rattle.sixel_model.specs.Events.{Attributes, has_sides, raster_of}
 use Rattle.sixel_model.specs.Grids.{row_by_row}
-use Rattle.sixel_model.specs.Pictures.{PictureValue, is_side, most_side, register_of}
-use Rattle.sixel_model.specs.Positions.{earliest}
+use Rattle.sixel_model.specs.Pictures.{PictureValue, is_side, register_of}
 use Rattle.sixel_model.specs.Profiles.{count_of}
 use Rattle.sixel_model.specs.Rules.{BreaksNone, breaks_box_size, colour_of, palette_left, picture_left, raster_before}
 use Rattle.sixel_model.specs.Rules.{last_rule}
@@ -32,12 +28,14 @@ use Rattle.sixel_terminal.specs.Displays.{HasRoom, IsInClass}
 use Rattle.sixel_terminal.specs.Drawing.{IsPainted, screen_on, shown_on}
 use Rattle.sixel_judge.specs.Portable.{IsInBoxOn, IsPortable, Shows}
 use Rattle.sixel_judge.proofs.CoverLemmas.{box_there}
+use Rattle.sixel_judge.proofs.DifferenceLemmas.{earliest_each, sides_if}
 use Rattle.sixel_judge.proofs.OptionLemmas.{some_value}
 use Rattle.sixel_judge.proofs.ShownLemmas.{left_is_portable, size_left}
 use Rattle.sixel_mend.specs.declared.mending.Mending.{Mending}
 use Rattle.sixel_mend.specs.Screens.{mending_terminal, starting_colour, starting_colours}
 use Rattle.sixel_mend.specs.Sizes.{Bounds, IsSize}
-use Rattle.sixel_mend.specs.Mended.{MendsEvents, mended, mended_colours}
+use Rattle.sixel_mend.specs.Mended.{MendsEvents, mended_colours}
+use Rattle.sixel_mend.proofs.MendLemmas.{is_mended}
 use Rattle.sixel_mend.proofs.NumberLemmas.{each_by_index, entry_there, few_colours}
 use Rattle.sixel_mend.proofs.SizeLemmas.{has_extent}
 use Rattle.sixel_mend_laws.specs.Laws.{LookTheSame, PortableStays}
@@ -45,21 +43,6 @@ use Rattle.sixel_mend_laws.proofs.MendedLemmas.{IsMended, mended_shows}
 use Rattle.sixel_mend_laws.proofs.TouchedLemmas.{touched_is_painted}
 
 -- ---- the declared size
-
-or_each : {A : Type 0} (P : A → Type 0) (o p : Option A) → IfSome o P → IfSome p P → IfSome (option_or o p) P
-or_each P None p h k = k
-or_each P (Some a) p h k = h
-
-earliest_each : {X A : Type 0} (f : X → Option A) (P : A → Type 0) (xs : List X)
-    → AllByRecursion (λ x. IfSome (f x) P) xs → IfSome (earliest f xs) P
-unfolding earliest
-earliest_each f P [] h = tt
-earliest_each f P (x ∷ xs) h = or_each P (f x) (earliest f xs) h.0 (earliest_each f P xs h.1)
-
-sides_if : (o : Option Attributes) → option_map_or (λ a. not (has_sides a)) o false ≡ false
-    → IfSome o (λ a. has_sides a ≡ true)
-sides_if None h = tt
-sides_if (Some a) h = not-false _ h
 
 earliest_sides : (n : ℕ) (events : List Event) (a : Attributes) → BreaksNone n Uncovered events
     → raster_before events ≡ Some a → has_sides a ≡ true
@@ -140,17 +123,6 @@ length_left n events = length-map-range_with_len (colour_of events) 0 n
 
 -- ---- the picture
 
-mended_of : (registers : ℕ) (m : Mending) (events : List Event) (w h : ℕ) → (is_side w && is_side h) ≡ true
-    → length (distinct (mended_colours m events w h)) ≤ registers
-    → Ok (picture_of registers w h (mended_colours m events w h)) ≡ mended registers m events w h
-unfolding mended
-mended_of registers m events w h sides few =
-    let some : ((w == 0) || (h == 0)) ≡ false = grind (arith, nat_tests) in
-    let small : (nat_lt most_side w || nat_lt most_side h) ≡ false = grind (arith, nat_tests) in
-    let enough : nat_lt registers (length (distinct (mended_colours m events w h))) ≡ false =
-    le-ltb registers (length (distinct (mended_colours m events w h))) few in
-    rw (some, small, enough) refl
-
 -- the parts of the proof, for the picture that the events leave
 record Left (registers : ℕ) (m : Mending) (events : List Event) (w h : ℕ) : Type 0 where
   pub width : (picture_left registers events).width ≡ w
@@ -216,7 +188,7 @@ stays_in profile m events w h l =
     in
     let is : IsMended n m events w h p = record { sides = l.sides; few = few; is = refl } in (
       p,
-      (w, h, l.size, mended_of n m events w h l.sides few),
+      (w, h, l.size, is_mended n m events w h l.sides few),
       record {
         width = sym l.width;
         height = sym l.height;

@@ -6,7 +6,6 @@ pub mod PositionLemmas
 pub mod StepLemmas
 pub mod KnownLemmas
 pub mod LatestLemmas
-pub mod AppendLemmas
 pub mod RuleLemmas
 mod WorkedRules
 pub mod LeftLemmas

@@ -5,10 +5,7 @@ use Rattle.std.specs.List.{list_any}
 use Rattle.std.proofs.lemmas.Bool.{ltb-false}
 use Rattle.std.proofs.lemmas.List.Folds.{list_any-append}
 use Rattle.std.proofs.lemmas.List.Sums.{sum_by-append, sum_by-cons}
-use Rattle.sixel_program.specs.Files.{is_dash, names_input_twice}
-use Rattle.sixel_program.specs.Findings.{task_of}
-use Rattle.sixel_program.specs.declared.findings.FilesTask.{FilesTask}
-use Rattle.sixel_program.specs.declared.findings.FilesTask.TheVariants as files
+use Rattle.sixel_program.specs.Files.{is_dash}
 use Rattle.sixel_run.specs.Texts.{Text}
 
 -- neither of two is true
@@ -53,11 +50,3 @@ first_dash names name more once dash =
     (sum_by-append (λ (n : Text). cond (is_dash n) 1 0) names (name ∷ [])) in
     let one : count_by is_dash (name ∷ []) ≡ 1 = ap (λ (b : Bool). 0 + cond b 1 0) dash in
     none_counted names (omega (arith, all, one, ltb-false 1 (count_by is_dash ((names ++ name ∷ []) ++ more)) once))
-
--- a task over any number of files reads all that are named
-pub once_among : (f : FilesTask) (names : List Text) → names_input_twice (task_of f) names ≡ false
-    → nat_lt 1 (count_by is_dash names) ≡ false
-once_among f [] once = refl
-once_among (files.Check profile) (name ∷ more) once = once
-once_among (files.Survey profile) (name ∷ more) once = once
-once_among (files.Scan profile eight) (name ∷ more) once = once

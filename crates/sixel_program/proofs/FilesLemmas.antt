@@ -14,7 +14,7 @@ use Rattle.std.proofs.lemmas.List.Elements.{All-cons, All-head, All-nil, All-pus
 use Rattle.std.proofs.lemmas.Grind.{flat_map-append}
 use Rattle.std.proofs.lemmas.List.{map-append}
 use Rattle.std.proofs.lemmas.List.Sums.{fold_push}
-use Rattle.sixel_io.specs.Devices.{Change, ReadsToEnd, SinkState, SourceState, change, one_more}
+use Rattle.sixel_io.specs.Devices.{Change, SinkState, SourceState, change, one_more}
 use Rattle.sixel_io.proofs.SinkLemmas.{Appends-keeps, Appends-none}
 use Rattle.sixel_io.proofs.DeviceLemmas.{Appends-then}
 use Rattle.sixel_grammar.specs.Faults.{NothingYet}
@@ -36,12 +36,10 @@ use Rattle.sixel_run.specs.declared.task.Task.TheVariants as task
 use Rattle.sixel_run.specs.declared.task.Task.TheVariants.{Check}
 use Rattle.sixel_program.specs.Exits.{IsPut, RunEnds, complaint, exit_for_answer}
 use Rattle.sixel_program.specs.declared.formats.Format.{Format}
-use Rattle.sixel_program.specs.Formats.{IsFormat, advice_for, advice_on, format_of}
+use Rattle.sixel_program.specs.Formats.{IsFormat, advice_for, advice_on}
 use Rattle.sixel_program.specs.Files.{AreChecked, AreDone, ArePut, AreCut, FileEnd, IsChecked, IsFileEnd, IsFileOpening}
-use Rattle.sixel_program.specs.Files.{IsLine, file_text}
-use Rattle.sixel_program.specs.Findings.{task_of}
-use Rattle.sixel_program.specs.declared.findings.FilesTask.{FilesTask}
-use Rattle.sixel_program.specs.declared.findings.FilesTask.TheVariants as files
+use Rattle.sixel_program.specs.Files.{file_text}
+use Rattle.sixel_run.specs.LineTasks.{ReadsOver, has_lines}
 use Rattle.sixel_program.specs.Files.{FileEnds, IsRead, SaysOfCheck, is_dash, complaints_of}
 use Rattle.sixel_program.specs.Files.{SaysOfFile, exit_of_end, first_broken, files_exit, files_text}
 use Rattle.sixel_program.specs.Files.{worst}
@@ -52,7 +50,7 @@ use Rattle.sixel_program.specs.Names.{named_fault_line, unopened_line}
 use Rattle.sixel_program.specs.Openings.{CountsOf, FailsWith, FolderView, IsOpening, bytes_of}
 use Rattle.sixel_program.specs.declared.folder.Unopened.{Unopened}
 use Rattle.sixel_run.specs.Outputs.{TakesMemory, Wrote, failures_by}
-use Rattle.sixel_run.specs.Texts.{BeginsWith, Text, fault_line, fault_parts}
+use Rattle.sixel_run.specs.Texts.{IsLine, Text, fault_line}
 use Rattle.sixel_program.proofs.DashLemmas.{or_false}
 use Rattle.sixel_program.proofs.EndLemmas.{kept}
 
@@ -282,52 +280,27 @@ memory_kept (task.Show profile showing fill selects width height) told has same 
 memory_kept (task.ShowBox profile showing fill selects) told has same takes = kept _ told has same takes
 memory_kept (task.Mend profile background showing selects) told has same takes = kept _ told has same takes
 
-pub format_kept : (format : Option Format) (told has : Option (List ℕ)) → Keeps told has → IsFormat has format
-    → IsFormat told format
-format_kept format told has same is =
-    kept (λ (bytes : List ℕ). (prefix : List ℕ) × BeginsWith bytes prefix × (format ≡ format_of prefix)) told has same
-    is
-
 -- what was read of a source was read of the bytes that the source was made from
-pub read_kept : {A E : Type 0} (answer : Result A E) (told has left : Option (List ℕ)) → Keeps told has
-    → ReadsToEnd answer has left → ReadsToEnd answer told left
-read_kept answer told has left same reads = record {
-  read = (reads.read.0, consumed reads.read.0 told has left same reads.read.1);
-  ended = reads.ended;
+consumed_kept : (bytes : List ℕ) (told has left : Option (List ℕ)) → Keeps told has → Consumes has left bytes
+    → Consumes told left bytes
+consumed_kept bytes None has left same all = tt
+consumed_kept bytes (Some had) None left same all = absurd same
+consumed_kept bytes (Some had) (Some more) None same all = absurd all
+consumed_kept bytes (Some had) (Some more) (Some rest) same all = let is : more ≡ had = same in sym is ∙ all
+
+pub over_kept : (t : Task) (answer : Result Status RunFault) (told has left : Option (List ℕ)) → Keeps told has
+    → ReadsOver t answer has left → ReadsOver t answer told left
+over_kept t answer told has left same over = record {
+  bytes = over.bytes;
+  read = consumed_kept over.bytes told has left same over.read;
+  ended = over.ended;
 }
-  where
-    consumed : (bytes : List ℕ) (told has left : Option (List ℕ)) → Keeps told has → Consumes has left bytes
-        → Consumes told left bytes
-    consumed bytes None has left same all = tt
-    consumed bytes (Some had) None left same all = absurd same
-    consumed bytes (Some had) (Some more) None same all = absurd all
-    consumed bytes (Some had) (Some more) (Some rest) same all = let is : more ≡ had = same in sym is ∙ all
 
 pub wrote_kept : (t : Task) (told has left : Option (List ℕ)) (answer : Result Status RunFault)
     (was is : Option (List ℕ)) → Keeps told has → IfSome has (λ bytes. Wrote t bytes left answer was is)
     → IfSome told (λ bytes. Wrote t bytes left answer was is)
 wrote_kept t told has left answer was is same =
     kept (λ (bytes : List ℕ). Wrote t bytes left answer was is) told has same
-
--- a run over a source is one over the bytes that the source was made from
-pub run_kept : (t : Task) (h : Bool) (name : Option Text) (x : Exit) (told : Option (List ℕ))
-    (i : Change SourceState) (o e : Change SinkState) → Keeps told i.old.remaining → RunEnds t h name x i o e
-    → RunEnds t h name x (change (record { remaining = told; failures = i.old.failures }) i.new) o e
-run_kept t h name x told i o e same ended = record {
-  answer = ended.answer;
-  format = ended.format;
-  is_format = format_kept ended.format told i.old.remaining same ended.is_format;
-  wrote = kept (λ (bytes : List ℕ). Wrote t bytes i.new.remaining ended.answer o.old.taken o.new.taken) told
-      i.old.remaining same ended.wrote;
-  memory = λ is. memory_kept t told i.old.remaining same (ended.memory is);
-  read = ended.read;
-  written = ended.written;
-  flushed = ended.flushed;
-  ends = ended.ends;
-  between = ended.between;
-  said = ended.said;
-  hinted = ended.hinted;
-}
 
 -- without lines there is no text
 pub no_text : (is_quiet : Bool) (name : Text) → file_text is_quiet name [] ≡ []
@@ -348,8 +321,8 @@ none_given_yet : (bytes : List ℕ) → NoFaultBefore (Some bytes) bytes
 none_given_yet bytes = ([], refl, omega arith, ([], complete NothingYet none_yet))
 
 -- a file that couldn't be opened
-pub unopened : (f : FilesTask) (name : Text) (reason : Unopened) (told : Option (List ℕ))
-    → IsFileEnd (task_of f) (record {
+pub unopened : (t : Task) → has_lines t ≡ true → (name : Text) (reason : Unopened) (told : Option (List ℕ))
+    → IsFileEnd t (record {
       name = name;
       unopened = Some reason;
       told = told;
@@ -358,8 +331,8 @@ pub unopened : (f : FilesTask) (name : Text) (reason : Unopened) (told : Option 
       lines = [];
       answer = Err run.Read;
     })
-unopened f name reason told = record {
-  wrote = nothing f told;
+unopened t has name reason told = record {
+  wrote = nothing t has told;
   are_lines = All-nil IsLine;
   memory = λ is. cc;
   refused = λ found fault is. refl;
@@ -368,17 +341,13 @@ unopened f name reason told = record {
   is_format = no_format told;
 }
   where
-    nothing : (f : FilesTask) (told : Option (List ℕ))
-        → IfSome told (λ bytes. Wrote (task_of f) bytes told (Err run.Read) (Some []) (Some []))
-    nothing f None = tt
-    nothing (files.Check profile) (Some bytes) = (none_given_yet bytes, refl)
-    nothing (files.Survey profile) (Some bytes) = (none_given_yet bytes, refl)
-    nothing (files.Scan profile eight) (Some bytes) = ([], none_given eight (count_of profile) bytes, refl)
-
--- behind the name
-pub named_tail : (fault : RunFault)
-    → drop 6 (fault_line fault) ≡ flat_map (λ part. 32 ∷ part) (fault_parts fault) ++ 10 ∷ []
-named_tail fault = refl
+    nothing : (t : Task) → has_lines t ≡ true → (told : Option (List ℕ))
+        → IfSome told (λ bytes. Wrote t bytes told (Err run.Read) (Some []) (Some []))
+    nothing t has None = tt
+    nothing (task.Check profile) has (Some bytes) = (none_given_yet bytes, refl)
+    nothing (task.Survey profile) has (Some bytes) = (none_given_yet bytes, refl)
+    nothing (task.Scan profile eight) has (Some bytes) = ([], none_given eight (count_of profile) bytes, refl)
+    nothing _ has (Some bytes) = absurd (let no : false ≡ true = has in cc)
 
 -- ---- when all files are checked
 

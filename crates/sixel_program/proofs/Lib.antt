@@ -4,8 +4,6 @@ pub mod PutLemmas
 pub mod EndLemmas
 pub mod DashLemmas
 pub mod FilesLemmas
-pub mod FindingLemmas
-pub mod ScanLemmas
 pub mod NamedLemmas
 pub mod EntryLemmas
 pub mod StringLineLemmas

@@ -19,10 +19,7 @@ use Rattle.sixel_program.specs.Files.{FileEnds, FilesEnd, RequestEnds}
 use Rattle.sixel_program.specs.Files.{exit_of_end}
 use Rattle.sixel_program.specs.Files.{names_read}
 use Rattle.sixel_program.specs.Files.{told_of, worse}
-use Rattle.sixel_program.specs.Findings.{task_of}
 use Rattle.sixel_program.specs.Openings.{FolderView, bytes_of}
-use Rattle.sixel_program.specs.declared.findings.FilesTask.{FilesTask}
-use Rattle.sixel_program.specs.declared.findings.FilesTask.TheVariants as files
 use Rattle.sixel_run.specs.Outputs.{Wrote}
 use Rattle.sixel_run.specs.Texts.{Text}
 
@@ -56,8 +53,7 @@ module _ {O : Type 0} (folder : FolderView O) (x : Exit) (i : Change SourceState
   HasRead t q h names =
       ((name : Text) × (names_read t names ≡ name ∷ [])
       × IsRunOver t x (told_of (bytes_of folder.opening) i.old.remaining name))
-      ⊎ ((f : FilesTask) × (r : Bool) × (t ≡ task_of f) × (names_read t names ≡ names)
-      × FilesEnd (task_of f) r h folder names x i o e)
+      ⊎ ((r : Bool) × (names_read t names ≡ names) × FilesEnd t r h folder names x i o e)
 
   pub request_read : (t : Task) (q h : Bool) (names : List Text)
       → RequestEnds t q h names folder x i o e → HasRead t q h names
@@ -78,15 +74,13 @@ module _ {O : Type 0} (folder : FolderView O) (x : Exit) (i : Change SourceState
       )
   request_read (task.Check profile) false h [] ended =
       inl (codes "-", refl, run_ends (Check profile) h None x i o e ended)
-  request_read (task.Check profile) q h (name ∷ more) ended = inr (files.Check profile, q, refl, refl, ended)
+  request_read (task.Check profile) q h (name ∷ more) ended = inr (q, refl, ended)
   request_read (task.Survey profile) q h [] ended =
       inl (codes "-", refl, run_ends (task.Survey profile) h None x i o e ended)
-  request_read (task.Survey profile) q h (name ∷ more) ended =
-      inr (files.Survey profile, false, refl, refl, ended)
+  request_read (task.Survey profile) q h (name ∷ more) ended = inr (false, refl, ended)
   request_read (task.Scan profile eight) q h [] ended =
       inl (codes "-", refl, run_ends (task.Scan profile eight) h None x i o e ended)
-  request_read (task.Scan profile eight) q h (name ∷ more) ended =
-      inr (files.Scan profile eight, false, refl, refl, ended)
+  request_read (task.Scan profile eight) q h (name ∷ more) ended = inr (false, refl, ended)
   request_read task.List q h [] ended =
       inl (codes "-", refl, run_ends task.List h None x i o e ended)
   request_read task.List q h (name ∷ more) ended =
@@ -146,5 +140,5 @@ pub request_no_usage : (t : Task) (q h : Bool) (names : List Text) {O : Type 0} 
 request_no_usage t q h names folder x i o e ended is =
     elim (request_read folder x i o e t q h names ended) [
       | inl one ↦ answer_no_usage one.2.0 (sym one.2.1 ∙ is)
-      | inr checked ↦ files_no_usage (task_of checked.0) checked.1 h folder names x i o e checked.4 is
+      | inr checked ↦ files_no_usage t checked.0 h folder names x i o e checked.2 is
     ]

@@ -19,14 +19,13 @@ use Rattle.sixel_run.specs.declared.task.Status.{Status}
 use Rattle.sixel_program.specs.Exits.{IsPut, exit_code, exit_for_answer}
 use Rattle.sixel_program.specs.Files.{ArePut, FileEnd, IsFileEnd, IsSaid, exit_of_end, file_text, files_exit}
 use Rattle.sixel_program.proofs.FilesLemmas.{no_text}
-use Rattle.sixel_program.specs.Files.{files_text, scans, worse}
-use Rattle.sixel_program.specs.Findings.{task_of}
-use Rattle.sixel_program.specs.declared.findings.FilesTask.{FilesTask}
-use Rattle.sixel_program.specs.declared.findings.FilesTask.TheVariants as files
+use Rattle.sixel_program.specs.Files.{files_text, worse}
+use Rattle.sixel_run.specs.LineTasks.{has_lines, scans}
 use Rattle.sixel_run.proofs.StringLemmas.{not_a_fault}
 use Rattle.sixel_run.specs.Outputs.{Gives, ScanGives, ScansBefore, ScansUnread, Wrote, WroteWith}
 use Rattle.sixel_run.specs.Scanned.{Finds, scan_text}
-use Rattle.sixel_run.specs.declared.task.Task.TheVariants.{Scan}
+use Rattle.sixel_run.specs.declared.task.Task.{Task}
+use Rattle.sixel_run.specs.declared.task.Task.TheVariants.{Check, Scan, Survey}
 use Rattle.sixel_scan.specs.declared.answer.Scanned.{Scanned}
 use Rattle.sixel_model.specs.Profiles.{count_of}
 use Rattle.sixel_model.specs.declared.profile.Profile.{Profile}
@@ -146,9 +145,9 @@ said_whole texts sink are =
 -- ---- the line of one
 
 -- a file that a check or a survey refuses has no text
-pub refused : (f : FilesTask) (is_quiet : Bool) (e : FileEnd) (fault : RunFault) → IsFileEnd (task_of f) e
-    → scans (task_of f) ≡ false → e.answer ≡ Err fault → files_text is_quiet (e ∷ []) ≡ []
-refused f is_quiet e fault is found answer =
+pub refused : (t : Task) (is_quiet : Bool) (e : FileEnd) (fault : RunFault) → IsFileEnd t e
+    → scans t ≡ false → e.answer ≡ Err fault → files_text is_quiet (e ∷ []) ≡ []
+refused t is_quiet e fault is found answer =
     append-nil (file_text is_quiet e.name e.lines)
     ∙ ap (file_text is_quiet e.name) (is.refused found fault answer) ∙ no_text is_quiet e.name
 
@@ -156,26 +155,27 @@ pub quiet : (ends : List FileEnd) → files_text true ends ≡ []
 quiet [] = refl
 quiet (e ∷ ends) = quiet ends
 
-refuses : (f : FilesTask) (bytes text : Text) (fault : Fault) → Gives (task_of f) bytes text (Err (run.Grammar fault))
-    → Gives (task_of f) bytes [] (Err (run.Grammar fault))
-refuses (files.Check profile) bytes text fault gives = (refl, gives.1)
-refuses (files.Survey profile) bytes text fault gives = (refl, gives.1)
-refuses (files.Scan profile eight) bytes text fault gives = absurd (not_a_fault gives.0 fault gives.3)
+refuses : (t : Task) (bytes text : Text) (fault : Fault) → has_lines t ≡ true
+    → Gives t bytes text (Err (run.Grammar fault)) → Gives t bytes [] (Err (run.Grammar fault))
+refuses (Check profile) bytes text fault has gives = (refl, gives.1)
+refuses (Survey profile) bytes text fault has gives = (refl, gives.1)
+refuses (Scan profile eight) bytes text fault has gives = absurd (not_a_fault gives.0 fault gives.3)
+refuses _ bytes text fault has gives = absurd (let no : false ≡ true = has in cc)
 
-pub faulty : (f : FilesTask) (e : FileEnd) (bytes : List ℕ) (fault : Fault) → IsFileEnd (task_of f) e
+pub faulty : (t : Task) (e : FileEnd) (bytes : List ℕ) (fault : Fault) → has_lines t ≡ true → IsFileEnd t e
     → e.told ≡ Some bytes → e.answer ≡ Err (run.Grammar fault)
-    → Gives (task_of f) bytes [] (Err (run.Grammar fault))
-faulty f e bytes fault is told answer =
-    let wrote : Wrote (task_of f) bytes e.left (Err (run.Grammar fault)) (Some []) (Some (concat e.lines)) =
+    → Gives t bytes [] (Err (run.Grammar fault))
+faulty t e bytes fault has is told answer =
+    let wrote : Wrote t bytes e.left (Err (run.Grammar fault)) (Some []) (Some (concat e.lines)) =
     rw (told, answer) at is.wrote in
-    refuses f bytes wrote.0 fault wrote.1
+    refuses t bytes wrote.0 fault has wrote.1
 
-pub alone : (f : FilesTask) (e : FileEnd) (bytes : List ℕ) (status : Status) → IsFileEnd (task_of f) e
-    → e.told ≡ Some bytes → e.answer ≡ Ok status → Gives (task_of f) bytes (concat e.lines) (Ok status)
-alone f e bytes status is told answer =
-    let wrote : Wrote (task_of f) bytes e.left (Ok status) (Some []) (Some (concat e.lines)) = rw
-    (told, answer) at is.wrote in
-    subst (λ (text : Text). Gives (task_of f) bytes text (Ok status)) (sym wrote.2) wrote.1
+pub alone : (t : Task) (e : FileEnd) (bytes : List ℕ) (status : Status) → IsFileEnd t e
+    → e.told ≡ Some bytes → e.answer ≡ Ok status → Gives t bytes (concat e.lines) (Ok status)
+alone t e bytes status is told answer =
+    let wrote : Wrote t bytes e.left (Ok status) (Some []) (Some (concat e.lines)) =
+    rw (told, answer) at is.wrote in
+    subst (λ (text : Text). Gives t bytes text (Ok status)) (sym wrote.2) wrote.1
 
 -- the lines of a scan that wasn't done are those of the strings that it found
 scan_found : (eight : Bool) (registers : ℕ) (bytes : List ℕ) (left : Option (List ℕ)) (fault : RunFault) (lines : Text)

@@ -17,9 +17,7 @@ use Rattle.sixel_program.specs.Files.{FileEnd, FilesEnd, IsBrokenOver, IsDoneOve
 use Rattle.sixel_program.specs.Files.{IsRead, RequestEnds, exit_of_end, files_exit}
 use Rattle.sixel_program.specs.Files.{names_of, names_read}
 use Rattle.sixel_program.specs.Files.{told_of}
-use Rattle.sixel_program.specs.Findings.{task_of}
 use Rattle.sixel_program.specs.Openings.{FolderView, bytes_of}
-use Rattle.sixel_program.specs.declared.findings.FilesTask.{FilesTask}
 use Rattle.sixel_run.specs.Texts.{Text}
 use Rattle.sixel_program.proofs.EndLemmas.{broken_gives, done_gives}
 use Rattle.sixel_program.proofs.RequestLemmas.{request_read}
@@ -93,34 +91,34 @@ one_broken : (ends : List FileEnd) → files_exit ends ≡ exit.Broken → Conta
 one_broken [] is = let no : exit.Done ≡ exit.Broken = is in cc
 one_broken (e ∷ more) is = subst (Contains (map exit_of_end (e ∷ more))) is (reached e more)
 
-module _ (f : FilesTask) (q h : Bool) {O : Type 0} (folder : FolderView O) (names : List Text) (x : Exit)
+module _ (t : Task) (q h : Bool) {O : Type 0} (folder : FolderView O) (names : List Text) (x : Exit)
     (i : Change SourceState) (o e : Change SinkState) where
-  files_done : FilesEnd (task_of f) q h folder names x i o e → x ≡ exit.Done
-      → All (λ name. IsDoneOver (task_of f) (told_of (bytes_of folder.opening) i.old.remaining name)) names
+  files_done : FilesEnd t q h folder names x i o e → x ≡ exit.Done
+      → All (λ name. IsDoneOver t (told_of (bytes_of folder.opening) i.old.remaining name)) names
   files_done (inl done) is =
       let are = done.checked in
-      subst (All (λ name. IsDoneOver (task_of f) (told_of (bytes_of folder.opening) i.old.remaining name)))
+      subst (All (λ name. IsDoneOver t (told_of (bytes_of folder.opening) i.old.remaining name)))
       (sym are.names_are)
-      (told_each (IsDoneOver (task_of f)) (bytes_of folder.opening) i done.ends are.read (each_done (task_of f) done.ends are.each (sym are.exits ∙ is)))
+      (told_each (IsDoneOver t) (bytes_of folder.opening) i done.ends are.read (each_done t done.ends are.each (sym are.exits ∙ is)))
   files_done (inr cut) is = let no : exit.Refused ≡ exit.Done = sym cut.exits ∙ is in cc
 
-  files_judged : FilesEnd (task_of f) q h folder names x i o e → x ≡ exit.Broken
-      → All (λ name. IsJudgedOver (task_of f) (told_of (bytes_of folder.opening) i.old.remaining name)) names
+  files_judged : FilesEnd t q h folder names x i o e → x ≡ exit.Broken
+      → All (λ name. IsJudgedOver t (told_of (bytes_of folder.opening) i.old.remaining name)) names
   files_judged (inl done) is =
       let are = done.checked in
-      subst (All (λ name. IsJudgedOver (task_of f) (told_of (bytes_of folder.opening) i.old.remaining name)))
+      subst (All (λ name. IsJudgedOver t (told_of (bytes_of folder.opening) i.old.remaining name)))
       (sym are.names_are)
-      (told_each (IsJudgedOver (task_of f)) (bytes_of folder.opening) i done.ends are.read (each_judged (task_of f) done.ends are.each (sym are.exits ∙ is)))
+      (told_each (IsJudgedOver t) (bytes_of folder.opening) i done.ends are.read (each_judged t done.ends are.each (sym are.exits ∙ is)))
   files_judged (inr cut) is = let no : exit.Refused ≡ exit.Broken = sym cut.exits ∙ is in cc
 
-  files_broken : FilesEnd (task_of f) q h folder names x i o e → x ≡ exit.Broken
+  files_broken : FilesEnd t q h folder names x i o e → x ≡ exit.Broken
       → (name : Text) × Contains names name
-      × IsBrokenOver (task_of f) (told_of (bytes_of folder.opening) i.old.remaining name)
+      × IsBrokenOver t (told_of (bytes_of folder.opening) i.old.remaining name)
   files_broken (inl done) is =
       let are = done.checked in
       subst (λ (ns : List Text). (name : Text) × Contains ns name
-      × IsBrokenOver (task_of f) (told_of (bytes_of folder.opening) i.old.remaining name)) (sym are.names_are)
-      (told_broken (task_of f) (bytes_of folder.opening) i done.ends are.read are.each
+      × IsBrokenOver t (told_of (bytes_of folder.opening) i.old.remaining name)) (sym are.names_are)
+      (told_broken t (bytes_of folder.opening) i done.ends are.read are.each
       (one_broken done.ends (sym are.exits ∙ is)))
   files_broken (inr cut) is = let no : exit.Refused ≡ exit.Broken = sym cut.exits ∙ is in cc
 
@@ -143,7 +141,7 @@ module _ (t : Task) (q h : Bool) (names : List Text) {O : Type 0} (folder : Fold
         rw one.1 (all_of_one (IsDoneOver t) one.0
         (done_gives t _ run.0 one.2.0 run.1 run.2 run.3 (sym one.2.1 ∙ is)))
     | inr checked ↦
-        rw (checked.3, checked.2) (files_done checked.0 checked.1 h folder names x i o e checked.4 is)
+        rw checked.1 (files_done t checked.0 h folder names x i o e checked.2 is)
   ]
 
   pub all_read_judged : x ≡ exit.Broken
@@ -155,7 +153,7 @@ module _ (t : Task) (q h : Bool) (names : List Text) {O : Type 0} (folder : Fold
         rw one.1 (all_of_one (IsJudgedOver t) one.0
         (judged_gives t _ run.0 one.2.0 run.1 run.2 run.3 (rw ends (omega arith))))
     | inr checked ↦
-        rw (checked.3, checked.2) (files_judged checked.0 checked.1 h folder names x i o e checked.4 is)
+        rw checked.1 (files_judged t checked.0 h folder names x i o e checked.2 is)
   ]
 
   pub one_read_broken : x ≡ exit.Broken → (name : Text)
@@ -168,5 +166,5 @@ module _ (t : Task) (q h : Bool) (names : List Text) {O : Type 0} (folder : Fold
           broken_gives t _ run.0 one.2.0 run.1 run.2 run.3 (sym one.2.1 ∙ is),
         )
     | inr checked ↦
-        rw (checked.3, checked.2) (files_broken checked.0 checked.1 h folder names x i o e checked.4 is)
+        rw checked.1 (files_broken t checked.0 h folder names x i o e checked.2 is)
   ]

@@ -1,8 +1,8 @@
 -- How requests end: over standard input or files, quiet or not.
 use Rattle.std.specs.Prelude.{◌≡◌, ◌≢◌, ◌⊎◌, ◌-◌, ◌^◌, ◌<◌, ◌&&◌, ◌||◌, ◌∷◌, ◌++◌, ℕ, Bool, not, true, false, List, []}
 use Rattle.std.specs.Prelude.{Option, Some, None, IfSome, Result, Ok, Err, codes, flat_map, fold, map, take, nat_lt}
-use Rattle.std.specs.Prelude.{◌≤◌, OnOk, count_by, length, nat_eq, option_to_list, if◌then◌else◌, ⊤}
-use Rattle.std.specs.Io.KnownBytes.{Appends, Consumes, IsAtEnd}
+use Rattle.std.specs.Prelude.{◌≤◌, OnOk, count_by, length, option_to_list, if◌then◌else◌, ⊤}
+use Rattle.std.specs.Io.KnownBytes.{Appends}
 use Rattle.std.specs.List.{All, concat, list_any}
 use Rattle.std.specs.Str.{bytes_eq}
 use Rattle.sixel_io.specs.Devices.{Change, ReadsToEnd, SinkState, SourceState, change, one_more}
@@ -11,7 +11,7 @@ use Rattle.sixel_model.specs.declared.rule.Rule.{Rule}
 use Rattle.sixel_program.specs.declared.exit.Exit.{Exit}
 use Rattle.sixel_program.specs.declared.folder.Unopened.{Unopened}
 use Rattle.sixel_program.specs.declared.exit.Exit.TheVariants.{Done, Refused}
-use Rattle.sixel_scan.specs.Scans.{IsOver, longest_stream}
+use Rattle.sixel_scan.specs.Scans.{longest_stream}
 use Rattle.sixel_run.specs.declared.fault.RunFault.{RunFault}
 use Rattle.sixel_run.specs.declared.fault.RunFault.TheVariants as run
 use Rattle.sixel_run.specs.declared.task.Status.{Status}
@@ -22,11 +22,12 @@ use Rattle.sixel_program.specs.declared.formats.Format.{Format}
 use Rattle.sixel_program.specs.declared.terminals.Terminals.{Terminals}
 use Rattle.sixel_program.specs.Formats.{IsFormat, advice_for, advice_on}
 use Rattle.sixel_program.specs.Exits.{IsPut, RunEnds, complaint, exit_code, exit_for_answer, fault_said}
+use Rattle.sixel_run.specs.LineTasks.{ReadsOver, scans}
 use Rattle.sixel_run.specs.Outputs.{Gives, TakesMemory, Wrote, failures_by}
 use Rattle.sixel_program.specs.Hints.{first_rule, hint_of}
 use Rattle.sixel_program.specs.Names.{named, named_fault_line, unopened_line}
 use Rattle.sixel_program.specs.Openings.{CountsOf, FailsWith, FolderView, IsOpening, Told, bytes_of}
-use Rattle.sixel_run.specs.Texts.{Text, fault_line}
+use Rattle.sixel_run.specs.Texts.{IsLine, Text, fault_line}
 
 -- ---- names
 
@@ -143,26 +144,6 @@ pub record FileEnds {O : Type 0} (t : Task) (is_shown : Bool) (folder : FolderVi
       ⊎ IsUnopened (folder.opening name) name exit output errors
 
 -- ---- checks, surveys and scans of several files
-
--- the text is one line: its only line feed is its last byte
-abbrev pub IsLine : Text → Type 0
-IsLine text = (front : Text) × (text ≡ front ++ 10 ∷ []) × All (λ byte. nat_eq byte 10 ≡ false) front
-
--- the task writes while it reads
-abbrev pub scans : Task → Bool
-scans (Scan profile eight) = true
-scans t = false
-
--- these bytes were read, and these are left: nothing, or for a scan what is behind the stream
-abbrev pub IsOverFor : Task → Option (List ℕ) → List ℕ → Type 0
-IsOverFor (Scan profile eight) left bytes = IsOver left bytes
-IsOverFor t left bytes = IsAtEnd left
-
--- a prefix of the bytes was read, perhaps none, and the rest is still to come; after an `Ok` it is over for the task
-pub record ReadsOver (t : Task) (answer : Result Status RunFault) (old new : Option (List ℕ)) : Type 0 where
-  pub bytes : List ℕ
-  pub read : Consumes old new bytes
-  pub ended : OnOk answer (IsOverFor t new bytes)
 
 -- how the check, the survey or the scan of a file ended: why it couldn't be opened, if it couldn't; the file's bytes
 -- and what it had left, if they are known; its format; the lines found; and the answer

@@ -1,6 +1,7 @@
 -- The formats of files, and the advice on them.
-use Rattle.std.specs.Prelude.{◌≡◌, ◌==◌, ◌&&◌, ◌||◌, ◌∷◌, ◌++◌, ℕ, Bool, false, List, [], Option, Some, None, IfSome}
-use Rattle.std.specs.Prelude.{Result, Err, codes, is_none, nat_le, true, if◌then◌else◌}
+use Rattle.std.specs.Prelude.{◌≡◌, ◌==◌, ◌&&◌, ◌∷◌, ◌++◌, ℕ, Bool, false, List, [], Option, Some, None, IfSome, map}
+use Rattle.std.specs.Prelude.{Result, Err, codes, is_none, nat_le, option_map, replicate, take, true, if◌then◌else◌}
+use Rattle.std.specs.List.{find, list_any}
 use Rattle.std.specs.Option.{option_map_or}
 use Rattle.sixel_grammar.specs.declared.fault.Reason.{Reason}
 use Rattle.sixel_grammar.specs.declared.fault.Reason.TheVariants.{NotSixel}
@@ -14,68 +15,43 @@ use Rattle.sixel_run.specs.Texts.{BeginsWith, Text}
 
 -- ---- the magic numbers
 
-abbrev pub is_png : List ℕ → Bool
-is_png (a ∷ b ∷ c ∷ d ∷ more) = (a == 137) && (b == 80) && (c == 78) && (d == 71)
-is_png _ = false
+-- the bytes begin with these, where there are any
+abbrev pub begins_with : List (Option ℕ) → List ℕ → Bool
+begins_with [] bytes = true
+begins_with (wanted ∷ more) [] = false
+begins_with (None ∷ more) (byte ∷ bytes) = begins_with more bytes
+begins_with (Some wanted ∷ more) (byte ∷ bytes) = (byte == wanted) && begins_with more bytes
 
-abbrev pub is_jpeg : List ℕ → Bool
-is_jpeg (a ∷ b ∷ c ∷ more) = (a == 255) && (b == 216) && (c == 255)
-is_jpeg _ = false
-
-abbrev pub is_gif : List ℕ → Bool
-is_gif (a ∷ b ∷ c ∷ d ∷ more) = (a == 71) && (b == 73) && (c == 70) && (d == 56)
-is_gif _ = false
-
--- RIFF, four bytes of a length, WEBP
-abbrev pub is_webp : List ℕ → Bool
-is_webp (a ∷ b ∷ c ∷ d ∷ e ∷ f ∷ g ∷ h ∷ i ∷ j ∷ k ∷ l ∷ more) =
-    (a == 82) && (b == 73) && (c == 70) && (d == 70) && (i == 87) && (j == 69) && (k == 66) && (l == 80)
-is_webp _ = false
-
-abbrev pub is_bmp : List ℕ → Bool
-is_bmp (a ∷ b ∷ more) = (a == 66) && (b == 77)
-is_bmp _ = false
-
--- II*0 or MM0*, with the byte 0
-abbrev pub is_tiff : List ℕ → Bool
-is_tiff (a ∷ b ∷ c ∷ d ∷ more) =
-    ((a == 73) && (b == 73) && (c == 42) && (d == 0)) || ((a == 77) && (b == 77) && (c == 0) && (d == 42))
-is_tiff _ = false
-
--- P6
-abbrev pub is_ppm : List ℕ → Bool
-is_ppm (a ∷ b ∷ more) = (a == 80) && (b == 54)
-is_ppm _ = false
-
--- P1 to P5 and P7
-abbrev pub is_other_netpbm : List ℕ → Bool
-is_other_netpbm (a ∷ b ∷ more) = (a == 80) && ((nat_le 49 b && nat_le b 53) || (b == 55))
-is_other_netpbm _ = false
-
--- an introducer: ESC P, or 90 in hexadecimal
-abbrev pub is_sixel : List ℕ → Bool
-is_sixel [] = false
-is_sixel (a ∷ []) = a == 144
-is_sixel (a ∷ b ∷ more) = ((a == 27) && (b == 80)) || (a == 144)
+-- what the files of each format begin with; where there is None, with any byte
+abbrev pub magic_numbers : List (List (Option ℕ) × Format)
+magic_numbers =
+    (map Some (137 ∷ codes "PNG"), Png)
+    ∷ (map Some (255 ∷ 216 ∷ 255 ∷ []), Jpeg)
+    ∷ (map Some (codes "GIF8"), Gif)
+    -- four bytes of a length stand between
+    ∷ (map Some (codes "RIFF") ++ replicate 4 None ++ map Some (codes "WEBP"), WebP)
+    ∷ (map Some (codes "BM"), Bmp)
+    ∷ (map Some (codes "II*" ++ 0 ∷ []), Tiff)
+    ∷ (map Some (codes "MM" ++ 0 ∷ codes "*"), Tiff)
+    ∷ (map Some (codes "P6"), Ppm)
+    ∷ (map Some (codes "P1"), Netpbm)
+    ∷ (map Some (codes "P2"), Netpbm)
+    ∷ (map Some (codes "P3"), Netpbm)
+    ∷ (map Some (codes "P4"), Netpbm)
+    ∷ (map Some (codes "P5"), Netpbm)
+    ∷ (map Some (codes "P7"), Netpbm)
+    -- an introducer: ESC P, or 90 in hexadecimal
+    ∷ (map Some (27 ∷ codes "P"), Sixel)
+    ∷ (map Some (144 ∷ []), Sixel)
+    ∷ []
 
 abbrev pub format_of : List ℕ → Option Format
-format_of prefix =
-    if is_png prefix then Some Png
-    else if is_jpeg prefix then Some Jpeg
-    else if is_gif prefix then Some Gif
-    else if is_webp prefix then Some WebP
-    else if is_bmp prefix then Some Bmp
-    else if is_tiff prefix then Some Tiff
-    else if is_ppm prefix then Some Ppm
-    else if is_other_netpbm prefix then Some Netpbm
-    else if is_sixel prefix then Some Sixel
-    else None
+format_of prefix = option_map (λ magic. magic.1) (find (λ magic. begins_with magic.0 prefix) magic_numbers)
 
 -- whether the first byte is that of a magic number, or isn't there yet
 abbrev pub may_begin : List ℕ → Bool
 may_begin [] = true
-may_begin (a ∷ more) =
-    (a == 137) || (a == 255) || (a == 71) || (a == 82) || (a == 66) || (a == 73) || (a == 77) || (a == 80) || (a == 27)
+may_begin (byte ∷ more) = list_any (λ magic. begins_with (take 1 magic.0) (byte ∷ [])) magic_numbers
 
 -- whether more bytes may tell the format of a file that begins with these
 abbrev pub is_undecided : List ℕ → Bool

@@ -4,5 +4,4 @@ pub mod Exits
 pub mod Names
 pub mod Hints
 pub mod Openings
-pub mod Findings
 pub mod Files

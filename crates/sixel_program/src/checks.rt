@@ -1,31 +1,52 @@
 //! Checks, surveys and scans of files, and quiet checks of standard input.
 
-ghost use Rattle.std.specs.Prelude.{◌≡◌, ◌≢◌, ◌&&◌, Err, IfErr, None, OnOk, count_by, false, map, nat_lt, not, option_copied, true};
+ghost use Rattle.std.specs.Prelude.{◌≡◌, ◌≢◌, ◌&&◌, [], Err, IfErr, None, OnOk, count_by, false, if◌then◌else◌, map};
+ghost use Rattle.std.specs.Prelude.{nat_lt, not, option_copied, true};
 ghost use Rattle.std.specs.Io.KnownBytes.{Keeps};
 ghost use Rattle.std.specs.List.{list_any};
 ghost use Rattle.std.specs.String.{string_bytes};
 ghost use Rattle.sixel_io.specs.Devices.{CountsFailure, change};
 ghost use Rattle.sixel_program.specs.Exits.{IsPut};
-ghost use Rattle.sixel_program.specs.Files.{FilesEnd, IsChecked, IsNamedEnd, IsOutcome, QuietEnds, SaysOfCheck};
-ghost use Rattle.sixel_program.specs.Files.{is_dash, scans, worse};
-ghost use Rattle.sixel_program.specs.Findings.{answer_of, lines_of, task_of};
+ghost use Rattle.sixel_program.specs.Files.{FilesEnd, IsChecked, IsNamedEnd, QuietEnds, SaysOfCheck, is_dash, worse};
+ghost use Rattle.sixel_program.specs.Formats.{IsFormat};
+ghost use Rattle.sixel_program.specs.Names.{named};
 ghost use Rattle.sixel_program.specs.Openings.{folder_view};
+ghost use Rattle.sixel_run.specs.LineTasks.{WritesLines, has_lines, scans};
 ghost use Rattle.sixel_run.specs.Texts.{fault_line};
-ghost use Rattle.sixel_run.specs.declared.task.Task.TheVariants.{Check, Scan, Survey};
 
 use crate::exit::{Exit, code_of, exit_of};
-use crate::findings::{
-    AfterName, FilesTask, Found, answer_of, find_survey, find_verdict, find_verdict_with, put_found,
-};
 use crate::folder::{Folder, open_file};
 use crate::formats::Format;
 use crate::hints::{put_hint, rule_of};
+use crate::names::AfterName;
+use crate::nowhere::Nowhere;
 use crate::peeked::Peeked;
 use crate::saying::{put_refusal, put_unopened};
 use sixel_io::{DeviceFault, PIECE, Sink, Source};
 use sixel_model::Profile;
-use sixel_run::{RunFault, Status, scan_with, write_fault};
+use sixel_run::{Plain, RunFault, Status, Task, write_fault, write_lines};
 use std::alloc::Global;
+
+/// Whether the task writes while it reads.
+fn scans(task: &Task) -> bool
+    ensures { result ≡ scans task.now }
+{
+    matches!(task, Task::Scan { .. })
+}
+
+/// The format of the input of a task, told by its first bytes. A scan has no use for it, and doesn't look: a string may
+/// end in these bytes, and its line is written before more are read.
+pub fn format_for<S: Source>(task: &Task, input: &mut Peeked<S>) -> Option<Format>
+    ensures told { Keeps (⟦<Peeked<S> as Source>⟧.state input.old).remaining
+        (⟦<Peeked<S> as Source>⟧.state input.new).remaining }
+    ensures failures { (⟦<Peeked<S> as Source>⟧.state input.new).failures
+        ≡ (⟦<Peeked<S> as Source>⟧.state input.old).failures }
+    ensures format { IsFormat (⟦<Peeked<S> as Source>⟧.state input.old).remaining result }
+    ensures unread { scans task.now ≡ true → input.new ≡ input.old }
+{
+    let is_scan = scans(task);
+    if is_scan { None } else { input.format() }
+}
 
 /// Writes why an input was refused, if it was. The input has this name or none, and this format. Returns the answer of
 /// the task.
@@ -49,6 +70,9 @@ fn say_answer<E: Sink>(
 }
 
 /// Checks standard input without writing the verdict.
+///
+/// It isn't inlined, or its room would be on the stack of every task.
+#[inline(never)]
 pub fn check_quietly<S: Source, E: Sink>(
     alloc: Global,
     profile: Profile,
@@ -59,98 +83,40 @@ pub fn check_quietly<S: Source, E: Sink>(
         (change (⟦<Peeked<S> as Source>⟧.state input.old) (⟦<Peeked<S> as Source>⟧.state input.new))
         (change (E.state errors.old) (E.state errors.new)) }
 {
+    let task = Task::Check { profile };
     let format = input.format();
-    let judged = find_verdict(alloc, profile, input);
-    exit_of(say_answer(None, format, answer_of(&judged), errors))
+    let answer = write_lines(
+        alloc,
+        task,
+        &Plain,
+        input,
+        &mut [0u8; PIECE],
+        &mut Nowhere::new(),
+    );
+    exit_of(say_answer(None, format, answer, errors))
 }
 
-/// Writes the lines on a file, unless the task is quiet, or why the file was refused. Returns the answer of the task,
-/// or an `Err` if `output` failed.
-fn put_judged<K: Sink, E: Sink>(
-    is_quiet: bool,
-    name: &str,
-    format: Option<Format>,
-    judged: Result<Found, RunFault>,
-    output: &mut K,
-    errors: &mut E,
-) -> Result<Result<Status, RunFault>, DeviceFault>
-    ensures { IsOutcome is_quiet name.now None format (lines_of judged) (answer_of judged) result
-        (change (K.state output.old) (K.state output.new)) (change (E.state errors.old) (E.state errors.new)) }
-{
-    if let Ok(found) = &judged {
-        if !is_quiet {
-            put_found(name, found, output)?;
-        }
-    }
-    Ok(say_answer(Some(name), format, answer_of(&judged), errors))
-}
-
-/// Checks an open file, or standard input by its name. Returns the answer, or an `Err` if `output` failed.
-fn check_named<S: Source, K: Sink, E: Sink>(
+/// Writes the lines of an input, each after its name; none if the task is quiet.
+fn write_named<S: Source, K: Sink>(
     alloc: Global,
-    profile: Profile,
+    task: &Task,
     is_quiet: bool,
     name: &str,
-    input: &mut Peeked<S>,
+    input: &mut S,
     piece: &mut [u8; PIECE],
     output: &mut K,
-    errors: &mut E,
-) -> Result<Result<Status, RunFault>, DeviceFault>
-    ensures { IsNamedEnd (Check profile) is_quiet name.now result
-        (change (⟦<Peeked<S> as Source>⟧.state input.old) (⟦<Peeked<S> as Source>⟧.state input.new))
-        (change (K.state output.old) (K.state output.new)) (change (E.state errors.old) (E.state errors.new)) }
+) -> Result<Status, RunFault>
+    requires { has_lines task.now ≡ true }
+    ensures lines { WritesLines task.now (λ line. if is_quiet then [] else named name.now line) result
+        (change (S.state input.old) (S.state input.new)) (change (K.state output.old) (K.state output.new)) }
+    ensures loud { is_quiet ≡ true → result ≢ Err RunFault.Write }
 {
-    let format = input.format();
-    let judged = find_verdict_with(alloc, profile, input, piece);
-    put_judged(is_quiet, name, format, judged, output, errors)
-}
-
-/// Surveys an open file, or standard input by its name. Returns the answer, or an `Err` if `output` failed.
-fn survey_named<S: Source, K: Sink, E: Sink>(
-    alloc: Global,
-    profile: Profile,
-    is_quiet: bool,
-    name: &str,
-    input: &mut Peeked<S>,
-    output: &mut K,
-    errors: &mut E,
-) -> Result<Result<Status, RunFault>, DeviceFault>
-    ensures { IsNamedEnd (Survey profile) is_quiet name.now result
-        (change (⟦<Peeked<S> as Source>⟧.state input.old) (⟦<Peeked<S> as Source>⟧.state input.new))
-        (change (K.state output.old) (K.state output.new)) (change (E.state errors.old) (E.state errors.new)) }
-{
-    let format = input.format();
-    let judged = find_survey(alloc, profile, input);
-    put_judged(is_quiet, name, format, judged, output, errors)
-}
-
-/// Scans an open file, or standard input by its name, and writes the line of each string as soon as the string has
-/// ended. Returns the answer, or an `Err` if `output` failed.
-fn scan_named<S: Source, K: Sink, E: Sink>(
-    alloc: Global,
-    profile: Profile,
-    eight_bit: bool,
-    name: &str,
-    input: &mut Peeked<S>,
-    output: &mut K,
-    errors: &mut E,
-) -> Result<Result<Status, RunFault>, DeviceFault>
-    ensures { IsNamedEnd (Scan profile eight_bit) false name.now result
-        (change (⟦<Peeked<S> as Source>⟧.state input.old) (⟦<Peeked<S> as Source>⟧.state input.new))
-        (change (K.state output.old) (K.state output.new)) (change (E.state errors.old) (E.state errors.new)) }
-{
-    let answer = scan_with(
-        alloc,
-        profile,
-        eight_bit,
-        &AfterName { name },
-        input,
-        output,
-    );
-    if is_unwritten(&answer) {
-        return Err(DeviceFault);
+    let label = AfterName { name };
+    if is_quiet {
+        write_lines(alloc, *task, &label, input, piece, &mut Nowhere::new())
+    } else {
+        write_lines(alloc, *task, &label, input, piece, output)
     }
-    Ok(say_answer(Some(name), None, answer, errors))
 }
 
 /// Whether the output failed.
@@ -165,7 +131,7 @@ fn is_unwritten(answer: &Result<Status, RunFault>) -> bool
 /// failed.
 fn answer_named<S: Source, K: Sink, E: Sink>(
     alloc: Global,
-    task: FilesTask,
+    task: &Task,
     is_quiet: bool,
     name: &str,
     input: &mut Peeked<S>,
@@ -173,29 +139,24 @@ fn answer_named<S: Source, K: Sink, E: Sink>(
     output: &mut K,
     errors: &mut E,
 ) -> Result<Result<Status, RunFault>, DeviceFault>
-    requires { scans (task_of task) ≡ true → is_quiet ≡ false }
-    ensures { IsNamedEnd (task_of task) is_quiet name.now result
+    requires { has_lines task.now ≡ true }
+    ensures { IsNamedEnd task.now is_quiet name.now result
         (change (⟦<Peeked<S> as Source>⟧.state input.old) (⟦<Peeked<S> as Source>⟧.state input.new))
         (change (K.state output.old) (K.state output.new)) (change (E.state errors.old) (E.state errors.new)) }
 {
-    match task {
-        FilesTask::Check { profile } => {
-            check_named(alloc, profile, is_quiet, name, input, piece, output, errors)
-        }
-        FilesTask::Survey { profile } => {
-            survey_named(alloc, profile, is_quiet, name, input, output, errors)
-        }
-        FilesTask::Scan { profile, eight_bit } => {
-            scan_named(alloc, profile, eight_bit, name, input, output, errors)
-        }
+    let format = format_for(task, input);
+    let answer = write_named(alloc, task, is_quiet, name, input, piece, output);
+    if is_unwritten(&answer) {
+        return Err(DeviceFault);
     }
+    Ok(say_answer(Some(name), format, answer, errors))
 }
 
 /// Checks, surveys or scans the file with this name, or standard input if the name is `-`. Returns the answer, or an
 /// `Err` if `output` failed.
 fn check_file<F: Folder, S: Source, K: Sink, E: Sink>(
     alloc: Global,
-    task: FilesTask,
+    task: &Task,
     is_quiet: bool,
     name: &str,
     folder: &F,
@@ -204,8 +165,8 @@ fn check_file<F: Folder, S: Source, K: Sink, E: Sink>(
     output: &mut K,
     errors: &mut E,
 ) -> Result<Result<Status, RunFault>, DeviceFault>
-    requires { scans (task_of task) ≡ true → is_quiet ≡ false }
-    ensures checked { IsChecked (task_of task) is_quiet (folder_view (F.opening folder.now) F.Opened.state) name.now result
+    requires { has_lines task.now ≡ true }
+    ensures checked { IsChecked task.now is_quiet (folder_view (F.opening folder.now) F.Opened.state) name.now result
         (change (⟦<Peeked<S> as Source>⟧.state input.old) (⟦<Peeked<S> as Source>⟧.state input.new))
         (change (K.state output.old) (K.state output.new)) (change (E.state errors.old) (E.state errors.new)) }
     ensures unread { is_dash name.now ≡ false → input.new ≡ input.old }
@@ -269,7 +230,7 @@ fn has_hint(is_quiet: bool, is_shown: bool) -> bool
 #[inline(never)]
 pub fn check_files<F: Folder, S: Source, K: Sink, E: Sink>(
     alloc: Global,
-    task: FilesTask,
+    task: &Task,
     is_quiet: bool,
     is_shown: bool,
     names: &[String],
@@ -278,9 +239,9 @@ pub fn check_files<F: Folder, S: Source, K: Sink, E: Sink>(
     output: &mut K,
     errors: &mut E,
 ) -> Exit
-    requires loud { scans (task_of task) ≡ true → is_quiet ≡ false }
+    requires lines { has_lines task.now ≡ true }
     requires once { nat_lt 1 (count_by is_dash (map string_bytes names.now)) ≡ false }
-    ensures checked { FilesEnd (task_of task) is_quiet is_shown (folder_view (F.opening folder.now) F.Opened.state)
+    ensures checked { FilesEnd task.now is_quiet is_shown (folder_view (F.opening folder.now) F.Opened.state)
         (map string_bytes names.now) result
         (change (⟦<Peeked<S> as Source>⟧.state input.old) (⟦<Peeked<S> as Source>⟧.state input.new))
         (change (K.state output.old) (K.state output.new)) (change (E.state errors.old) (E.state errors.new)) }
@@ -311,7 +272,7 @@ pub fn check_files<F: Folder, S: Source, K: Sink, E: Sink>(
     match flush_verdicts(is_quiet, output) {
         Ok(()) => {
             let has_hint = has_hint(is_quiet, is_shown);
-            put_hint(has_hint, task.task(), broken, errors);
+            put_hint(has_hint, *task, broken, errors);
             exit
         }
         Err(_) => unwritten(errors),

@@ -1,20 +1,16 @@
 //! Requests over standard input or files.
 
-ghost use Rattle.std.specs.Prelude.{◌≡◌, false, map, option_copied, true};
-ghost use Rattle.std.specs.Io.KnownBytes.{Keeps};
+ghost use Rattle.std.specs.Prelude.{◌≡◌, false, map, option_copied};
 ghost use Rattle.std.specs.String.{string_bytes};
 ghost use Rattle.sixel_io.specs.Devices.{change};
 ghost use Rattle.sixel_program.specs.Exits.{RunEnds};
-ghost use Rattle.sixel_program.specs.Files.{FileEnds, RequestEnds, is_dash, names_input_twice, reads_input, scans};
-ghost use Rattle.sixel_program.specs.Formats.{IsFormat};
+ghost use Rattle.sixel_program.specs.Files.{FileEnds, RequestEnds, is_dash, names_input_twice, reads_input};
 ghost use Rattle.sixel_program.specs.Openings.{folder_view};
 ghost use Rattle.sixel_run.specs.Outputs.{HasSides};
 
-use crate::checks::{check_files, check_quietly};
+use crate::checks::{check_files, check_quietly, format_for};
 use crate::exit::{Exit, exit_of};
-use crate::findings::FilesTask;
 use crate::folder::{Folder, open_file};
-use crate::formats::Format;
 use crate::hints::put_hint_after;
 use crate::peeked::Peeked;
 use crate::request::Request;
@@ -23,27 +19,6 @@ use crate::terminals::Terminals;
 use sixel_io::{Sink, Source};
 use sixel_run::{Task, run};
 use std::alloc::Global;
-
-/// Whether the task writes while it reads.
-fn scans(task: &Task) -> bool
-    ensures { result ≡ scans task.now }
-{
-    matches!(task, Task::Scan { .. })
-}
-
-/// The format of the input of a task, told by its first bytes. A scan has no use for it, and doesn't look: a string may
-/// end in these bytes, and its line is written before more are read.
-fn format_for<S: Source>(task: &Task, input: &mut Peeked<S>) -> Option<Format>
-    ensures told { Keeps (⟦<Peeked<S> as Source>⟧.state input.old).remaining
-        (⟦<Peeked<S> as Source>⟧.state input.new).remaining }
-    ensures failures { (⟦<Peeked<S> as Source>⟧.state input.new).failures
-        ≡ (⟦<Peeked<S> as Source>⟧.state input.old).failures }
-    ensures format { IsFormat (⟦<Peeked<S> as Source>⟧.state input.old).remaining result }
-    ensures unread { scans task.now ≡ true → input.new ≡ input.old }
-{
-    let is_scan = scans(task);
-    if is_scan { None } else { input.format() }
-}
 
 /// Runs a task over an input, which has this name or none. Writes to `errors` why the input was refused, or which rule
 /// kept its picture from being rendered, and how to convert an input of another format; and after a check the hint on a
@@ -127,24 +102,28 @@ pub fn answer<F: Folder, S: Source, K: Sink, E: Sink>(
     match (request.task, names) {
         (Task::Check { profile }, []) if is_quiet => check_quietly(alloc, profile, input, errors),
         (task, []) => report(alloc, &task, is_shown, None, input, output, errors),
-        (Task::Check { profile }, _) => {
-            let task = FilesTask::Check { profile };
-            check_files(
-                alloc, task, is_quiet, is_shown, names, folder, input, output, errors,
-            )
-        }
-        (Task::Survey { profile }, _) => {
-            let task = FilesTask::Survey { profile };
-            check_files(
-                alloc, task, false, is_shown, names, folder, input, output, errors,
-            )
-        }
-        (Task::Scan { profile, eight_bit }, _) => {
-            let task = FilesTask::Scan { profile, eight_bit };
-            check_files(
-                alloc, task, false, is_shown, names, folder, input, output, errors,
-            )
-        }
+        (Task::Check { .. }, _) => check_files(
+            alloc,
+            &request.task,
+            is_quiet,
+            is_shown,
+            names,
+            folder,
+            input,
+            output,
+            errors,
+        ),
+        (Task::Survey { .. } | Task::Scan { .. }, _) => check_files(
+            alloc,
+            &request.task,
+            false,
+            is_shown,
+            names,
+            folder,
+            input,
+            output,
+            errors,
+        ),
         (task, [name, ..]) => {
             report_file(
                 alloc,

@@ -7,7 +7,9 @@ ghost use Rattle.sixel_io.specs.Devices.{Change, SinkState};
 ghost use Rattle.sixel_grammar.specs.declared.fault.Fault.{Fault};
 ghost use Rattle.sixel_run.specs.declared.fault.RunFault.{RunFault};
 ghost use Rattle.sixel_run.specs.declared.fault.RunFault.TheVariants.{Grammar, Write};
+ghost use Rattle.sixel_run.specs.declared.task.Task.{Task};
 ghost use Rattle.sixel_run.specs.declared.task.Task.TheVariants.{Scan};
+ghost use Rattle.sixel_run.specs.LineTasks.{has_lines, scans};
 ghost use Rattle.sixel_run.specs.Scanned.{Finds, scan_text};
 ghost use Rattle.sixel_scan.specs.declared.answer.Scanned.{Scanned};
 ghost use Rattle.sixel_model.specs.Profiles.{count_of};
@@ -19,13 +21,10 @@ ghost use Rattle.sixel_explain.specs.declared.explanations.Topic.TheVariants.{Re
 ghost use Rattle.sixel_program.specs.declared.exit.Exit.TheVariants.{Refused as RefusedExit};
 ghost use Rattle.sixel_program.specs.declared.folder.Unopened.{Unopened};
 ghost use Rattle.sixel_program.specs.Exits.{exit_code, fault_said, labelled};
-ghost use Rattle.sixel_program.specs.Files.{ArePut, FileEnd, IsFileEnd, IsLine, IsSaid, exit_of_end, files_exit};
-ghost use Rattle.sixel_program.specs.Files.{files_text, scans};
-ghost use Rattle.sixel_program.specs.Findings.{task_of};
-ghost use Rattle.sixel_program.specs.declared.findings.FilesTask.{FilesTask};
+ghost use Rattle.sixel_program.specs.Files.{ArePut, FileEnd, IsFileEnd, IsSaid, exit_of_end, files_exit, files_text};
 ghost use Rattle.sixel_program.specs.Names.{is_control, printed, unopened_line};
 ghost use Rattle.sixel_run.specs.Outputs.{Gives};
-ghost use Rattle.sixel_run.specs.Texts.{Text, entry_line, finding_line, reason_name, rule_name, string_line};
+ghost use Rattle.sixel_run.specs.Texts.{IsLine, Text, entry_line, finding_line, reason_name, rule_name, string_line};
 ghost use Rattle.sixel_scan.specs.declared.answer.Answer.TheVariants.{Broken, Refused};
 ghost use Rattle.sixel_survey.specs.declared.entry.Entry.{Entry};
 
@@ -40,16 +39,16 @@ pub fn several_files_are_checked_one_by_one()
         files_text is_quiet (prefix ++ rest) ≡ files_text is_quiet prefix ++ files_text is_quiet rest }
     ensures named { (e : FileEnd) →
         files_text false (e ∷ []) ≡ flat_map (λ line. printed e.name ++ codes ": " ++ line) e.lines }
-    ensures lines { (task : FilesTask) (e : FileEnd) → IsFileEnd (task_of task) e → All IsLine e.lines }
-    ensures alone { (task : FilesTask) (e : FileEnd) (bytes : List ℕ) (status : Status) → IsFileEnd (task_of task) e →
-        e.told ≡ Some bytes → e.answer ≡ Ok status → Gives (task_of task) bytes (concat e.lines) (Ok status) }
-    ensures refused { (task : FilesTask) (is_quiet : Bool) (e : FileEnd) (fault : RunFault) →
-        IsFileEnd (task_of task) e → scans (task_of task) ≡ false → e.answer ≡ Err fault →
+    ensures lines { (task : Task) (e : FileEnd) → IsFileEnd task e → All IsLine e.lines }
+    ensures alone { (task : Task) (e : FileEnd) (bytes : List ℕ) (status : Status) → IsFileEnd task e →
+        e.told ≡ Some bytes → e.answer ≡ Ok status → Gives task bytes (concat e.lines) (Ok status) }
+    ensures refused { (task : Task) (is_quiet : Bool) (e : FileEnd) (fault : RunFault) →
+        IsFileEnd task e → scans task ≡ false → e.answer ≡ Err fault →
         files_text is_quiet (e ∷ []) ≡ [] }
     ensures quiet { (ends : List FileEnd) → files_text true ends ≡ [] }
-    ensures faulty { (task : FilesTask) (e : FileEnd) (bytes : List ℕ) (fault : Fault) → IsFileEnd (task_of task) e →
-        e.told ≡ Some bytes → e.answer ≡ Err (Grammar fault) →
-        Gives (task_of task) bytes [] (Err (Grammar fault)) }
+    ensures faulty { (task : Task) (e : FileEnd) (bytes : List ℕ) (fault : Fault) → has_lines task ≡ true →
+        IsFileEnd task e → e.told ≡ Some bytes → e.answer ≡ Err (Grammar fault) →
+        Gives task bytes [] (Err (Grammar fault)) }
     ensures unended { (profile : Profile) (eight : Bool) (e : FileEnd) (bytes : List ℕ) (fault : RunFault) →
         IsFileEnd (Scan profile eight) e → e.told ≡ Some bytes → e.answer ≡ Err fault → fault ≢ Write →
         (reports : List Scanned) × Finds eight (count_of profile) bytes e.left (Err fault) reports

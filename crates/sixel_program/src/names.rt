@@ -2,10 +2,11 @@
 
 ghost use Rattle.std.specs.Prelude.{◌≡◌, ◌<◌, ◌≤◌, ◌++◌, IfSome, length};
 ghost use Rattle.sixel_io.specs.Devices.{Writes};
-ghost use Rattle.sixel_program.specs.Names.{hex_digit, printed, printed_byte};
+ghost use Rattle.sixel_program.specs.Names.{hex_digit, named, printed, printed_byte};
 
 use arrayvec::ArrayVec;
 use sixel_io::{DeviceFault, Sink, put_all};
+use sixel_run::{Line, PutLine};
 
 /// The length of the longest name that a file can have.
 const MOST_NAME: usize = 4_095;
@@ -157,4 +158,25 @@ fn printed_part(part: &[u8]) -> ArrayVec<u8, ROOM>
         let _ = text.try_extend_from_slice(printed_byte(*byte).as_slice());
     }
     text
+}
+
+/// Lines after a file's name, each in one piece.
+#[derive(Clone, Copy)]
+pub struct AfterName<'a> {
+    pub name: &'a str,
+}
+
+impl<'a> PutLine for AfterName<'a> {
+    ghost written = { λ label line. named label.name.now line };
+
+    fn put_line<K: Sink>(&self, line: &[u8], out: &mut K) -> Result<(), DeviceFault> {
+        put_named(out, b"", self.name, b": ", line)
+    }
+
+    fn put_lines<K: Sink>(&self, lines: &[Line], out: &mut K) -> Result<(), DeviceFault> {
+        for line in lines {
+            put_named(out, b"", self.name, b": ", line.as_slice())?;
+        }
+        Ok(())
+    }
 }

@@ -29,12 +29,6 @@ encode-gives registers bytes =
 
 -- ---- the text written
 
-pub encoded : (registers : ℕ) (a : Option (List ℕ)) (p : PictureValue) (had has : Option (List ℕ))
-    → IfSome a (ReadsPpm registers (Ok p)) → Appends had has (canon_text p)
-    → IfSome a (λ bytes. WroteBy (EncodeGives registers bytes) WroteNothing (Ok Done) had has)
-encoded registers None p had has read put = tt
-encoded registers (Some bytes) p had has read put = (canon_text p, sym (ap encode_output read), put)
-
 pub unencoded : (registers : ℕ) (a : Option (List ℕ)) (p : PictureValue) (had has : Option (List ℕ))
     → IfSome a (ReadsPpm registers (Ok p)) → (n : ℕ) × Appends had has (take n (canon_text p))
     → IfSome a (λ bytes. WroteBy (EncodeGives registers bytes) WroteNothing (Err Write) had has)
@@ -55,10 +49,3 @@ unread registers bytes ppm.OutOfMemory had read = Appends-none had
 unread registers bytes ppm.Read had read = Appends-none had
 unread registers bytes ppm.NotRgb had read = absurd read
 unread registers bytes ppm.Write had read = absurd read
-
--- if no picture was read, nothing was written
-pub file_refused : (registers : ℕ) (a : Option (List ℕ)) (fault : PpmFault) (had : Option (List ℕ))
-    → IfSome a (ReadsPpm registers (Err fault))
-    → IfSome a (λ bytes. WroteBy (EncodeGives registers bytes) WroteNothing (Err (of_ppm fault)) had had)
-file_refused registers None fault had read = tt
-file_refused registers (Some bytes) fault had read = unread _ bytes fault had read

@@ -6,7 +6,8 @@ pub mod PictureLemmas
 pub mod FileLemmas
 pub mod MendLemmas
 pub mod SurveyLemmas
-pub mod SurveyLineLemmas
+pub mod DigitLemmas
+pub mod FeedLemmas
 pub mod ScreenLemmas
 pub mod DrawLemmas
 pub mod StageLemmas
@@ -15,5 +16,6 @@ pub mod StringLemmas
 pub mod ScanLemmas
 pub mod OneStringLemmas
 pub mod RunLemmas
+pub mod LineTaskLemmas
 pub mod RoundTripLemmas
 pub mod SixelLineLemmas

@@ -24,7 +24,7 @@ use Rattle.sixel_grammar.proofs.StandLemmas.{read_complete, read_short}
 use Rattle.sixel_grammar.proofs.TotalLemmas.{before_fault, place_past}
 use Rattle.sixel_grammar.proofs.UniqueLemmas.{complete_stays, document_complete}
 use Rattle.sixel_run.specs.declared.fault.RunFault.{RunFault}
-use Rattle.sixel_run.specs.declared.fault.RunFault.TheVariants.{Grammar, OutOfMemory, Read, Write}
+use Rattle.sixel_run.specs.declared.fault.RunFault.TheVariants.{Grammar, OutOfMemory, Read}
 use Rattle.sixel_run.specs.declared.task.Status.{Status}
 use Rattle.sixel_run.specs.declared.task.Status.TheVariants.{Done}
 use Rattle.sixel_run.specs.declared.task.Task.TheVariants.{List as Listed}

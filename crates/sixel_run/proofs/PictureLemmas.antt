@@ -134,13 +134,6 @@ render-gives registers bytes =
 
 -- ---- the text written
 
-picture_rendered : (registers : ℕ) (bytes : List ℕ) (p : PictureValue) (had has : SinkState)
-    → CheckAnswers registers (Ok (Portable p)) bytes
-    → WritesPpm {A = Unit {0}} (Ok tt) had has p.width p.height (colours_of p)
-    → WroteBy (RenderGives registers bytes) WroteNothing (Ok Done) had.taken has.taken
-picture_rendered registers bytes p had has given put =
-    (ppm_text p.width p.height (colours_of p), (given.0, given.1, (Portable p, given.2, rw put.0 refl)), put.1.taken)
-
 picture_unrendered : (registers : ℕ) (bytes : List ℕ) (p : PictureValue) (fault : PpmFault) (had has : SinkState)
     → CheckAnswers registers (Ok (Portable p)) bytes
     → WritesPpm {A = Unit {0}} (Err fault) had has p.width p.height (colours_of p)
@@ -157,13 +150,6 @@ picture_unrendered registers bytes p ppm.Write had has given put =
 picture_unrendered registers bytes p ppm.NotRgb had has given put =
     ([], (given.0, given.1, (Portable p, given.2, rw put.0 refl)), nothing-written had has put.1)
 picture_unrendered registers bytes p _ had has given put = absurd put
-
-pub rendered : (registers : ℕ) (a : Option (List ℕ)) (p : PictureValue) (had has : SinkState)
-    → IfSome a (CheckAnswers registers (Ok (Portable p)))
-    → WritesPpm {A = Unit {0}} (Ok tt) had has p.width p.height (colours_of p)
-    → IfSome a (λ bytes. WroteBy (RenderGives registers bytes) WroteNothing (Ok Done) had.taken has.taken)
-rendered registers None p had has given put = tt
-rendered registers (Some bytes) p had has given put = picture_rendered _ bytes p had has given put
 
 pub unrendered : (registers : ℕ) (a : Option (List ℕ)) (p : PictureValue) (fault : PpmFault) (had has : SinkState)
     → IfSome a (CheckAnswers registers (Ok (Portable p)))

@@ -1,14 +1,16 @@
 -- What a run of `scan` owes.
-use Rattle.std.proofs.Common.{◌≡◌, ◌∙◌, ◌≤◌, ℕ, Bool, true, false, List, [], ◌∷◌, ◌++◌, drop, length, take}
+use Rattle.std.proofs.Common.{◌≡◌, ◌∙◌, ◌≤◌, ℕ, Bool, true, false, List, [], ◌∷◌, ◌++◌, length, take}
 use Rattle.std.proofs.Common.{Option, Some, None, ap, append_assoc, arith, inl, inr, refl, subst, sym}
 use Rattle.std.specs.List.{list_all}
 use Rattle.std.specs.Prelude.{◌&&◌, Result, Ok, Err, IfSome, OnOk, flat_map, if◌then◌else◌}
 use Rattle.std.specs.Io.KnownBytes.{Appends, Consumes}
 use Rattle.std.proofs.KnownBytes.{Consumes-nil, Consumes-trans}
-use Rattle.std.proofs.lemmas.List.{length-append, take-append-drop}
+use Rattle.std.proofs.lemmas.List.{length-append}
 use Rattle.sixel_io.specs.Devices.{Change, SinkState, SourceState, change, one_more}
 use Rattle.sixel_io.proofs.DeviceLemmas.{Appends-then}
 use Rattle.sixel_io.proofs.SinkLemmas.{Appends-none, puts-joined}
+use Rattle.sixel_model.specs.Profiles.{count_of}
+use Rattle.sixel_model.specs.declared.profile.Profile.{Profile}
 use Rattle.sixel_scan.specs.declared.answer.Scanned.{Scanned}
 use Rattle.sixel_scan.specs.declared.fault.ScanFault.{ScanFault}
 use Rattle.sixel_scan.specs.declared.fault.ScanFault.TheVariants as fault
@@ -24,14 +26,15 @@ use Rattle.sixel_run.specs.declared.fault.RunFault.{RunFault}
 use Rattle.sixel_run.specs.declared.fault.RunFault.TheVariants.{NoString, OutOfMemory, Read, Write}
 use Rattle.sixel_run.specs.declared.task.Status.{Status}
 use Rattle.sixel_run.specs.declared.task.Status.TheVariants.{Done, Unfit}
+use Rattle.sixel_run.specs.declared.task.Task.TheVariants as task
 use Rattle.sixel_run.specs.Conversions.{of_scan}
-use Rattle.sixel_run.specs.Outputs.{ScanGives, ScansBefore, ScansUnread, WroteWith, failures_by}
+use Rattle.sixel_run.specs.Outputs.{CountsWrites, ScanGives, ScansBefore, ScansUnread, Wrote, WroteWith, failures_by}
 use Rattle.sixel_run.specs.Scanned.{AreBeforeAllocation, AreOfFirst, AreOfGiven, AreOfStream, Finds, MayGrowInString}
 use Rattle.sixel_run.specs.Scanned.{answer_of_strings, answer_with, is_portable, scan_text, stream_of, string_lines}
-use Rattle.sixel_run.specs.Scanning.{PutsText, Scans}
+use Rattle.sixel_run.specs.LineTasks.{PutsText, WritesLines}
 use Rattle.sixel_run.specs.Texts.{Text, string_line}
-use Rattle.sixel_run.proofs.PutLemmas.{begins-then}
-use Rattle.sixel_run.proofs.StringLemmas.{lines_more, plain_lines, reports_join, scan-begins, short_take}
+use Rattle.sixel_run.proofs.FeedLemmas.{strings_are_lines}
+use Rattle.sixel_run.proofs.StringLemmas.{lines_more, reports_join, scan-begins, short_take}
 
 -- ---- what the loop keeps
 
@@ -224,6 +227,18 @@ grown_strings eight registers (Some bytes) (Some rest) told taken reports consum
 
 -- ---- how the loop ends
 
+-- it found some strings, and `written` of the line of each was put
+pub record Scans (written : Text → Text) (eight : Bool) (registers : ℕ) (answer : Result Status RunFault)
+    (input : Change SourceState) (output : Change SinkState) : Type 0 where
+  pub reports : List Scanned
+  pub finds : IfSome input.old.remaining (λ bytes. Finds eight registers bytes input.new.remaining answer reports)
+  pub put : PutsText answer output.old.taken output.new.taken (flat_map written (string_lines reports))
+  pub taken : List ℕ
+  pub consumed : Consumes input.old.remaining input.new.remaining taken
+  pub over : OnOk answer (IsOver input.new.remaining taken)
+  pub reads : input.new.failures ≡ failures_by Read answer input.old.failures
+  pub writes : CountsWrites answer output.old.failures output.new.failures
+
 -- the answer on some strings is no failure
 abbrev IsUnfailed : Result Status RunFault → Type 0
 IsUnfailed (Ok status) = Unit {0}
@@ -384,28 +399,10 @@ scans_failed written eight registers s t answer i o new fault.Read k read memory
 scans_failed written eight registers s t answer i o new fault.OutOfMemory k read memory reads =
     scans_grown written eight registers s answer i o new k (memory refl) reads
 
--- ---- the text written
+-- ---- what it found
 
-scan_wrote : (eight : Bool) (registers : ℕ) (bytes : List ℕ) (left had has : Option (List ℕ))
-    (answer : Result Status RunFault) (reports : List Scanned) → Finds eight registers bytes left answer reports
-    → PutsText answer had has (scan_text reports)
-    → WroteWith (ScanGives eight registers bytes) (ScansUnread eight registers bytes left)
-    (ScansBefore eight registers bytes) answer had has
-scan_wrote eight registers bytes left had has (Err OutOfMemory) reports finds put = (reports, finds, put)
-scan_wrote eight registers bytes left had has (Err Read) reports finds put = (reports, finds, put)
-scan_wrote eight registers bytes left had has (Err Write) reports finds put = (
-  take put.0 (scan_text reports),
-  put.1,
-  λ text answer g.
-      let begins = scan-begins eight registers bytes reports finds text answer g in
-      begins-then text (scan_text reports) (take put.0 (scan_text reports)) begins
-      (drop put.0 (scan_text reports), sym (take-append-drop put.0 (scan_text reports))),
-)
-scan_wrote eight registers bytes left had has answer reports finds put =
-    (scan_text reports, (reports, finds.0, refl, finds.1), put)
-
--- the lines of a scan, whatever it wrote
-pub file_wrote : (eight : Bool) (registers : ℕ) (bytes : List ℕ) (left : Option (List ℕ))
+-- the lines of what it found
+file_wrote : (eight : Bool) (registers : ℕ) (bytes : List ℕ) (left : Option (List ℕ))
     (answer : Result Status RunFault) (reports : List Scanned) → Finds eight registers bytes left answer reports
     → WroteWith (ScanGives eight registers bytes) (ScansUnread eight registers bytes left)
     (ScansBefore eight registers bytes) answer (Some []) (Some (scan_text reports))
@@ -416,27 +413,12 @@ file_wrote eight registers bytes left (Err Write) reports finds =
 file_wrote eight registers bytes left answer reports finds =
     (scan_text reports, (reports, finds.0, refl, finds.1), refl)
 
-wrote_if : (eight : Bool) (registers : ℕ) (old left had has : Option (List ℕ))
-    (answer : Result Status RunFault) (reports : List Scanned)
-    → IfSome old (λ bytes. Finds eight registers bytes left answer reports)
-    → PutsText answer had has (scan_text reports)
-    → IfSome old (λ bytes. WroteWith (ScanGives eight registers bytes) (ScansUnread eight registers bytes left)
-    (ScansBefore eight registers bytes) answer had has)
-wrote_if eight registers None left had has answer reports finds put = tt
-wrote_if eight registers (Some bytes) left had has answer reports finds put =
-    scan_wrote eight registers bytes left had has answer reports finds put
-
--- lines that are written as they are
-pub scans_wrote : (eight : Bool) (registers : ℕ) (answer : Result Status RunFault) (i : Change SourceState)
-    (o : Change SinkState) → Scans (λ line. line) eight registers answer i o
-    → IfSome i.old.remaining (λ bytes.
-    WroteWith (ScanGives eight registers bytes) (ScansUnread eight registers bytes i.new.remaining)
-    (ScansBefore eight registers bytes) answer o.old.taken o.new.taken)
-scans_wrote eight registers answer i o k =
-    wrote_if eight registers i.old.remaining i.new.remaining o.old.taken o.new.taken answer k.reports k.finds
-    (subst (PutsText answer o.old.taken o.new.taken) (plain_lines (string_lines k.reports)) k.put)
-
--- ---- memory
+wrote_if : (profile : Profile) (eight : Bool) (old left : Option (List ℕ)) (answer : Result Status RunFault)
+    (reports : List Scanned) → IfSome old (λ bytes. Finds eight (count_of profile) bytes left answer reports)
+    → IfSome old (λ bytes. Wrote (task.Scan profile eight) bytes left answer (Some []) (Some (scan_text reports)))
+wrote_if profile eight None left answer reports finds = tt
+wrote_if profile eight (Some bytes) left answer reports finds =
+    file_wrote eight (count_of profile) bytes left answer reports finds
 
 grew : (eight : Bool) (registers : ℕ) (bytes : List ℕ) (reports : List Scanned)
     → AreBeforeAllocation eight registers bytes reports → MayGrowInString eight registers bytes
@@ -450,9 +432,20 @@ grew_if eight registers (Some bytes) left answer reports finds is =
     grew eight registers bytes reports
     (subst (λ (a : Result Status RunFault). Finds eight registers bytes left a reports) is finds)
 
--- if a scan ran out of memory, a checker may allocate in one of the strings
-pub scans_grew : (written : Text → Text) (eight : Bool) (registers : ℕ) (answer : Result Status RunFault)
-    (i : Change SourceState) (o : Change SinkState) → Scans written eight registers answer i o
-    → answer ≡ Err OutOfMemory → IfSome i.old.remaining (MayGrowInString eight registers)
-scans_grew written eight registers answer i o k is =
-    grew_if eight registers i.old.remaining i.new.remaining answer k.reports k.finds is
+pub scan_ends : (written : Text → Text) (profile : Profile) (eight : Bool) (answer : Result Status RunFault)
+    (i : Change SourceState) (o : Change SinkState) → Scans written eight (count_of profile) answer i o
+    → WritesLines (task.Scan profile eight) written answer i o
+scan_ends written profile eight answer i o k = record {
+  found = answer;
+  lines = string_lines k.reports;
+  wrote = wrote_if profile eight i.old.remaining i.new.remaining answer k.reports k.finds;
+  are_lines = strings_are_lines k.reports;
+  refused = λ is. absurd (let no : true ≡ false = is in cc);
+  unwritten = λ is. absurd (let no : true ≡ false = is in cc);
+  ends = inl refl;
+  put = k.put;
+  memory = grew_if eight (count_of profile) i.old.remaining i.new.remaining answer k.reports k.finds;
+  over = record { bytes = k.taken; read = k.consumed; ended = k.over };
+  reads = k.reads;
+  writes = k.writes;
+}

@@ -1,12 +1,11 @@
 -- Lemmas for a run of `show`.
-use Rattle.std.proofs.Common.{◌≡◌, ◌∙◌, ℕ, ◌+◌, ◌*◌, Bool, true, false, List, [], ◌∷◌, ◌++◌, length, map, take, drop}
+use Rattle.std.proofs.Common.{◌≡◌, ◌∙◌, ℕ, ◌+◌, Bool, true, false, List, [], ◌∷◌, ◌++◌, map, take, drop}
 use Rattle.std.proofs.Common.{arith, refl, sym, ap, subst, inl, inr}
 use Rattle.std.specs.Prelude.{Result, Ok, Err, IsTrue, IsFalse}
 use Rattle.std.specs.Io.KnownBytes.{Appends}
 use Rattle.std.specs.List.{range_with_len}
 use Rattle.std.proofs.lemmas.List.{take-append-drop}
 use Rattle.std.proofs.lemmas.List.FromFn.{map-range_with_len_more}
-use Rattle.sixel_grammar.specs.declared.command.Event.{Event}
 use Rattle.sixel_grammar.specs.declared.command.Placed.{Placed}
 use Rattle.sixel_grammar.specs.declared.fault.Fault.{Fault}
 use Rattle.sixel_grammar.specs.Document.{Document, events_of}
@@ -26,8 +25,7 @@ use Rattle.std.specs.List.{flat_map, list_all}
 use Rattle.std.proofs.Common.{ap₂, suc, ◌&&◌}
 use Rattle.std.proofs.lemmas.Bool.{and_parts}
 use Rattle.sixel_terminal.specs.Displays.{Display}
-use Rattle.sixel_model.proofs.GridLemmas.{length_rows}
-use Rattle.sixel_terminal.specs.Drawing.{screen_on, shown_on}
+use Rattle.sixel_terminal.specs.Drawing.{screen_on}
 use Rattle.sixel_run.specs.declared.fault.RunFault.{RunFault}
 use Rattle.sixel_run.specs.declared.fault.RunFault.TheVariants.{Grammar, Ppm, NotRgb, NoBox, NoString, Empty, TooLarge}
 use Rattle.sixel_run.specs.declared.fault.RunFault.TheVariants.{TooManyColours, OutOfMemory, Read, Write}
@@ -120,11 +118,6 @@ pub greys_more : (profile : Profile) (n : ℕ)
     → map (λ k. grey (percent_at profile k)) (range_with_len 0 (n + 1))
     ≡ map (λ k. grey (percent_at profile k)) (range_with_len 0 n) ++ grey (percent_at profile n) ∷ []
 greys_more profile n = map-range_with_len_more (λ k. grey (percent_at profile k)) 0 n n (omega arith)
-
-pub screen_length : (t : Display) (events : List Event)
-    → length (screen_on t events) ≡ t.choices.screen_width * t.choices.screen_height
-unfolding screen_on
-screen_length t events = length_rows t.choices.screen_width t.choices.screen_height (shown_on t events)
 
 -- ---- the pixels of a screen
 

@@ -209,16 +209,6 @@ none_given eight registers bytes = record {
   reported = tt;
 }
 
--- a scan of no bytes has no string
-pub nothing_scanned : (eight : Bool) (registers : ℕ) (text : Text) (status : Status)
-    → ScanGives eight registers [] text (Ok status) → ⊥
-nothing_scanned eight registers text status g =
-    let strings = one_list eight g.1.strings [] [] g.1.are (none_in_nothing eight) in
-    let none : g.0 ≡ [] =
-    sym (reports_once registers [] [] g.0 tt
-    (subst (λ (s : List StringAt). AreReported registers s g.0) strings g.1.reported)) in
-    let no : Ok status ≡ answer_of_strings [] = g.3 ∙ ap answer_of_strings none in cc
-
 either_status : (all : Bool) (f : Fault)
     → (let r : Result Status RunFault = Err (run.Grammar f) in r) ≡ (if all then Ok status.Done else Ok status.Unfit)
     → ⊥

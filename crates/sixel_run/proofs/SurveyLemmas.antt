@@ -1,15 +1,12 @@
 -- What a run of `survey` owes.
-use Rattle.std.proofs.Common.{◌≡◌, ◌∙◌, ℕ, List, [], take, drop, Option, Some, None, refl, sym, ap, subst, inl, inr}
-use Rattle.std.specs.Prelude.{◌≢◌, Result, Ok, Err, IfSome}
-use Rattle.std.specs.Io.KnownBytes.{Appends}
-use Rattle.std.proofs.lemmas.List.{take-append-drop}
-use Rattle.sixel_io.proofs.SinkLemmas.{Appends-none}
+use Rattle.std.proofs.Common.{◌≡◌, ◌∙◌, ◌+◌, ◌<◌, ◌++◌, ◌∷◌, ℕ, List, [], take, drop, Option, Some, None, refl, sym, ap}
+use Rattle.std.proofs.Common.{flat_map, get_or, inl, inr, length, map, subst}
+use Rattle.std.specs.Prelude.{Result, Ok, Err, IfSome}
+use Rattle.std.proofs.lemmas.Grind.{flat_map-append}
+use Rattle.std.proofs.lemmas.List.{append-nil, map-append, take-append-drop, take_more}
 use Rattle.sixel_grammar.specs.declared.command.Placed.{Placed}
 use Rattle.sixel_grammar.specs.declared.fault.Fault.{Fault}
-use Rattle.sixel_grammar.specs.declared.fault.InputFault.{InputFault}
-use Rattle.sixel_grammar.specs.declared.fault.InputFault.TheVariants as input
 use Rattle.sixel_grammar.specs.Document.{Document, events_of}
-use Rattle.sixel_grammar.specs.Reading.{Explains}
 use Rattle.sixel_grammar.proofs.TotalLemmas.{judged}
 use Rattle.sixel_grammar.proofs.UniqueLemmas.{document_once, fault_no_document, fault_once}
 use Rattle.sixel_model.specs.Rules.{picture_left}
@@ -18,23 +15,21 @@ use Rattle.sixel_judge.specs.declared.verdict.Verdict.{Verdict}
 use Rattle.sixel_judge.specs.declared.verdict.Verdict.TheVariants.{Portable, Broken}
 use Rattle.sixel_judge.specs.Verdicts.{IsVerdict}
 use Rattle.sixel_judge.proofs.DecideLemmas.{verdict_exists}
+use Rattle.sixel_survey.specs.declared.entry.Entry.{Entry}
 use Rattle.sixel_survey.specs.declared.entry.Survey.{Survey}
 use Rattle.sixel_survey.specs.Answers.{Answers}
-use Rattle.sixel_survey.specs.Declaring.{DeclareBoxIn}
 use Rattle.sixel_survey.specs.Surveys.{IsSurvey}
 use Rattle.sixel_survey.proofs.FirstEntryLemmas.{empty_if_none, first_is_verdict}
 use Rattle.sixel_survey.proofs.OneSurveyLemmas.{survey_exists, survey_once}
 use Rattle.sixel_run.specs.declared.fault.RunFault.{RunFault}
 use Rattle.sixel_run.specs.declared.fault.RunFault.TheVariants.{Grammar, Ppm, NotRgb, NoBox, NoString, Empty, TooLarge}
 use Rattle.sixel_run.specs.declared.fault.RunFault.TheVariants.{TooManyColours, OutOfMemory, Read, Write}
-use Rattle.sixel_run.specs.declared.running.survey.Surveyed.{Surveyed}
 use Rattle.sixel_run.specs.declared.task.Status.{Status}
 use Rattle.sixel_run.specs.declared.task.Status.TheVariants as status
 use Rattle.sixel_run.specs.declared.task.Status.TheVariants.{Done}
-use Rattle.sixel_run.specs.Conversions.{of_input}
-use Rattle.sixel_run.specs.Outputs.{SurveyGives, WroteBy, WroteNothing, status_of}
-use Rattle.sixel_run.specs.Surveyed.{IsStatusOf}
-use Rattle.sixel_run.specs.Texts.{Text, survey_text}
+use Rattle.sixel_run.specs.Outputs.{SurveyGives, status_of}
+use Rattle.sixel_run.specs.LineTasks.{IsStatusOf}
+use Rattle.sixel_run.specs.Texts.{Text, entry_line, survey_text}
 use Rattle.sixel_run.proofs.CheckLemmas.{same_verdict}
 
 -- ---- one output
@@ -109,82 +104,47 @@ status_is registers bytes events survey (status.Broken f) doc is first = (
 )
 status_is registers bytes events survey status.Unfit doc is never = absurd never
 
-pub surveyed : (registers : ℕ) (a : Option (List ℕ)) (survey : Survey) (s : Status)
-    → IfSome a (Answers registers (Ok survey)) → IsStatusOf survey s
-    → IfSome a (λ bytes. WroteBy (SurveyGives registers bytes) WroteNothing (Ok s) (Some []) (Some (survey_text survey)))
+pub surveyed : (registers : ℕ) (told : Option (List ℕ)) (survey : Survey) (s : Status)
+    → IfSome told (Answers registers (Ok survey)) → IsStatusOf survey s
+    → IfSome told (λ bytes. SurveyGives registers bytes (survey_text survey) (Ok s))
 surveyed registers None survey s given is = tt
 surveyed registers (Some bytes) survey s given is = (
-  survey_text survey,
-  (
-    given.0,
-    given.1,
-    (survey, given.2, refl),
-    status_is registers bytes given.0 survey s given.1 given.2 is,
-  ),
-  refl,
+  given.0,
+  given.1,
+  (survey, given.2, refl),
+  status_is registers bytes given.0 survey s given.1 given.2 is,
 )
 
--- a refused survey
-unsurveyed : (registers : ℕ) (bytes : List ℕ) (fault : InputFault) → Explains fault bytes
-    → WroteBy (SurveyGives registers bytes) WroteNothing (Err (of_input fault)) (Some []) (Some [])
-unsurveyed registers bytes (input.Grammar f) is = ([], (refl, is), refl)
-unsurveyed registers bytes input.OutOfMemory is = refl
-unsurveyed registers bytes input.Read is = refl
+-- ---- the lines
 
-pub not_surveyed : (registers : ℕ) (a : Option (List ℕ)) (fault : InputFault)
-    → IfSome a (Answers registers (Err fault))
-    → IfSome a (λ bytes. WroteBy (SurveyGives registers bytes) WroteNothing (Err (of_input fault)) (Some []) (Some []))
-not_surveyed registers None fault is = tt
-not_surveyed registers (Some bytes) fault is = unsurveyed registers bytes fault is
+-- what is written for the lines of some entries
+abbrev pub entries_text : (Text → Text) → List Entry → Text
+entries_text written entries = flat_map written (map entry_line entries)
 
--- ---- the text written
+both_parts : (written : Text → Text) (a b : List Entry)
+    → entries_text written (a ++ b) ≡ entries_text written a ++ entries_text written b
+both_parts written a b =
+    ap (flat_map written) (map-append entry_line a b)
+    ∙ flat_map-append written (map entry_line a) (map entry_line b)
 
-pub survey_written : (registers : ℕ) (a : Option (List ℕ)) (s : Surveyed) (had has : Option (List ℕ))
-    → IfSome a (λ bytes.
-    WroteBy (SurveyGives registers bytes) WroteNothing (Ok s.status) (Some []) (Some (survey_text s.survey)))
-    → Appends had has (survey_text s.survey)
-    → IfSome a (λ bytes. WroteBy (SurveyGives registers bytes) WroteNothing (Ok s.status) had has)
-survey_written registers None s had has w put = tt
-survey_written registers (Some bytes) s had has w put = (w.0, w.1, subst (Appends had has) w.2 put)
-
-pub survey_unwritten : (registers : ℕ) (a : Option (List ℕ)) (s : Surveyed) (had has : Option (List ℕ))
-    → IfSome a (λ bytes.
-    WroteBy (SurveyGives registers bytes) WroteNothing (Ok s.status) (Some []) (Some (survey_text s.survey)))
-    → (n : ℕ) × Appends had has (take n (survey_text s.survey))
-    → IfSome a (λ bytes. WroteBy (SurveyGives registers bytes) WroteNothing (Err Write) had has)
-survey_unwritten registers None s had has w put = tt
-survey_unwritten registers (Some bytes) s had has w put =
-    let whole : Text = survey_text s.survey in (
-      take put.0 whole,
-      put.1,
-      λ text answer g.
-          let same = (survey-once registers bytes text w.0 answer (Ok s.status) g w.1).0 in
-          (drop put.0 whole, same ∙ sym w.2 ∙ sym (take-append-drop put.0 whole)),
+-- and of one entry more
+pub entry_more : (written : Text → Text) (entries : List Entry) (i : ℕ) (d : Entry) → i < length entries
+    → entries_text written (take i entries) ++ written (entry_line (get_or entries i d))
+    ≡ entries_text written (take (i + 1) entries)
+entry_more written entries i d short =
+    let e = get_or entries i d in
+    sym (
+    ap (entries_text written) (take_more entries i d short)
+    ∙ both_parts written (take i entries) (e ∷ [])
+    ∙ ap (λ (t : Text). entries_text written (take i entries) ++ t) (append-nil (written (entry_line e)))
     )
 
-refused_alike : (registers : ℕ) (bytes : List ℕ) (fault : RunFault) (had : Option (List ℕ)) → fault ≢ Write
-    → WroteBy (SurveyGives registers bytes) WroteNothing (Err fault) (Some []) (Some [])
-    → WroteBy (SurveyGives registers bytes) WroteNothing (Err fault) had had
-refused_alike registers bytes OutOfMemory had other w = Appends-none had
-refused_alike registers bytes Read had other w = Appends-none had
-refused_alike registers bytes Write had other w = absurd (other refl)
-refused_alike registers bytes fault had other w = (w.0, w.1, subst (Appends had had) w.2 (Appends-none had))
-
--- nothing was written
-pub survey_refused : (registers : ℕ) (a : Option (List ℕ)) (fault : RunFault) (had : Option (List ℕ)) → fault ≢ Write
-    → IfSome a (λ bytes. WroteBy (SurveyGives registers bytes) WroteNothing (Err fault) (Some []) (Some []))
-    → IfSome a (λ bytes. WroteBy (SurveyGives registers bytes) WroteNothing (Err fault) had had)
-survey_refused registers None fault had other w = tt
-survey_refused registers (Some bytes) fault had other w = refused_alike registers bytes fault had other w
-
--- ---- memory
-
--- if a survey ran out of memory, a box in range is declared in the bytes
-pub box_declared : (told : Option (List ℕ)) (fault : InputFault) (y : RunFault) (r : Result Status RunFault)
-    → IfSome told
-    (λ bytes. (let k : Result Survey InputFault = Err fault in k) ≡ Err input.OutOfMemory → DeclareBoxIn bytes)
-    → r ≡ Err y → y ≡ of_input fault → r ≡ Err OutOfMemory → IfSome told DeclareBoxIn
-box_declared None fault y r h e f o = tt
-box_declared (Some bytes) (input.Grammar k) y r h e f o = cc
-box_declared (Some bytes) input.OutOfMemory y r h e f o = h refl
-box_declared (Some bytes) input.Read y r h e f o = cc
+-- and of those after it
+pub all_entries : (written : Text → Text) (entries : List Entry) (i : ℕ) (d : Entry) → i < length entries
+    → entries_text written entries
+    ≡ (entries_text written (take i entries) ++ written (entry_line (get_or entries i d)))
+    ++ entries_text written (drop (i + 1) entries)
+all_entries written entries i d short =
+    ap (entries_text written) (sym (take-append-drop (i + 1) entries))
+    ∙ both_parts written (take (i + 1) entries) (drop (i + 1) entries)
+    ∙ ap (λ (t : Text). t ++ entries_text written (drop (i + 1) entries)) (sym (entry_more written entries i d short))

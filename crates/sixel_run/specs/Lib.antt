@@ -4,8 +4,7 @@ pub mod Conversions
 pub mod Screens
 pub mod Scanned
 pub mod Outputs
-pub mod Surveyed
-pub mod Scanning
+pub mod LineTasks
 pub mod Boxes
 pub mod Listings
 pub mod Laws

@@ -45,7 +45,7 @@ use Rattle.sixel_run.specs.Scanned.{AreBeforeAllocation, AreOfGiven, AreOfStream
 use Rattle.sixel_run.specs.Scanned.{scan_text}
 use Rattle.sixel_run.specs.Screens.{DeclareScreenIn, declared_screen, screen_terminal, screen_text, show_choices}
 use Rattle.sixel_run.specs.Screens.{show_terminal}
-use Rattle.sixel_run.specs.Texts.{Text, BeginsWith, list_text, outcome_line, survey_text, verdict_line}
+use Rattle.sixel_run.specs.Texts.{Text, BeginsWith, list_text, survey_text, verdict_line}
 
 -- ---- lists
 
@@ -87,15 +87,6 @@ CheckGives registers bytes text (Err fault) = ⊥
 abbrev pub outcome_status : Outcome → Status
 outcome_status (PortableSize width height) = Done
 outcome_status (BrokenRule finding) = status.Broken finding
-
--- the answer of a check with this outcome, and the line that it writes
-abbrev pub answer_of : Result Outcome RunFault → Result Status RunFault
-answer_of (Ok outcome) = Ok (outcome_status outcome)
-answer_of (Err fault) = Err fault
-
-abbrev pub line_of : Result Outcome RunFault → Text
-line_of (Ok outcome) = outcome_line outcome
-line_of (Err fault) = []
 
 -- ---- surveys
 

@@ -1,7 +1,7 @@
 -- The lines that the program writes.
 use Rattle.std.specs.Prelude.{◌≡◌, ℕ, Bool, List, [], ◌∷◌, ◌++◌, Option, Some, None, codes, decimal, flat_map, map, ◌+◌, ◌*◌}
-use Rattle.std.specs.Prelude.{◌/◌, ◌%◌, if◌then◌else◌, length, take}
-use Rattle.std.specs.List.{concat}
+use Rattle.std.specs.Prelude.{◌/◌, ◌%◌, false, if◌then◌else◌, length, nat_eq, take}
+use Rattle.std.specs.List.{All, concat}
 use Rattle.std.specs.Option.{option_to_list}
 use Rattle.sixel_grammar.specs.declared.command.Command.{Command}
 use Rattle.sixel_grammar.specs.declared.command.Command.TheVariants.{Sixel, Repeat, Raster, Select, Define}
@@ -41,6 +41,10 @@ abbrev pub BeginsWith : Text → Text → Type 0
 BeginsWith text part = (rest : Text) × (text ≡ part ++ rest)
 
 -- ---- lines
+
+-- the text is one line: its only line feed is its last byte
+abbrev pub IsLine : Text → Type 0
+IsLine text = (front : Text) × (text ≡ front ++ 10 ∷ []) × All (λ byte. nat_eq byte 10 ≡ false) front
 
 -- each part after one space
 abbrev pub spaced : List Text → Text

@@ -4,6 +4,7 @@
 mod fault;
 pub mod laws;
 mod lines;
+mod put_line;
 mod running;
 mod sixel_line;
 mod string_lines;
@@ -13,12 +14,10 @@ mod task;
 pub use fault::RunFault;
 pub use lines::{
     Line, fault_line, finding_line, outcome_line, verdict_line, write_fault, write_finding,
-    write_outcome, write_verdict,
+    write_verdict,
 };
-pub use running::check::{judge, judge_with, status_of};
-pub use running::run;
-pub use running::scan::{PutLine, scan_with};
-pub use running::survey::{Surveyed, survey_of};
+pub use put_line::{Plain, PutLine};
+pub use running::{run, write_lines};
 pub use string_lines::{StringLine, string_line};
-pub use survey_lines::{entry_line, size_line, write_survey};
+pub use survey_lines::{entry_line, size_line};
 pub use task::{MOST_SCREEN_SIDE, Status, Task};

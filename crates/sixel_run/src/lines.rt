@@ -261,13 +261,6 @@ pub fn write_finding<K: Sink>(finding: &Finding, out: &mut K) -> Result<(), Devi
     put_all(out, finding_line(finding).as_slice())
 }
 
-/// Writes the line of an outcome, or on an `Err` a prefix of it. It doesn't flush.
-pub fn write_outcome<K: Sink>(outcome: &Outcome, out: &mut K) -> Result<(), DeviceFault>
-    ensures { Writes result (K.state out.old) (K.state out.new) (outcome_line outcome.now) }
-{
-    put_all(out, outcome_line(outcome).as_slice())
-}
-
 /// The line of an outcome.
 pub fn outcome_line(outcome: &Outcome) -> Line
     ensures { result.items ≡ outcome_line outcome.now }

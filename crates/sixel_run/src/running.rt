@@ -1,10 +1,12 @@
 //! Runs a task from a source to a sink. Each task has a file of its own, and `run` flushes after all of them.
 
 ghost use Rattle.std.specs.Prelude.{◌≡◌, ◌≢◌, Err, IfSome, true};
+ghost use Rattle.sixel_io.specs.Devices.{change};
+ghost use Rattle.sixel_run.specs.LineTasks.{WritesLines, has_lines};
 ghost use Rattle.sixel_run.specs.Outputs.{CountsReads, CountsWrites, HasSides, TakesMemory, Wrote, failures_by};
 
 mod box_finder;
-pub mod check;
+mod check;
 mod draw;
 mod encode;
 mod kept;
@@ -12,15 +14,16 @@ mod list;
 mod list_lines;
 mod mend;
 mod render;
-pub mod scan;
+mod scan;
 mod screen;
 mod show;
 mod show_box;
-pub mod survey;
+mod survey;
 
 use crate::fault::RunFault;
+use crate::put_line::{Plain, PutLine};
 use crate::task::{Status, Task};
-use sixel_io::{Sink, Source};
+use sixel_io::{PIECE, Sink, Source};
 use sixel_mend::Mending;
 use std::alloc::Global;
 
@@ -29,6 +32,9 @@ use std::alloc::Global;
 /// The output is written in blocks, and what a piece of input completes is written before the next piece is read. The
 /// line of a string of a stream is written as soon as the string has ended. A device that failed isn't called again; if
 /// both failed, the answer is `Write`. The sides of a screen to show must be from 1 to 4,096 pixels.
+///
+/// It isn't inlined, or its room would be on the stack of its caller.
+#[inline(never)]
 pub fn run<S: Source, K: Sink>(
     alloc: Global,
     task: Task,
@@ -43,7 +49,7 @@ pub fn run<S: Source, K: Sink>(
     ensures writes { CountsWrites result (K.state output.old).failures (K.state output.new).failures }
     ensures flushed { result ≢ Err RunFault.Write → (K.state output.new).is_flushed ≡ true }
 {
-    let answer = perform(alloc, task, input, output);
+    let answer = perform(alloc, task, input, &mut [0u8; PIECE], output);
     match answer {
         Err(RunFault::Write) => Err(RunFault::Write),
         _ => match output.flush() {
@@ -53,11 +59,36 @@ pub fn run<S: Source, K: Sink>(
     }
 }
 
-/// Does all of a task except the flush.
+/// Checks, surveys or scans, and writes each line by `put`. A check and a survey read into the caller's room, so a
+/// caller with many inputs clears it once. It doesn't flush.
+pub fn write_lines<P: PutLine, S: Source, K: Sink>(
+    alloc: Global,
+    task: Task,
+    put: &P,
+    input: &mut S,
+    piece: &mut [u8; PIECE],
+    output: &mut K,
+) -> Result<Status, RunFault>
+    requires { has_lines task ≡ true }
+    ensures { WritesLines task (P.written put.now) result
+        (change (S.state input.old) (S.state input.new)) (change (K.state output.old) (K.state output.new)) }
+{
+    match task {
+        Task::Check { profile } => check::check(alloc, profile, put, input, piece, output),
+        Task::Survey { profile } => survey::survey(alloc, profile, put, input, piece, output),
+        Task::Scan { profile, eight_bit } => {
+            scan::scan(alloc, profile, eight_bit, put, input, output)
+        }
+        _ => unreachable!(),
+    }
+}
+
+/// Does all of a task except the flush. Reads into `piece`.
 fn perform<S: Source, K: Sink>(
     alloc: Global,
     task: Task,
     input: &mut S,
+    piece: &mut [u8; PIECE],
     output: &mut K,
 ) -> Result<Status, RunFault>
     requires { HasSides task }
@@ -68,11 +99,11 @@ fn perform<S: Source, K: Sink>(
     ensures writes { CountsWrites result (K.state output.old).failures (K.state output.new).failures }
 {
     match task {
-        Task::List => list::list(input, output),
-        Task::Check { profile } => check::check(alloc, profile, input, output),
-        Task::Survey { profile } => survey::survey(alloc, profile, input, output),
-        Task::Scan { profile, eight_bit } => scan::scan(alloc, profile, eight_bit, input, output),
-        Task::Render { profile } => render::render(alloc, profile, input, output),
+        Task::Check { .. } | Task::Survey { .. } | Task::Scan { .. } => {
+            write_lines(alloc, task, &Plain, input, piece, output)
+        }
+        Task::List => list::list(input, piece, output),
+        Task::Render { profile } => render::render(alloc, profile, input, piece, output),
         Task::Encode { profile } => encode::encode(alloc, profile, input, output),
         Task::Mend {
             profile,
@@ -85,7 +116,7 @@ fn perform<S: Source, K: Sink>(
                 showing,
                 selects,
             };
-            mend::mend(alloc, profile, &mending, input, output)
+            mend::mend(alloc, profile, &mending, input, piece, output)
         }
         Task::Show {
             profile,
@@ -96,13 +127,13 @@ fn perform<S: Source, K: Sink>(
             height,
         } => {
             let choices = show::show_choices(showing, fill, selects, width, height);
-            show::show(alloc, profile, choices, input, output)
+            show::show(alloc, profile, choices, input, piece, output)
         }
         Task::ShowBox {
             profile,
             showing,
             fill,
             selects,
-        } => show_box::show_box(alloc, profile, showing, fill, selects, input, output),
+        } => show_box::show_box(alloc, profile, showing, fill, selects, input, piece, output),
     }
 }

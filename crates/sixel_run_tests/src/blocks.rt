@@ -4,7 +4,7 @@ use crate::runs::{Limits, run_counted};
 use sixel_check::{Finding, Rule};
 use sixel_io::{Block, DeviceFault, PIECE, Sink, SliceSink, SliceSource};
 use sixel_model::Profile;
-use sixel_run::{RunFault, Status, Task, judge, judge_with, status_of};
+use sixel_run::{Plain, RunFault, Status, Task, run, write_lines};
 use std::alloc::{AllocError, Global};
 use std::test::Fail;
 
@@ -95,18 +95,24 @@ fn statuses(
     bytes: &[u8],
     piece: &mut [u8; PIECE],
 ) -> (Result<Status, RunFault>, Result<Status, RunFault>) {
-    let profile = Profile::Registers16;
-    let own = judge(alloc, profile, &mut SliceSource::new(bytes, 5, None));
-    let other = judge_with(
+    let task = Task::Check {
+        profile: Profile::Registers16,
+    };
+    let own = run(
         alloc,
-        profile,
+        task,
+        &mut SliceSource::new(bytes, 5, None),
+        &mut SliceSink::new(&mut [0u8; 64], 64, None),
+    );
+    let other = write_lines(
+        alloc,
+        task,
+        &Plain,
         &mut SliceSource::new(bytes, 64, None),
         piece,
+        &mut SliceSink::new(&mut [0u8; 64], 64, None),
     );
-    (
-        own.map(|outcome| status_of(&outcome)),
-        other.map(|outcome| status_of(&outcome)),
-    )
+    (own, other)
 }
 
 #[test]

@@ -49,34 +49,27 @@ parameters_dead : (eight : Bool) (parameters after : List ℕ) (n : ℕ) → Are
     → n < length parameters → OpensAt eight (parameters ++ after) n → ⊥
 parameters_dead eight [] after n are lt o = absurd (omega (arith, lt))
 parameters_dead eight (p ∷ parameters) after zero are lt o =
-    not_opening eight p (parameters ++ after) (parameter_begins_none eight p are.0) o
+    not_opening (parameters ++ after) (parameter_begins_none eight p are.0) o
 parameters_dead eight (p ∷ parameters) after (suc n) are lt o =
     parameters_dead eight parameters after n are.1 (omega (arith, lt)) o
 
-no_final_after : (parameters : List ℕ) (b : ℕ) (more : List ℕ) → AreParameters parameters
-    → (is_parameter b ≡ false) × (b ≢ 113) → HasFinal (parameters ++ b ∷ more) → ⊥
-no_final_after parameters b more are rejects h =
-    other_byte b more rejects.0 rejects.1 (final_past parameters (b ∷ more) are h)
+begun_dead : (eight by_eight : Bool) (parameters after : List ℕ) (n : ℕ) → AreParameters parameters
+    → (HasFinal (parameters ++ after) → ⊥) → n < length (introducer by_eight ++ parameters)
+    → OpensAt eight (introducer by_eight ++ (parameters ++ after)) n → ⊥
+begun_dead eight true parameters after zero are none lt o = begun_none eight true (parameters ++ after) none o
+begun_dead eight true parameters after (suc n) are none lt o =
+    parameters_dead eight parameters after n are (omega (arith, lt)) o
+begun_dead eight false parameters after zero are none lt o = begun_none eight false (parameters ++ after) none o
+begun_dead eight false parameters after (suc zero) are none lt o =
+    not_opening (parameters ++ after) (letter_begins_none eight) o
+begun_dead eight false parameters after (suc (suc n)) are none lt o =
+    parameters_dead eight parameters after n are (omega (arith, lt)) o
 
-begun_dead : (eight by_eight : Bool) (parameters : List ℕ) (b : ℕ) (n : ℕ) (more : List ℕ)
-    → AreParameters parameters → (is_parameter b ≡ false) × (b ≢ 113)
-    → n < length (introducer by_eight ++ parameters)
-    → OpensAt eight (introducer by_eight ++ (parameters ++ b ∷ more)) n → ⊥
-begun_dead eight true parameters b zero more are rejects lt o =
-    begun_none eight true (parameters ++ b ∷ more) (no_final_after parameters b more are rejects) o
-begun_dead eight true parameters b (suc n) more are rejects lt o =
-    parameters_dead eight parameters (b ∷ more) n are (omega (arith, lt)) o
-begun_dead eight false parameters b zero more are rejects lt o =
-    begun_none eight false (parameters ++ b ∷ more) (no_final_after parameters b more are rejects) o
-begun_dead eight false parameters b (suc zero) more are rejects lt o =
-    not_opening eight 80 (parameters ++ b ∷ more) (letter_begins_none eight) o
-begun_dead eight false parameters b (suc (suc n)) more are rejects lt o =
-    parameters_dead eight parameters (b ∷ more) n are (omega (arith, lt)) o
-
-is_begun_dead : (eight : Bool) (held : List ℕ) (b : ℕ) (n : ℕ) (more : List ℕ) → IsBegun eight held
+is_begun_dead : {eight : Bool} {held : List ℕ} (b : ℕ) (n : ℕ) (more : List ℕ) → IsBegun eight held
     → (is_parameter b ≡ false) × (b ≢ 113) → n < length held → OpensAt eight (held ++ b ∷ more) n → ⊥
-is_begun_dead eight held b n more is rejects lt o =
-    begun_dead eight is.by_eight is.parameters b n more is.parameters_are rejects
+is_begun_dead {eight} b n more is rejects lt o =
+    begun_dead eight is.by_eight is.parameters (b ∷ more) n is.parameters_are
+    (λ h. other_byte b more rejects.0 rejects.1 (final_past is.parameters (b ∷ more) is.parameters_are h))
     (subst (λ (t : List ℕ). n < length t) is.bytes_are lt)
     (subst (λ (t : List ℕ). OpensAt eight t n)
     (ap (λ (t : List ℕ). t ++ b ∷ more) is.bytes_are
@@ -100,23 +93,20 @@ letter_begun eight held h = record {
   bytes_are = h;
 }
 
-escape_dead : (eight : Bool) (b : ℕ) (n : ℕ) (more : List ℕ) → b ≢ 80 → n < 1
-    → OpensAt eight (27 ∷ b ∷ more) n → ⊥
+escape_dead : (eight : Bool) (b : ℕ) (n : ℕ) (more : List ℕ) → b ≢ 80 → n < 1 → OpensAt eight (27 ∷ b ∷ more) n → ⊥
 escape_dead eight b zero more ne lt o = escape_other eight b more ne o
 escape_dead eight b (suc n) more ne lt o = absurd (omega (arith, lt))
 
 held_dead : (eight : Bool) (opening : Opening) (held : List ℕ) (b : ℕ) (n : ℕ) (more : List ℕ)
     → IsHeld eight opening held → Rejects opening b → n < length held → OpensAt eight (held ++ b ∷ more) n → ⊥
-held_dead eight Nothing held b n more is rejects lt o =
-    absurd (omega (arith, lt, ap length is))
+held_dead eight Nothing held b n more is rejects lt o = absurd (omega (arith, lt, ap length is))
 held_dead eight Escape held b n more is rejects lt o =
     escape_dead eight b n more rejects (omega (arith, lt, ap length is))
     (subst (λ (t : List ℕ). OpensAt eight (t ++ b ∷ more) n) is o)
-held_dead eight Letter held b n more is rejects lt o =
-    is_begun_dead eight held b n more (letter_begun eight held is) rejects lt o
+held_dead eight Letter held b n more is rejects lt o = is_begun_dead b n more (letter_begun eight held is) rejects lt o
 held_dead eight Control held b n more is rejects lt o =
-    is_begun_dead eight held b n more (control_begun eight held is) rejects lt o
-held_dead eight Introduced held b n more is rejects lt o = is_begun_dead eight held b n more is rejects lt o
+    is_begun_dead b n more (control_begun eight held is) rejects lt o
+held_dead eight Introduced held b n more is rejects lt o = is_begun_dead b n more is rejects lt o
 
 -- no opening begins in the bytes held, if this byte follows
 none_in_held : (eight : Bool) (opening : Opening) (held : List ℕ) (b : ℕ) → IsHeld eight opening held
@@ -126,16 +116,15 @@ none_in_held eight opening held b is rejects =
     held_dead eight opening held b n more is rejects lt
     (subst (λ (t : List ℕ). OpensAt eight t n) (append_assoc held (b ∷ []) more) o)
 
-last_dead : (eight : Bool) (held : List ℕ) (b : ℕ) (n : ℕ) (more : List ℕ) → BeginsNone eight b → n ≡ length held
+last_dead : {eight : Bool} (held : List ℕ) {b : ℕ} (n : ℕ) (more : List ℕ) → BeginsNone eight b → n ≡ length held
     → OpensAt eight (held ++ b ∷ more) n → ⊥
-last_dead eight held b n more none at o =
-    not_opening eight b more none
-    (subst (Opens eight) (drop_at held (b ∷ more) n (sym at)) o)
+last_dead {eight} held {b} n more none at o =
+    not_opening more none (subst (Opens eight) (drop_at held (b ∷ more) n (sym at)) o)
 
-all_dead : (eight : Bool) (opening : Opening) (held : List ℕ) (b : ℕ) (n : ℕ) (more : List ℕ)
+all_dead : {eight : Bool} (opening : Opening) (held : List ℕ) {b : ℕ} (n : ℕ) (more : List ℕ)
     → IsHeld eight opening held → Rejects opening b → BeginsNone eight b → (n < length held) ⊎ (length held ≤ n)
     → n < length (held ++ b ∷ []) → OpensAt eight (((held ++ b ∷ []) ++ []) ++ more) n → ⊥
-all_dead eight opening held b n more is rejects none where_is lt o =
+all_dead {eight} opening held {b} n more is rejects none where_is lt o =
     let flat : ((held ++ b ∷ []) ++ []) ++ more ≡ held ++ b ∷ more =
     ap (λ (t : List ℕ). t ++ more) (append-nil (held ++ b ∷ [])) ∙ append_assoc held (b ∷ []) more in
     let there : OpensAt eight (held ++ b ∷ more) n = subst (λ (t : List ℕ). OpensAt eight t n) flat o in
@@ -143,7 +132,7 @@ all_dead eight opening held b n more is rejects none where_is lt o =
       | inl before ↦ held_dead eight opening held b n more is rejects before there
       | inr after ↦
           let at : n ≡ length held = omega (arith, lt, length-append held (b ∷ []), after) in
-          last_dead eight held b n more none at there
+          last_dead held n more none at there
     ]
 
 -- ---- what is held next
@@ -161,13 +150,13 @@ advances_anew eight opening next held b is rejects short held_is = record {
 }
 
 -- nothing is held
-pub advances_past : (eight : Bool) (opening : Opening) (held : List ℕ) (b : ℕ) → IsHeld eight opening held
+pub advances_past : {eight : Bool} (opening : Opening) (held : List ℕ) {b : ℕ} → IsHeld eight opening held
     → Rejects opening b → BeginsNone eight b → Advances eight Nothing held b
-advances_past eight opening held b is rejects none = record {
+advances_past opening held {b} is rejects none = record {
   passed = held ++ b ∷ [];
   kept = [];
   bytes_are = sym (append-nil (held ++ b ∷ []));
-  none = λ n more lt o. all_dead eight opening held b n more is rejects none (cases_lt n (length held)) lt o;
+  none = λ n more lt o. all_dead opening held n more is rejects none (cases_lt n (length held)) lt o;
   is_held = refl;
   grows = λ e. cc;
 }
@@ -188,13 +177,13 @@ introducer_some : (by_eight : Bool) (parameters : List ℕ) → 0 < length (intr
 introducer_some true parameters = omega arith
 introducer_some false parameters = omega arith
 
-begun_some : (eight : Bool) (held : List ℕ) → IsBegun eight held → 0 < length held
-begun_some eight held is =
+begun_some : {eight : Bool} {held : List ℕ} → IsBegun eight held → 0 < length held
+begun_some is =
     let some = introducer_some is.by_eight is.parameters in omega (arith, some, ap length is.bytes_are)
 
-begun_more : (eight : Bool) (held : List ℕ) (b : ℕ) → IsBegun eight held → is_parameter b ≡ true
+begun_more : {eight : Bool} {held : List ℕ} (b : ℕ) → IsBegun eight held → is_parameter b ≡ true
     → IsBegun eight (held ++ b ∷ [])
-begun_more eight held b is parameter = record {
+begun_more b is parameter = record {
   by_eight = is.by_eight;
   allowed = is.allowed;
   parameters = is.parameters ++ b ∷ [];
@@ -203,8 +192,8 @@ begun_more eight held b is parameter = record {
       ∙ append_assoc (introducer is.by_eight) is.parameters (b ∷ []);
 }
 
-begun_opens : (eight : Bool) (held : List ℕ) (b : ℕ) → IsBegun eight held → b ≡ 113 → IsOpening eight (held ++ b ∷ [])
-begun_opens eight held b is e = record {
+begun_opens : {eight : Bool} {held : List ℕ} (b : ℕ) → IsBegun eight held → b ≡ 113 → IsOpening eight (held ++ b ∷ [])
+begun_opens {held} b is e = record {
   by_eight = is.by_eight;
   allowed = is.allowed;
   parameters = is.parameters;
@@ -216,15 +205,14 @@ begun_opens eight held b is e = record {
 pub record Goes (eight : Bool) (held : List ℕ) (b : ℕ) (o : Option Opening) : Type 0 where
   pub goes : MatchOption o (IsOpening eight (held ++ b ∷ [])) (λ next. Advances eight next held b)
 
-final_goes : (eight : Bool) (held : List ℕ) (b : ℕ) → IsBegun eight held
+final_goes : {eight : Bool} {held : List ℕ} (b : ℕ) → IsBegun eight held
     → ((is_parameter b ≡ false) × (b ≢ 113) → Advances eight Nothing held b) → is_parameter b ≡ false
-    → ((b == 113) ≡ true) ⊎ ((b == 113) ≡ false)
-    → Goes eight held b (cond (b == 113) None (Some Nothing))
-final_goes eight held b is past none t = elim t [
+    → ((b == 113) ≡ true) ⊎ ((b == 113) ≡ false) → Goes eight held b (cond (b == 113) None (Some Nothing))
+final_goes {eight} {held} b is past none t = elim t [
   | inl final ↦
       let e : b ≡ 113 = grind (arith, nat_tests) in
       subst (Goes eight held b) (sym (cond-true (b == 113) None (Some Nothing) final))
-      (record { goes = begun_opens eight held b is e })
+      (record { goes = begun_opens b is e })
   | inr other ↦
       let ne : b ≢ 113 =
       λ e. absurd (let both : true ≡ false = sym (ap (λ (x : ℕ). x == 113) e) ∙ other in cc) in
@@ -232,16 +220,15 @@ final_goes eight held b is past none t = elim t [
       (record { goes = past (none, ne) })
 ]
 
-pub parameter_goes : (eight : Bool) (held : List ℕ) (b : ℕ) → IsBegun eight held
-    → ((is_parameter b ≡ false) × (b ≢ 113) → Advances eight Nothing held b)
-    → Goes eight held b (after_parameters b)
-parameter_goes eight held b is past = elim (bool_cases (is_parameter b)) [
+pub parameter_goes : {eight : Bool} {held : List ℕ} (b : ℕ) → IsBegun eight held
+    → ((is_parameter b ≡ false) × (b ≢ 113) → Advances eight Nothing held b) → Goes eight held b (after_parameters b)
+parameter_goes {eight} {held} b is past = elim (bool_cases (is_parameter b)) [
   | inl on ↦
       subst (Goes eight held b) (sym (cond-true (is_parameter b) (Some Introduced) _ on))
-      (record { goes = advances_on eight Introduced held b (begun_some eight held is) (begun_more eight held b is on) })
+      (record { goes = advances_on eight Introduced held b (begun_some is) (begun_more b is on) })
   | inr off ↦
       subst (Goes eight held b) (sym (cond-false (is_parameter b) (Some Introduced) _ off))
-      (final_goes eight held b is past off (bool_cases (b == 113)))
+      (final_goes b is past off (bool_cases (b == 113)))
 ]
 
 -- ---- a scan passes bytes in which no opening begins
@@ -266,36 +253,29 @@ NextIs eight opening b o =
     (held : List ℕ) → IsHeld eight opening held
     → MatchOption o (IsOpening eight (held ++ b ∷ [])) (λ next. Advances eight next held b)
 
-rejects_escape : (opening : Opening) (b : ℕ) → b ≡ 27 → Rejects opening b
-rejects_escape Nothing b e = tt
-rejects_escape Escape b e = λ i. absurd (omega (arith, e, i))
-rejects_escape Letter b e = (ap is_parameter e, λ i. absurd (omega (arith, e, i)))
-rejects_escape Control b e = (ap is_parameter e, λ i. absurd (omega (arith, e, i)))
-rejects_escape Introduced b e = (ap is_parameter e, λ i. absurd (omega (arith, e, i)))
-
-rejects_introducer : (opening : Opening) (b : ℕ) → b ≡ 144 → Rejects opening b
-rejects_introducer Nothing b e = tt
-rejects_introducer Escape b e = λ i. absurd (omega (arith, e, i))
-rejects_introducer Letter b e = (ap is_parameter e, λ i. absurd (omega (arith, e, i)))
-rejects_introducer Control b e = (ap is_parameter e, λ i. absurd (omega (arith, e, i)))
-rejects_introducer Introduced b e = (ap is_parameter e, λ i. absurd (omega (arith, e, i)))
+rejects_all : (opening : Opening) (b : ℕ) → b ≢ 80 → (is_parameter b ≡ false) × (b ≢ 113) → Rejects opening b
+rejects_all Nothing b no_letter others = tt
+rejects_all Escape b no_letter others = no_letter
+rejects_all Letter b no_letter others = others
+rejects_all Control b no_letter others = others
+rejects_all Introduced b no_letter others = others
 
 pub next_anew : (eight : Bool) (opening : Opening) (b : ℕ) → b ≡ 27 → NextIs eight opening b (Some Escape)
 next_anew eight opening b e =
-    λ held is.
-    advances_anew eight opening Escape held b is (rejects_escape opening b e) refl
-    (ap (λ (x : ℕ). x ∷ []) e)
+    let rejects = rejects_all opening b (λ i. absurd (omega (arith, e, i)))
+    (ap is_parameter e, λ i. absurd (omega (arith, e, i))) in
+    λ held is. advances_anew eight opening Escape held b is rejects refl (ap (λ (x : ℕ). x ∷ []) e)
 
 pub next_introducer : (eight : Bool) (opening : Opening) (b : ℕ) → IsTrue eight → b ≡ 144
     → NextIs eight opening b (Some Control)
 next_introducer eight opening b on e =
-    λ held is.
-    advances_anew eight opening Control held b is (rejects_introducer opening b e) refl
-    (on, ap (λ (x : ℕ). x ∷ []) e)
+    let rejects = rejects_all opening b (λ i. absurd (omega (arith, e, i)))
+    (ap is_parameter e, λ i. absurd (omega (arith, e, i))) in
+    λ held is. advances_anew eight opening Control held b is rejects refl (on, ap (λ (x : ℕ). x ∷ []) e)
 
 pub next_past : (eight : Bool) (opening : Opening) (b : ℕ) → Rejects opening b → BeginsNone eight b
     → NextIs eight opening b (Some Nothing)
-next_past eight opening b rejects none = λ held is. advances_past eight opening held b is rejects none
+next_past eight opening b rejects none = λ held is. advances_past opening held is rejects none
 
 pub next_letter : (eight : Bool) (b : ℕ) → b ≡ 80 → NextIs eight Escape b (Some Letter)
 next_letter eight b e =
@@ -303,21 +283,18 @@ next_letter eight b e =
     advances_on eight Letter held b (omega (arith, ap length is))
     (ap (λ (t : List ℕ). t ++ b ∷ []) is ∙ ap (λ (x : ℕ). 27 ∷ x ∷ []) e)
 
-pub next_on : (eight : Bool) (opening : Opening) (b : ℕ) → is_introduced opening ≡ true → BeginsNone eight b
+pub next_on : {eight : Bool} (opening : Opening) {b : ℕ} → is_introduced opening ≡ true → BeginsNone eight b
     → NextIs eight opening b (after_parameters b)
-next_on eight Nothing b on none = absurd (let on : false ≡ true = on in cc)
-next_on eight Escape b on none = absurd (let on : false ≡ true = on in cc)
-next_on eight Letter b on none =
+next_on Nothing on none = absurd (let on : false ≡ true = on in cc)
+next_on Escape on none = absurd (let on : false ≡ true = on in cc)
+next_on {eight} Letter {b} on none =
     λ held is.
-    (parameter_goes eight held b (letter_begun eight held is)
-    (λ rejects. advances_past eight Letter held b is rejects none)).goes
-next_on eight Control b on none =
+    (parameter_goes b (letter_begun eight held is) (λ rejects. advances_past Letter held is rejects none)).goes
+next_on {eight} Control {b} on none =
     λ held is.
-    (parameter_goes eight held b (control_begun eight held is)
-    (λ rejects. advances_past eight Control held b is rejects none)).goes
-next_on eight Introduced b on none =
-    λ held is.
-    (parameter_goes eight held b is (λ rejects. advances_past eight Introduced held b is rejects none)).goes
+    (parameter_goes b (control_begun eight held is) (λ rejects. advances_past Control held is rejects none)).goes
+next_on Introduced {b} on none =
+    λ held is. (parameter_goes b is (λ rejects. advances_past Introduced held is rejects none)).goes
 
 -- a byte that is neither ESC nor, if 8-bit controls count, their introducer
 pub begins_none_by : (eight : Bool) (b : ℕ) → b ≢ 27 → (eight ≡ false) ⊎ (b ≢ 144) → BeginsNone eight b
@@ -338,35 +315,18 @@ introduced_by opening which = elim which [
 
 -- ---- at the end of the stream, no opening begins in what is held
 
-no_final_at_end : (parameters : List ℕ) → AreParameters parameters → HasFinal parameters → ⊥
-no_final_at_end parameters are h =
-    no_final (final_past parameters [] are (subst HasFinal (sym (append-nil parameters)) h))
-
-begun_dead_at_end : (eight by_eight : Bool) (parameters : List ℕ) (n : ℕ) → AreParameters parameters
-    → n < length (introducer by_eight ++ parameters) → OpensAt eight (introducer by_eight ++ parameters) n → ⊥
-begun_dead_at_end eight true parameters zero are lt o =
-    begun_none eight true parameters (no_final_at_end parameters are) o
-begun_dead_at_end eight true parameters (suc n) are lt o =
-    parameters_dead eight parameters [] n are (omega (arith, lt))
-    (subst (λ (t : List ℕ). OpensAt eight t n) (sym (append-nil parameters)) o)
-begun_dead_at_end eight false parameters zero are lt o =
-    begun_none eight false parameters (no_final_at_end parameters are) o
-begun_dead_at_end eight false parameters (suc zero) are lt o =
-    not_opening eight 80 parameters (letter_begins_none eight) o
-begun_dead_at_end eight false parameters (suc (suc n)) are lt o =
-    parameters_dead eight parameters [] n are (omega (arith, lt))
-    (subst (λ (t : List ℕ). OpensAt eight t n) (sym (append-nil parameters)) o)
-
 begun_in : (eight by_eight : Bool) (parameters : List ℕ) (n : ℕ) → AreParameters parameters
     → OpensAt eight (introducer by_eight ++ parameters) n → ⊥
 begun_in eight by_eight parameters n are o =
     elim (cases_lt n (length (introducer by_eight ++ parameters))) [
-      | inl below ↦ begun_dead_at_end eight by_eight parameters n are below o
+      | inl below ↦
+          begun_dead eight by_eight parameters [] n are (λ h. no_final (final_past parameters [] are h)) below
+          (subst (λ (t : List ℕ). OpensAt eight (introducer by_eight ++ t) n) (sym (append-nil parameters)) o)
       | inr past ↦ nothing_opens eight (subst (Opens eight) (drop_all n (introducer by_eight ++ parameters) past) o)
     ]
 
-is_begun_in : (eight : Bool) (held : List ℕ) → IsBegun eight held → HasNoOpening eight held
-is_begun_in eight held is =
+is_begun_in : {eight : Bool} {held : List ℕ} → IsBegun eight held → HasNoOpening eight held
+is_begun_in {eight} is =
     subst (HasNoOpening eight) (sym is.bytes_are)
     (λ n o. begun_in eight is.by_eight is.parameters n is.parameters_are o)
 
@@ -374,10 +334,9 @@ escape_in : (eight : Bool) (n : ℕ) → OpensAt eight (27 ∷ []) n → ⊥
 escape_in eight zero o = escape_alone eight o
 escape_in eight (suc n) o = none_in_nothing eight n o
 
-pub held_in : (eight : Bool) (opening : Opening) (held : List ℕ) → IsHeld eight opening held
-    → HasNoOpening eight held
+pub held_in : (eight : Bool) (opening : Opening) (held : List ℕ) → IsHeld eight opening held → HasNoOpening eight held
 held_in eight Nothing held is = subst (HasNoOpening eight) (sym is) (none_in_nothing eight)
 held_in eight Escape held is = subst (HasNoOpening eight) (sym is) (escape_in eight)
-held_in eight Letter held is = is_begun_in eight held (letter_begun eight held is)
-held_in eight Control held is = is_begun_in eight held (control_begun eight held is)
-held_in eight Introduced held is = is_begun_in eight held is
+held_in eight Letter held is = is_begun_in (letter_begun eight held is)
+held_in eight Control held is = is_begun_in (control_begun eight held is)
+held_in eight Introduced held is = is_begun_in is

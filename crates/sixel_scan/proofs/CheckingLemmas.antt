@@ -16,8 +16,8 @@ use Rattle.sixel_judge.specs.declared.verdict.Verdict.TheVariants.{Portable, Bro
 use Rattle.sixel_judge.specs.declared.verdict.Finding.{Finding}
 use Rattle.sixel_scan.specs.declared.string_check.StringCheck.{StringCheck}
 use Rattle.sixel_judge.specs.declared.verdict.Outcome.{Outcome}
-use Rattle.sixel_judge.specs.declared.verdict.Outcome.TheVariants.{Portable as PortableSize, Broken as BrokenRule}
-use Rattle.sixel_scan.specs.declared.answer.Answer.TheVariants.{Portable as SaysPortable, Broken as SaysBroken, Refused}
+use Rattle.sixel_judge.specs.declared.verdict.Outcome.TheVariants.{Broken as BrokenRule}
+use Rattle.sixel_scan.specs.declared.answer.Answer.TheVariants.{Broken as SaysBroken}
 use Rattle.sixel_scan.specs.Answers.{IsPlacedWithin, Tells, briefly}
 use Rattle.sixel_scan.specs.Checking.{AreAfter, HasRead}
 
@@ -108,31 +108,22 @@ placed_within n (p ∷ ps) (suc i) k e =
     let h = placed_within (n + length (bytes_of p)) ps i k e in
     omega (arith, h, length-append (bytes_of p) (joined ps))
 
-pub finding_within : (registers : ℕ) (events : List Placed) (bytes : List ℕ) (finding : Finding) (i : ℕ)
+pub finding_within : {registers : ℕ} {events : List Placed} {bytes : List ℕ} {finding : Finding} {i : ℕ}
     → Document events bytes → IsFinding registers events finding i → finding.place ≤ length bytes
-finding_within registers events bytes finding i d f =
+finding_within {finding} {i} d f =
     let there : option_map (λ (p : Placed). p.place) (slice_get (placed_from 0 d.pieces) i) ≡ Some finding.place =
     sym (ap (λ (es : List Placed). option_map (λ (p : Placed). p.place) (slice_get es i)) d.events_are) ∙ f.place in
     let h = placed_within 0 d.pieces i finding.place there in
     omega (arith, h, ap length d.parses.bytes_are, length-append (joined d.pieces) d.parses.after)
 
-pub verdict_within : (registers : ℕ) (events : List Placed) (bytes : List ℕ) (verdict : Verdict)
-    → Document events bytes → IsVerdict registers events verdict → IsPlacedWithin (length bytes) (Ok verdict)
-verdict_within registers events bytes (Portable picture) d v = tt
-verdict_within registers events bytes (Broken finding) d v =
-    finding_within registers events bytes finding v.0 d v.1
+pub verdict_within : (registers : ℕ) {events : List Placed} {bytes : List ℕ} (verdict : Verdict) → Document events bytes
+    → IsVerdict registers events verdict → IsPlacedWithin (length bytes) (Ok verdict)
+verdict_within registers (Portable picture) d v = tt
+verdict_within registers (Broken finding) d v = finding_within d v.1
 
 -- ---- what is told without the picture
 
-pub told_portable : (place width height : ℕ) (whole : Result Verdict Fault)
-    → (let r : Result Outcome Fault = Ok (PortableSize width height) in r) ≡ briefly whole
-    → Tells place whole (SaysPortable width height)
-told_portable place width height (Ok (Portable picture)) is = cc
-told_portable place width height (Ok (Broken finding)) is = cc
-told_portable place width height (Err fault) is = cc
-
-same_broken : (f g : Finding)
-    → (let r : Result Outcome Fault = Ok (BrokenRule f) in r) ≡ Ok (BrokenRule g) → f ≡ g
+same_broken : (f g : Finding) → (let r : Result Outcome Fault = Ok (BrokenRule f) in r) ≡ Ok (BrokenRule g) → f ≡ g
 same_broken f g is = cc
 
 pub told_broken : (place : ℕ) (f : Finding) (whole : Result Verdict Fault)
@@ -142,29 +133,3 @@ told_broken place f (Ok (Portable picture)) is = cc
 told_broken place f (Ok (Broken finding)) is =
     ap (λ (g : Finding). SaysBroken (record g { place = place + g.place })) (same_broken f finding is)
 told_broken place f (Err fault) is = cc
-
-same_fault : (f g : Fault) → (let r : Result Outcome Fault = Err f in r) ≡ Err g → f ≡ g
-same_fault f g is = cc
-
-pub told_refused : (place : ℕ) (f : Fault) (whole : Result Verdict Fault)
-    → (let r : Result Outcome Fault = Err f in r) ≡ briefly whole
-    → Tells place whole (Refused (record f { place = place + f.place }))
-told_refused place f (Ok (Portable picture)) is = cc
-told_refused place f (Ok (Broken finding)) is = cc
-told_refused place f (Err fault) is =
-    ap (λ (g : Fault). Refused (record g { place = place + g.place })) (same_fault f fault is)
-
-pub broken_below : (size : ℕ) (f : Finding) (whole : Result Verdict Fault)
-    → (let r : Result Outcome Fault = Ok (BrokenRule f) in r) ≡ briefly whole → IsPlacedWithin size whole
-    → f.place ≤ size
-broken_below size f (Ok (Portable picture)) is within = cc
-broken_below size f (Ok (Broken finding)) is within =
-    omega (arith, within, ap (λ (g : Finding). g.place) (same_broken f finding is))
-broken_below size f (Err fault) is within = cc
-
-pub refused_below : (size : ℕ) (f : Fault) (whole : Result Verdict Fault)
-    → (let r : Result Outcome Fault = Err f in r) ≡ briefly whole → IsPlacedWithin size whole → f.place ≤ size
-refused_below size f (Ok (Portable picture)) is within = cc
-refused_below size f (Ok (Broken finding)) is within = cc
-refused_below size f (Err fault) is within =
-    omega (arith, within, ap (λ (g : Fault). g.place) (same_fault f fault is))

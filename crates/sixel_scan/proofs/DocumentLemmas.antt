@@ -67,8 +67,7 @@ fields_inside eight (n ∷ m ∷ ns) bytes h =
 
 command_inside : (eight : Bool) (c : Command) (bytes : List ℕ) → SpellsCommand c bytes → AreInside eight bytes
 command_inside eight (Sixel bits) bytes h =
-    subst (AreInside eight) (sym h.1)
-    (inside_between eight (63 + bits) (omega arith) (omega (arith, h.0)), tt)
+    subst (AreInside eight) (sym h.1) (inside_between eight (63 + bits) (omega arith) (omega (arith, h.0)), tt)
 command_inside eight (Repeat count bits) bytes h =
     subst (AreInside eight) (sym h.3)
     (inside_append eight (33 ∷ h.0) ((63 + bits) ∷ [])
@@ -107,7 +106,7 @@ inside_off = record {
 terminator_ends : (eight by_eight : Bool) → EndsFirst eight (terminator by_eight) []
 terminator_ends eight false = end_at_terminator eight []
 terminator_ends true true = end_at_eight true [] refl
-terminator_ends false true = end_more false 156 [] [] inside_off (end_of_stream false)
+terminator_ends false true = end_more inside_off (end_of_stream false)
 
 finish_ends : (eight by_eight : Bool) (filler text after : List ℕ) → AreFiller filler → text ≡ terminator by_eight
     → after ≡ [] → EndsFirst eight (filler ++ text ++ after) []
@@ -115,14 +114,14 @@ finish_ends eight by_eight filler text after are is none =
     let whole : filler ++ terminator by_eight ≡ filler ++ text ++ after =
     sym (ap₂ (λ (a b : List ℕ). filler ++ a ++ b) is none ∙ append-nil (filler ++ terminator by_eight)) in
     subst (λ (t : List ℕ). EndsFirst eight t []) whole
-    (ends_past eight filler (terminator by_eight) [] (fillers_inside eight filler are) (terminator_ends eight by_eight))
+    (ends_past filler (fillers_inside eight filler are) (terminator_ends eight by_eight))
 
 piece_ends : (eight : Bool) (filler text : List ℕ) (e : Event) (ps : List Piece) → AreFiller filler → Spells e text
     → AreRest (e ∷ events_in ps) → (AreRest (events_in ps) → EndsFirst eight (joined ps) [])
     → EndsFirst eight (filler ++ text ++ joined ps) []
 piece_ends eight filler text (Start by_eight parameters) ps are spells rest more = absurd rest
 piece_ends eight filler text (Step c) ps are spells rest more =
-    ends_past eight (filler ++ text) (joined ps) []
+    ends_past (filler ++ text)
     (inside_append eight filler text (fillers_inside eight filler are) (command_inside eight c text spells)) (more rest)
 piece_ends eight filler text (Finish by_eight) ps are spells rest more =
     finish_ends eight by_eight filler text (joined ps) are spells (nothing_joined ps rest)
@@ -196,8 +195,7 @@ whole_by eight [] text (Start false parameters) ps more are spells whole rest st
 }
 whole_by eight [] text (Step c) ps more are spells whole rest starts = absurd whole
 whole_by eight [] text (Finish by_eight) ps more are spells whole rest starts = absurd whole
-whole_by eight (f ∷ filler) text e ps more are spells whole rest starts =
-    absurd (filler_not f 27 are.0 refl (cc))
+whole_by eight (f ∷ filler) text e ps more are spells whole rest starts = absurd (filler_not f 27 are.0 refl (cc))
 
 whole_string : (eight : Bool) (pieces : List Piece) (more : List ℕ) → AllByRecursion IsPiece pieces
     → AreWhole (events_in pieces) → joined pieces ≡ 27 ∷ 80 ∷ more → IsString eight (joined pieces) []
@@ -217,4 +215,4 @@ one_string eight events bytes more document starts bare =
     subst (λ (t : List ℕ). IsString eight t []) (sym is)
     (whole_string eight document.pieces more p.each p.whole (sym is ∙ starts)) in
     subst (AreStrings eight (record { place = 0; bytes = bytes } ∷ [])) (append-nil bytes)
-    (begin_with eight 0 bytes [] [] string (none_in_nothing eight))
+    (begin_with 0 [] string (none_in_nothing eight))

@@ -16,10 +16,11 @@ use Rattle.sixel_grammar.proofs.PieceLemmas.{all-append}
 use Rattle.sixel_judge.specs.Growth.{MayGrowAmong, MayGrowIn}
 use Rattle.sixel_scan.specs.declared.opening.Opening.TheVariants.{Introduced}
 use Rattle.sixel_scan.specs.Openings.{Advances, IsBegun}
-use Rattle.sixel_scan.specs.declared.scanner.Stage.TheVariants.{Inside}
+use Rattle.sixel_scan.specs.declared.scanner.Stage.{Stage}
+use Rattle.sixel_scan.specs.declared.scanner.Stage.TheVariants.{Escaped, Inside}
 use Rattle.sixel_scan.specs.declared.string_check.StringCheck.{StringCheck}
 use Rattle.sixel_scan.specs.Prefixes.{AreBeforeGrowth}
-use Rattle.sixel_scan.specs.Standing.{IsOpenString, StandsWith}
+use Rattle.sixel_scan.specs.Standing.{IsOpenString, ReadsNextWith, StandsWith}
 use Rattle.sixel_scan.specs.Strings.{AreParameters, IsOpening, Opens, StringAt, final, is_parameter}
 use Rattle.sixel_scan.proofs.ListLemmas.{shorter_first}
 use Rattle.sixel_scan.proofs.OpeningLemmas.{bool_cases}
@@ -52,8 +53,8 @@ introducer_without : (by_eight : Bool) → HasNoFinal (introducer by_eight)
 introducer_without true = (λ e. absurd (omega (arith, e)), tt)
 introducer_without false = (λ e. absurd (omega (arith, e)), (λ e. absurd (omega (arith, e)), tt))
 
-begun_without : (eight : Bool) (bytes : List ℕ) → IsBegun eight bytes → HasNoFinal bytes
-begun_without eight bytes b =
+begun_without : {eight : Bool} {bytes : List ℕ} → IsBegun eight bytes → HasNoFinal bytes
+begun_without b =
     subst HasNoFinal (sym b.bytes_are)
     (all-append (λ x. x ≢ final) (introducer b.by_eight) b.parameters (introducer_without b.by_eight)
     (parameters_without b.parameters b.parameters_are))
@@ -96,8 +97,8 @@ none_among registers events grows none =
     let at = subst (MayGrowAmong registers) none grows in
     let no : slice_get (let l : List Event = [] in l) at.0 ≡ Some at.1.item = at.1.here in cc
 
-nothing_grows : (registers : ℕ) (bytes : List ℕ) → HasNoFinal bytes → MayGrowIn registers bytes → ⊥
-nothing_grows registers bytes none g =
+nothing_grows : {registers : ℕ} {bytes : List ℕ} → HasNoFinal bytes → MayGrowIn registers bytes → ⊥
+nothing_grows {registers} none g =
     let c = g.complete in
     pieces_have_one c.pieces g.prefix c.tail c.parses (none_first g.prefix g.rest (subst HasNoFinal g.bytes_are none))
     (λ e. none_among registers g.events g.grows (c.complete ∙ e))
@@ -105,37 +106,60 @@ nothing_grows registers bytes none g =
 -- ---- the opening of the string
 
 -- after an introducer, digits and `;`, nothing is allocated
-pub begun_grows_not : (eight : Bool) (registers : ℕ) (held : List ℕ) (byte : ℕ) → Advances eight Introduced held byte
+pub begun_grows_not : {eight : Bool} {registers : ℕ} {held : List ℕ} {byte : ℕ} → Advances eight Introduced held byte
     → MayGrowIn registers (held ++ byte ∷ []) → ⊥
-begun_grows_not eight registers held byte a grows =
+begun_grows_not {eight} {registers} {held} {byte} a grows =
     let kept : held ++ byte ∷ [] ≡ a.kept = a.bytes_are ∙ ap (λ (t : List ℕ). t ++ a.kept) (a.grows refl).0 in
-    nothing_grows registers a.kept (begun_without eight a.kept a.is_held) (subst (MayGrowIn registers) kept grows)
+    nothing_grows (begun_without a.is_held) (subst (MayGrowIn registers) kept grows)
 
-pub opens_now : (eight : Bool) (bytes : List ℕ) → IsOpening eight bytes → Opens eight bytes
-opens_now eight bytes is = (bytes, [], is, sym (append-nil bytes))
+pub opens_now : {eight : Bool} {bytes : List ℕ} → IsOpening eight bytes → Opens eight bytes
+opens_now {bytes} is = (bytes, [], is, sym (append-nil bytes))
 
-pub opens_before : (eight : Bool) (held more : List ℕ) → IsOpenString eight held → Opens eight (held ++ more)
-opens_before eight held more h = (
+pub opens_before : {eight : Bool} {held : List ℕ} (more : List ℕ) → IsOpenString eight held → Opens eight (held ++ more)
+opens_before more h = (
   h.opening,
   h.body ++ more,
   h.opens,
   ap (λ (t : List ℕ). t ++ more) h.bytes_are ∙ append_assoc h.opening h.body more,
 )
 
-pub opens_escaped : (eight : Bool) (string more : List ℕ) → IsOpenString eight string
+pub opens_escaped : {eight : Bool} {string : List ℕ} (more : List ℕ) → IsOpenString eight string
     → Opens eight ((string ++ 27 ∷ []) ++ more)
-opens_escaped eight string more h =
-    subst (Opens eight) (sym (append_assoc string (27 ∷ []) more)) (opens_before eight string (27 ∷ more) h)
+opens_escaped {eight} {string} more h =
+    subst (Opens eight) (sym (append_assoc string (27 ∷ []) more)) (opens_before (27 ∷ more) h)
+
+-- at a byte that comes
+pub byte_grows : {eight : Bool} {registers read opened : ℕ} {check : StringCheck} {stage : Stage} {byte : ℕ}
+    {told : List StringAt} {bytes : List ℕ} (r : ReadsNextWith eight registers read opened check stage byte told bytes)
+    → Opens eight (r.held ++ byte ∷ []) → MayGrowIn registers (r.held ++ byte ∷ [])
+    → AreBeforeGrowth eight registers told bytes
+byte_grows {byte} r opens grows = record {
+  before = r.before;
+  string = r.held ++ byte ∷ [];
+  bytes_are = r.bytes_are;
+  resumes = r.resumes;
+  opens = opens;
+  grows = grows;
+}
+
+-- at the byte after an ESC
+pub escape_grows : {eight : Bool} {registers read opened : ℕ} {check : StringCheck} {byte : ℕ} {told : List StringAt}
+    {bytes : List ℕ} (r : ReadsNextWith eight registers read opened check Escaped byte told bytes)
+    → MayGrowIn registers ((r.holds.0 ++ 27 ∷ []) ++ byte ∷ []) → AreBeforeGrowth eight registers told bytes
+escape_grows {eight} {registers} {byte} r grows =
+    byte_grows r
+    (subst (λ (t : List ℕ). Opens eight (t ++ byte ∷ [])) (sym r.holds.1) (opens_escaped (byte ∷ []) r.holds.2))
+    (subst (λ (t : List ℕ). MayGrowIn registers (t ++ byte ∷ [])) (sym r.holds.1) grows)
 
 -- in an open string and bytes after it
-pub stretch_grows : (eight : Bool) (registers read opened : ℕ) (check : StringCheck) (told : List StringAt)
-    (bytes run : List ℕ) (at : StandsWith eight registers read opened check Inside told bytes)
+pub stretch_grows : {eight : Bool} {registers read opened : ℕ} {check : StringCheck} {told : List StringAt}
+    {bytes : List ℕ} (run : List ℕ) (at : StandsWith eight registers read opened check Inside told bytes)
     → MayGrowIn registers (at.held ++ run) → AreBeforeGrowth eight registers told (bytes ++ run)
-stretch_grows eight registers read opened check told bytes run at grows = record {
+stretch_grows {eight} {told} {bytes} run at grows = record {
   before = at.before;
   string = at.held ++ run;
   bytes_are = ap (λ (t : List ℕ). t ++ run) at.bytes_are ∙ append_assoc at.before at.held run;
   resumes = resumes_more eight told bytes (length at.before) at.held run at.resumes;
-  opens = opens_before eight at.held run at.holds.0;
+  opens = opens_before run at.holds.0;
   grows = grows;
 }

@@ -21,8 +21,7 @@ shorter_rest a b c d e short =
     sym (drop-append-le (length a) c d short) ∙ ap (drop (length a)) (sym e) ∙ drop_at a b (length a) refl
 
 pub same_first : (a b c d : List ℕ) → a ++ b ≡ c ++ d → length a ≡ length c → a ≡ c
-same_first a b c d e long =
-    sym (shorter_first a b c d e (omega arith)) ∙ take_all (length a) c (omega arith)
+same_first a b c d e long = sym (shorter_first a b c d e (omega arith)) ∙ take_all (length a) c (omega arith)
 
 -- neither of two numbers is below the other
 pub no_less : (m n : ℕ) → (m < n → ⊥) → (n < m → ⊥) → m ≡ n

@@ -53,8 +53,8 @@ other_final b bytes (p ∷ parameters) rest off ne are e =
 pub other_byte : (b : ℕ) (bytes : List ℕ) → is_parameter b ≡ false → b ≢ 113 → HasFinal (b ∷ bytes) → ⊥
 other_byte b bytes off ne h = other_final b bytes h.parameters h.rest off ne h.parameters_are h.bytes_are
 
-final_more : (p : ℕ) (bytes : List ℕ) → is_parameter p ≡ true → HasFinal bytes → HasFinal (p ∷ bytes)
-final_more p bytes is h = record {
+final_more : (p : ℕ) {bytes : List ℕ} → is_parameter p ≡ true → HasFinal bytes → HasFinal (p ∷ bytes)
+final_more p is h = record {
   parameters = p ∷ h.parameters;
   parameters_are = (is, h.parameters_are);
   rest = h.rest;
@@ -69,7 +69,7 @@ final_by : (b : ℕ) (bytes : List ℕ) → (is_parameter b ≡ true) ⊎ (is_pa
     → HasFinal bytes ⊎ (HasFinal bytes → ⊥) → HasFinal (b ∷ bytes) ⊎ (HasFinal (b ∷ bytes) → ⊥)
 final_by b bytes parameter next = elim parameter [
   | inl is ↦ elim next [
-    | inl h ↦ inl (final_more b bytes is h)
+    | inl h ↦ inl (final_more b is h)
     | inr off ↦ inr (λ h. off (final_less b bytes (final_not_parameter b is) h))
   ]
   | inr is ↦ elim (cases_eq b 113) [
@@ -95,7 +95,6 @@ same_by [] b (y ∷ c) d p q e =
 same_by (x ∷ a) b [] d p q e =
     let same : x ≡ 113 = cc in absurd (final_not_parameter x p.0 same)
 same_by (x ∷ a) b (y ∷ c) d p q e =
-    let first : x ≡ y = cc in
     let rest : a ++ 113 ∷ b ≡ c ++ 113 ∷ d = cc in
     let same = same_by a b c d p.1 q.1 rest in cc
 
@@ -107,8 +106,7 @@ pub data Introduces (eight : Bool) (bytes rest : List ℕ) : Type 0 where
   ByEight : IsTrue eight → bytes ≡ 144 ∷ rest → Introduces eight bytes rest
 
 introduces_by : (eight by_eight : Bool) (bytes parameters rest : List ℕ) → (IsTrue by_eight → IsTrue eight)
-    → bytes ≡ introducer by_eight ++ parameters ++ 113 ∷ [] ++ rest
-    → Introduces eight bytes (parameters ++ 113 ∷ rest)
+    → bytes ≡ introducer by_eight ++ parameters ++ 113 ∷ [] ++ rest → Introduces eight bytes (parameters ++ 113 ∷ rest)
 introduces_by eight true bytes parameters rest allowed e =
     ByEight (allowed refl) (e ∙ ap (λ (t : List ℕ). 144 ∷ t) (append_assoc parameters (113 ∷ []) rest))
 introduces_by eight false bytes parameters rest allowed e =
@@ -133,12 +131,8 @@ opened_of eight bytes h =
       };
     }
 
-on_off : (b : Bool) → (b ≡ true) ⊎ (b ≡ false)
-on_off true = inl refl
-on_off false = inr refl
-
-pub opens_of : (eight : Bool) (bytes : List ℕ) → Opened eight bytes → Opens eight bytes
-opens_of eight bytes h =
+pub opens_of : {eight : Bool} {bytes : List ℕ} → Opened eight bytes → Opens eight bytes
+opens_of h =
     let f = h.closes in elim h.introduces [
       | BySeven e ↦ (
         introducer false ++ f.parameters ++ 113 ∷ [],
@@ -168,19 +162,20 @@ opens_of eight bytes h =
 
 -- ---- where there is none
 
-not_introduced : (eight : Bool) (b : ℕ) (bytes rest : List ℕ) → BeginsNone eight b
+not_introduced : {eight : Bool} {b : ℕ} (bytes : List ℕ) {rest : List ℕ} → BeginsNone eight b
     → Introduces eight (b ∷ bytes) rest → ⊥
-not_introduced eight b bytes rest none h = elim h [
+not_introduced bytes none h = elim h [
   | BySeven e ↦ none.no_escape (cc)
   | ByEight on e ↦ none.no_introducer on (cc)
 ]
 
-pub not_opening : (eight : Bool) (b : ℕ) (bytes : List ℕ) → BeginsNone eight b → Opens eight (b ∷ bytes) → ⊥
-not_opening eight b bytes none h =
-    let o = opened_of eight (b ∷ bytes) h in not_introduced eight b bytes o.after none o.introduces
+pub not_opening : {eight : Bool} {b : ℕ} (bytes : List ℕ) → BeginsNone eight b → Opens eight (b ∷ bytes) → ⊥
+not_opening {eight} {b} bytes none h =
+    let o = opened_of eight (b ∷ bytes) h in not_introduced bytes none o.introduces
 
-not_by_escape : (eight : Bool) (c : ℕ) (bytes rest : List ℕ) → c ≢ 80 → Introduces eight (27 ∷ c ∷ bytes) rest → ⊥
-not_by_escape eight c bytes rest ne h = elim h [
+not_by_escape : {eight : Bool} (c : ℕ) (bytes : List ℕ) {rest : List ℕ} → c ≢ 80
+    → Introduces eight (27 ∷ c ∷ bytes) rest → ⊥
+not_by_escape c bytes {rest} ne h = elim h [
   | BySeven e ↦ ne (cc)
   | ByEight on e ↦ heads_differ 27 144 (c ∷ bytes) rest (λ i. absurd (omega (arith, i))) e
 ]
@@ -188,26 +183,26 @@ not_by_escape eight c bytes rest ne h = elim h [
 -- an ESC that another byte than `P` follows
 pub escape_other : (eight : Bool) (c : ℕ) (bytes : List ℕ) → c ≢ 80 → Opens eight (27 ∷ c ∷ bytes) → ⊥
 escape_other eight c bytes ne h =
-    let o = opened_of eight (27 ∷ c ∷ bytes) h in not_by_escape eight c bytes o.after ne o.introduces
+    let o = opened_of eight (27 ∷ c ∷ bytes) h in not_by_escape c bytes ne o.introduces
 
-not_alone : (eight : Bool) (rest : List ℕ) → Introduces eight (27 ∷ []) rest → ⊥
-not_alone eight rest h = elim h [
+not_alone : {eight : Bool} {rest : List ℕ} → Introduces eight (27 ∷ []) rest → ⊥
+not_alone {rest} h = elim h [
   | BySeven e ↦ (cc)
   | ByEight on e ↦ heads_differ 27 144 [] rest (λ i. absurd (omega (arith, i))) e
 ]
 
 -- an ESC at the end
 pub escape_alone : (eight : Bool) → Opens eight (27 ∷ []) → ⊥
-escape_alone eight h = let o = opened_of eight (27 ∷ []) h in not_alone eight o.after o.introduces
+escape_alone eight h = let o = opened_of eight (27 ∷ []) h in not_alone o.introduces
 
 -- what follows an introducer
-after_introducer : (eight by_eight : Bool) (bytes rest : List ℕ) → Introduces eight (introducer by_eight ++ bytes) rest
-    → rest ≡ bytes
-after_introducer eight true bytes rest h = elim h [
+after_introducer : {eight : Bool} (by_eight : Bool) (bytes : List ℕ) {rest : List ℕ}
+    → Introduces eight (introducer by_eight ++ bytes) rest → rest ≡ bytes
+after_introducer true bytes {rest} h = elim h [
   | BySeven e ↦ absurd (heads_differ 144 27 bytes (80 ∷ rest) (λ i. absurd (omega (arith, i))) e)
   | ByEight on e ↦ (cc)
 ]
-after_introducer eight false bytes rest h = elim h [
+after_introducer false bytes {rest} h = elim h [
   | BySeven e ↦ (cc)
   | ByEight on e ↦ absurd (heads_differ 27 144 (80 ∷ bytes) rest (λ i. absurd (omega (arith, i))) e)
 ]
@@ -217,7 +212,7 @@ pub begun_none : (eight by_eight : Bool) (bytes : List ℕ) → (HasFinal bytes 
     → Opens eight (introducer by_eight ++ bytes) → ⊥
 begun_none eight by_eight bytes off h =
     let o = opened_of eight (introducer by_eight ++ bytes) h in
-    off (subst HasFinal (after_introducer eight by_eight bytes o.after o.introduces) o.closes)
+    off (subst HasFinal (after_introducer by_eight bytes o.introduces) o.closes)
 
 -- ---- an opening, or none
 
@@ -225,7 +220,7 @@ seven_or_none : (eight : Bool) (c : ℕ) (bytes : List ℕ) → HasFinal bytes �
     → (c ≡ 80) ⊎ (c ≡ 80 → ⊥) → Opens eight (27 ∷ c ∷ bytes) ⊎ (Opens eight (27 ∷ c ∷ bytes) → ⊥)
 seven_or_none eight c bytes ends p = elim p [
   | inl e ↦ elim ends [
-    | inl h ↦ inl (opens_of eight (27 ∷ c ∷ bytes) (record {
+    | inl h ↦ inl (opens_of (record {
       after = bytes;
       introduces = BySeven (ap (λ (x : ℕ). 27 ∷ x ∷ bytes) e);
       closes = h;
@@ -242,7 +237,7 @@ escape_or_none eight (c ∷ bytes) = seven_or_none eight c bytes (final_or_none 
 eight_or_none : (eight : Bool) (bytes : List ℕ) → IsTrue eight → HasFinal bytes ⊎ (HasFinal bytes → ⊥)
     → Opens eight (144 ∷ bytes) ⊎ (Opens eight (144 ∷ bytes) → ⊥)
 eight_or_none eight bytes on ends = elim ends [
-  | inl h ↦ inl (opens_of eight (144 ∷ bytes) (record { after = bytes; introduces = ByEight on refl; closes = h }))
+  | inl h ↦ inl (opens_of (record { after = bytes; introduces = ByEight on refl; closes = h }))
   | inr off ↦ inr (begun_none eight true bytes off)
 ]
 
@@ -269,27 +264,26 @@ first_by eight b on escape control = elim escape [
 
 -- what an opening may begin with
 pub first_of_byte : (eight : Bool) (b : ℕ) → First eight b
-first_of_byte eight b = first_by eight b (on_off eight) (cases_eq b 27) (cases_eq b 144)
+first_of_byte eight b = first_by eight b (bool_cases eight) (cases_eq b 27) (cases_eq b 144)
 
-opening_by : (eight : Bool) (b : ℕ) (bytes : List ℕ) → First eight b
+opening_by : {eight : Bool} {b : ℕ} (bytes : List ℕ) → First eight b
     → Opens eight (b ∷ bytes) ⊎ (Opens eight (b ∷ bytes) → ⊥)
-opening_by eight b bytes f = elim f [
+opening_by {eight} bytes f = elim f [
   | IsEscape e ↦ subst (λ (x : ℕ). Opens eight (x ∷ bytes) ⊎ (Opens eight (x ∷ bytes) → ⊥)) (sym e)
       (escape_or_none eight bytes)
   | IsIntroducer on e ↦ subst (λ (x : ℕ). Opens eight (x ∷ bytes) ⊎ (Opens eight (x ∷ bytes) → ⊥)) (sym e)
       (eight_or_none eight bytes on (final_or_none bytes))
-  | IsNone none ↦ inr (not_opening eight b bytes none)
+  | IsNone none ↦ inr (not_opening bytes none)
 ]
 
-pub opening_or_none : (eight : Bool) (b : ℕ) (bytes : List ℕ)
-    → Opens eight (b ∷ bytes) ⊎ (Opens eight (b ∷ bytes) → ⊥)
-opening_or_none eight b bytes = opening_by eight b bytes (first_of_byte eight b)
+pub opening_or_none : (eight : Bool) (b : ℕ) (bytes : List ℕ) → Opens eight (b ∷ bytes) ⊎ (Opens eight (b ∷ bytes) → ⊥)
+opening_or_none eight b bytes = opening_by bytes (first_of_byte eight b)
 
-no_bytes : (eight : Bool) (rest : List ℕ) → Introduces eight [] rest → ⊥
-no_bytes eight rest h = elim h [ BySeven e ↦ (cc) | ByEight on e ↦ (cc) ]
+no_bytes : {eight : Bool} {rest : List ℕ} → Introduces eight [] rest → ⊥
+no_bytes h = elim h [ BySeven e ↦ (cc) | ByEight on e ↦ (cc) ]
 
 pub nothing_opens : (eight : Bool) → Opens eight [] → ⊥
-nothing_opens eight h = let o = opened_of eight [] h in no_bytes eight o.after o.introduces
+nothing_opens eight h = let o = opened_of eight [] h in no_bytes o.introduces
 
 -- ---- each opening is one
 
@@ -300,25 +294,23 @@ same_by_introducer true true a b c d p q e =
     let rest : a ++ 113 ∷ [] ++ b ≡ c ++ 113 ∷ [] ++ d = cc in
     ap (λ (t : List ℕ). 144 ∷ t ++ 113 ∷ [])
     (same_by a b c d p q (sym (append_assoc a (113 ∷ []) b) ∙ rest ∙ append_assoc c (113 ∷ []) d))
-same_by_introducer true false a b c d p q e =
-    absurd (heads_differ 144 27 _ _ (λ i. absurd (omega (arith, i))) e)
-same_by_introducer false true a b c d p q e =
-    absurd (heads_differ 27 144 _ _ (λ i. absurd (omega (arith, i))) e)
+same_by_introducer true false a b c d p q e = absurd (heads_differ 144 27 _ _ (λ i. absurd (omega (arith, i))) e)
+same_by_introducer false true a b c d p q e = absurd (heads_differ 27 144 _ _ (λ i. absurd (omega (arith, i))) e)
 same_by_introducer false false a b c d p q e =
     let rest : a ++ 113 ∷ [] ++ b ≡ c ++ 113 ∷ [] ++ d = cc in
     ap (λ (t : List ℕ). 27 ∷ 80 ∷ t ++ 113 ∷ [])
     (same_by a b c d p q (sym (append_assoc a (113 ∷ []) b) ∙ rest ∙ append_assoc c (113 ∷ []) d))
 
-pub opening_once : (eight : Bool) (a b c d : List ℕ) → IsOpening eight a → IsOpening eight c → a ++ b ≡ c ++ d → a ≡ c
-opening_once eight a b c d p q e =
+pub opening_once : {eight : Bool} {a : List ℕ} (b : List ℕ) {c : List ℕ} (d : List ℕ) → IsOpening eight a
+    → IsOpening eight c → a ++ b ≡ c ++ d → a ≡ c
+opening_once b d p q e =
     p.opening_is
     ∙ same_by_introducer p.by_eight q.by_eight p.parameters b q.parameters d p.parameters_are q.parameters_are
-    (sym (ap (λ (t : List ℕ). t ++ b) p.opening_is) ∙ e ∙ ap (λ (t : List ℕ). t ++ d) q.opening_is)
-    ∙ sym q.opening_is
+    (sym (ap (λ (t : List ℕ). t ++ b) p.opening_is) ∙ e ∙ ap (λ (t : List ℕ). t ++ d) q.opening_is) ∙ sym q.opening_is
 
 opening_starts : (by_eight : Bool) (parameters : List ℕ) → introducer by_eight ++ parameters ++ 113 ∷ [] ≡ [] → ⊥
 opening_starts true parameters e = cc
 opening_starts false parameters e = cc
 
-pub opening_some : (eight : Bool) (opening : List ℕ) → IsOpening eight opening → opening ≡ [] → ⊥
-opening_some eight opening is e = opening_starts is.by_eight is.parameters (sym is.opening_is ∙ e)
+pub opening_some : {eight : Bool} {opening : List ℕ} → IsOpening eight opening → opening ≡ [] → ⊥
+opening_some is e = opening_starts is.by_eight is.parameters (sym is.opening_is ∙ e)

@@ -1,26 +1,20 @@
 -- What a scan reports, and what its calls ask.
-use Rattle.std.proofs.Common.{◌≡◌, ◌∙◌, ℕ, ◌+◌, ◌-◌, ◌<◌, ◌^◌, inl, inr, Bool, true, false, Option}
-use Rattle.std.proofs.Common.{List, [], ◌∷◌, ◌++◌, length, refl, sym, ap, subst, append_assoc, arith}
+use Rattle.std.proofs.Common.{◌≡◌, ℕ, ◌+◌, ◌-◌, ◌<◌, ◌^◌, Bool}
+use Rattle.std.proofs.Common.{List, [], ◌∷◌, ◌++◌, length, sym, ap, subst, append_assoc, arith}
 use Rattle.std.proofs.lemmas.List.{append-nil, length-append}
-use Rattle.sixel_judge.specs.Growth.{MayGrowIn}
-use Rattle.sixel_judge.proofs.GrowthLemmas.{grows_on}
 use Rattle.sixel_model.specs.Profiles.{count_of}
 use Rattle.sixel_scan.specs.declared.answer.Scanned.{Scanned}
 use Rattle.sixel_scan.specs.declared.opening.Opening.{Opening}
-use Rattle.sixel_scan.specs.declared.opening.Opening.TheVariants.{Escape}
 use Rattle.sixel_scan.specs.declared.scanner.Scanner.{Scanner}
 use Rattle.sixel_scan.specs.declared.scanner.Stage.{Stage}
 use Rattle.sixel_scan.specs.declared.scanner.Stage.TheVariants.{Text}
 use Rattle.sixel_scan.specs.declared.string_check.StringCheck.{StringCheck}
 use Rattle.sixel_scan.specs.Answers.{IsReported}
 use Rattle.sixel_scan.specs.Checking.{HasRead}
-use Rattle.sixel_scan.specs.Openings.{is_introduced, is_longer}
-use Rattle.sixel_scan.specs.Prefixes.{AreBeforeGrowth, Resumes}
-use Rattle.sixel_scan.specs.Standing.{Holds, IsOpenString, ReadsNextWith, Reports, ReportsAll, Stands, StandsWith}
+use Rattle.sixel_scan.specs.Prefixes.{Resumes}
+use Rattle.sixel_scan.specs.Standing.{Holds, ReadsNextWith, Reports, ReportsAll, Stands, StandsWith}
 use Rattle.sixel_scan.specs.Strings.{AreStringsFrom, IsString, StringAt}
 use Rattle.sixel_scan.proofs.AdvanceLemmas.{held_in}
-use Rattle.sixel_scan.proofs.GrowthLemmas.{opens_escaped}
-use Rattle.sixel_scan.proofs.OpeningLemmas.{bool_cases}
 use Rattle.sixel_scan.proofs.ScanLemmas.{reads_next, text_held}
 use Rattle.sixel_scan.proofs.StringLemmas.{begin_with, none_in_nothing, resumes_to_end}
 
@@ -33,12 +27,11 @@ reports_none s told bytes stands = record {
   stands = subst (λ (t : List StringAt). Stands s t bytes) (sym (append-nil told)) stands;
 }
 
-pub reports_one : (s : Scanner) (told : List StringAt) (bytes string : List ℕ) (registers opened place : ℕ)
-    (scanned : Scanned) → count_of s.profile ≡ registers → opened ≡ place
+pub reports_one : (s : Scanner) (told : List StringAt) (bytes string : List ℕ) {registers : ℕ} (opened place : ℕ)
+    {scanned : Scanned} → count_of s.profile ≡ registers → opened ≡ place
     → IsReported registers (record { place = opened; bytes = string }) scanned
-    → Stands s (told ++ record { place = place; bytes = string } ∷ []) bytes
-    → Reports s told bytes (scanned ∷ [])
-reports_one s told bytes string registers opened place scanned same at reported stands = record {
+    → Stands s (told ++ record { place = place; bytes = string } ∷ []) bytes → Reports s told bytes (scanned ∷ [])
+reports_one s told bytes string {registers} opened place {scanned} same at reported stands = record {
   found = record { place = place; bytes = string } ∷ [];
   reported = (
     subst (λ (n : ℕ). IsReported n (record { place = place; bytes = string }) scanned) (sym same)
@@ -56,41 +49,19 @@ pub room_for : (opened read : ℕ) (bytes before string : List ℕ) → opened �
 room_for opened read bytes before string at are is room =
     omega (arith, at, ap length are, length-append before string, is, room)
 
--- after a lone ESC, no opening is complete, and no introducer is followed by a digit or `;`
-pub not_longer : (o : Option Opening) → (is_longer o ≡ true → is_introduced Escape ≡ true) → is_longer o ≡ false
-not_longer o h = elim (bool_cases (is_longer o)) [
-  | inl on ↦ absurd (let wrong : false ≡ true = h on in cc)
-  | inr off ↦ off
-]
-
 pub two_read : (registers : ℕ) (check : StringCheck) (string : List ℕ) (byte : ℕ)
     → HasRead registers check ((string ++ 27 ∷ []) ++ byte ∷ []) → HasRead registers check (string ++ 27 ∷ byte ∷ [])
 two_read registers check string byte read =
     subst (HasRead registers check) (append_assoc string (27 ∷ []) (byte ∷ [])) read
 
 -- the stage is known
-pub next_at : (eight : Bool) (registers read opened : ℕ) (check : StringCheck) (stage now : Stage) (byte : ℕ)
-    (told : List StringAt) (bytes : List ℕ) → stage ≡ now
+pub next_at : {eight : Bool} {registers read opened : ℕ} {check : StringCheck} {stage now : Stage} {byte : ℕ}
+    {told : List StringAt} {bytes : List ℕ} → stage ≡ now
     → StandsWith eight registers read opened check stage told bytes
     → ReadsNextWith eight registers read opened check now byte told (bytes ++ byte ∷ [])
-next_at eight registers read opened check stage now byte told bytes is at =
+next_at {eight} {registers} {read} {opened} {check} {byte} {told} {bytes} is at =
     subst (λ (t : Stage). ReadsNextWith eight registers read opened check t byte told (bytes ++ byte ∷ [])) is
-    (reads_next eight registers read opened check stage byte told bytes at)
-
--- where a check may allocate at the ESC, and a byte follows
-pub escape_grows : (eight : Bool) (registers : ℕ) (told : List StringAt) (bytes before held string : List ℕ) (byte : ℕ)
-    → bytes ≡ before ++ (held ++ byte ∷ []) → held ≡ string ++ 27 ∷ []
-    → Resumes eight told bytes (length before) (held ++ byte ∷ []) → IsOpenString eight string
-    → MayGrowIn registers (string ++ 27 ∷ []) → AreBeforeGrowth eight registers told bytes
-escape_grows eight registers told bytes before held string byte are is r is_open grows = record {
-  before = before;
-  string = (string ++ 27 ∷ []) ++ byte ∷ [];
-  bytes_are = are ∙ ap (λ (t : List ℕ). before ++ (t ++ byte ∷ [])) is;
-  resumes = subst (λ (t : List ℕ). Resumes eight told bytes (length before) (t ++ byte ∷ [])) is r;
-  opens = opens_escaped eight string (byte ∷ []) is_open;
-  grows = grows_on (string ++ 27 ∷ []) (byte ∷ []) ((string ++ 27 ∷ []) ++ byte ∷ []) refl
-      grows;
-}
+    (reads_next byte at)
 
 -- ---- the end of the stream
 
@@ -109,11 +80,11 @@ all_told s told bytes opening is at =
     }
 
 -- a string is open, and ends with the stream
-pub last_told : (s : Scanner) (told : List StringAt) (bytes before held : List ℕ) (scanned : Scanned)
+pub last_told : (s : Scanner) (told : List StringAt) (bytes before : List ℕ) {held : List ℕ} {scanned : Scanned}
     → Resumes s.eight told bytes (length before) held → s.opened ≡ length before
-    → IsReported (count_of s.profile) (record { place = s.opened; bytes = held }) scanned
-    → IsString s.eight held [] → ReportsAll s told bytes (scanned ∷ [])
-last_told s told bytes before held scanned resumes at reported string = record {
+    → IsReported (count_of s.profile) (record { place = s.opened; bytes = held }) scanned → IsString s.eight held []
+    → ReportsAll s told bytes (scanned ∷ [])
+last_told s told bytes before {held} {scanned} resumes at reported string = record {
   found = record { place = length before; bytes = held } ∷ [];
   reported = (
     subst (λ (n : ℕ). IsReported (count_of s.profile) (record { place = n; bytes = held }) scanned) at reported,
@@ -122,13 +93,12 @@ last_told s told bytes before held scanned resumes at reported string = record {
   strings = resumes_to_end s.eight told (record { place = length before; bytes = held } ∷ []) bytes (length before)
       held resumes
       (subst (AreStringsFrom s.eight (length before) (record { place = length before; bytes = held } ∷ []))
-      (append-nil held) (begin_with s.eight (length before) held [] [] string (none_in_nothing s.eight)));
+      (append-nil held) (begin_with (length before) [] string (none_in_nothing s.eight)));
 }
 
 -- the bytes and what is held, at a known stage
 pub stands_at : (s : Scanner) (told : List StringAt) (bytes : List ℕ) (stage : Stage) → s.stage ≡ stage
-    → Stands s told bytes
-    → StandsWith s.eight (count_of s.profile) s.read s.opened s.check stage told bytes
+    → Stands s told bytes → StandsWith s.eight (count_of s.profile) s.read s.opened s.check stage told bytes
 stands_at s told bytes stage is at =
     subst (λ (t : Stage). StandsWith s.eight (count_of s.profile) s.read s.opened s.check t told bytes) is at
 

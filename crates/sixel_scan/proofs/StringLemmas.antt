@@ -3,7 +3,6 @@ use Rattle.std.proofs.Common.{◌≡◌, ◌∙◌, ℕ, zero, suc, ◌+◌, ◌
 use Rattle.std.proofs.Common.{inl, inr, refl, sym, ap, ap₂, subst, append_assoc, arith}
 use Rattle.std.proofs.lemmas.List.{append-nil, append_cancel_left, drop_at, length-append}
 use Rattle.sixel_scan.specs.Prefixes.{Resumes}
-use Rattle.sixel_scan.specs.Scanning.{NoneBegins}
 use Rattle.sixel_scan.specs.Strings.{AreStrings, AreStringsFrom, HasNoOpening, IsNext, IsString, Opens, OpensAt}
 use Rattle.sixel_scan.specs.Strings.{StringAt}
 use Rattle.sixel_scan.proofs.EndLemmas.{end_once, ending_of}
@@ -19,8 +18,7 @@ none_past eight b bytes zero none h o = none o
 none_past eight b bytes (suc n) none h o = h n o
 
 least_past : (eight : Bool) (b : ℕ) (text bytes : List ℕ) (n : ℕ) → (Opens eight (b ∷ bytes) → ⊥)
-    → ((m : ℕ) → m < length text → OpensAt eight bytes m → ⊥) → n < length (b ∷ text) → OpensAt eight (b ∷ bytes) n
-    → ⊥
+    → ((m : ℕ) → m < length text → OpensAt eight bytes m → ⊥) → n < length (b ∷ text) → OpensAt eight (b ∷ bytes) n → ⊥
 least_past eight b text bytes zero none h lt o = none o
 least_past eight b text bytes (suc n) none h lt o = h n (omega arith) o
 
@@ -41,10 +39,10 @@ pass eight offset b bytes (s ∷ more) none h = (h.0, next_past eight offset b s
 
 -- ---- a string at the beginning
 
-pub begin_with : (eight : Bool) (offset : ℕ) (string rest : List ℕ) (more : List StringAt) → IsString eight string rest
+pub begin_with : {eight : Bool} (offset : ℕ) {string rest : List ℕ} (more : List StringAt) → IsString eight string rest
     → AreStringsFrom eight (offset + length string) more rest
     → AreStringsFrom eight offset (record { place = offset; bytes = string } ∷ more) (string ++ rest)
-begin_with eight offset string rest more is h = (
+begin_with offset {string} {rest} more is h = (
   rest,
   record {
     text = [];
@@ -87,11 +85,11 @@ strings_within eight (suc fuel) offset (b ∷ bytes) le = elim (opening_or_none 
       let e = ending_of eight o.1 in
       let string = o.0 ++ e.body in
       let tail = strings_within eight fuel (offset + length string) e.rest
-      (rest_shorter b fuel bytes o.0 o.1 e.body e.rest o.3 e.bytes_are (opening_some eight o.0 o.2) le) in (
+      (rest_shorter b fuel bytes o.0 o.1 e.body e.rest o.3 e.bytes_are (opening_some o.2) le) in (
         record { place = offset; bytes = string } ∷ tail.0,
         subst (AreStringsFrom eight offset (record { place = offset; bytes = string } ∷ tail.0))
             (split_string (b ∷ bytes) o.0 o.1 e.body e.rest o.3 e.bytes_are)
-            (begin_with eight offset string e.rest tail.0
+            (begin_with offset tail.0
             (record { opening = o.0; body = e.body; opens = o.2; ends = e.ends; bytes_are = refl }) tail.1),
       )
   | inr none ↦
@@ -108,72 +106,66 @@ some_strings eight bytes = strings_from eight 0 bytes
 
 -- ---- no stream has two lists of strings
 
-next_split : (eight : Bool) (offset : ℕ) (s : StringAt) (bytes rest : List ℕ) (k : IsNext eight offset s bytes rest)
+next_split : {eight : Bool} {offset : ℕ} {s : StringAt} {bytes rest : List ℕ} (k : IsNext eight offset s bytes rest)
     → bytes ≡ k.text ++ (s.bytes ++ rest)
-next_split eight offset s bytes rest k = k.bytes_are ∙ append_assoc k.text s.bytes rest
+next_split {s} {rest} k = k.bytes_are ∙ append_assoc k.text s.bytes rest
 
-next_drop : (eight : Bool) (offset : ℕ) (s : StringAt) (bytes rest : List ℕ) (k : IsNext eight offset s bytes rest)
+next_drop : {eight : Bool} {offset : ℕ} {s : StringAt} {bytes rest : List ℕ} (k : IsNext eight offset s bytes rest)
     → drop (length k.text) bytes ≡ s.bytes ++ rest
-next_drop eight offset s bytes rest k =
-    ap (drop (length k.text)) (next_split eight offset s bytes rest k)
-    ∙ drop_at k.text (s.bytes ++ rest) (length k.text) refl
+next_drop {s} {rest} k =
+    ap (drop (length k.text)) (next_split k) ∙ drop_at k.text (s.bytes ++ rest) (length k.text) refl
 
-string_split : (eight : Bool) (bytes rest : List ℕ) (s : IsString eight bytes rest)
+string_split : {eight : Bool} {bytes rest : List ℕ} (s : IsString eight bytes rest)
     → bytes ++ rest ≡ s.opening ++ (s.body ++ rest)
-string_split eight bytes rest s =
-    ap (λ (t : List ℕ). t ++ rest) s.bytes_are ∙ append_assoc s.opening s.body rest
+string_split {rest} s = ap (λ (t : List ℕ). t ++ rest) s.bytes_are ∙ append_assoc s.opening s.body rest
 
-next_opens : (eight : Bool) (offset : ℕ) (s : StringAt) (bytes rest : List ℕ) (k : IsNext eight offset s bytes rest)
+next_opens : {eight : Bool} {offset : ℕ} {s : StringAt} {bytes rest : List ℕ} (k : IsNext eight offset s bytes rest)
     → OpensAt eight bytes (length k.text)
-next_opens eight offset s bytes rest k = (
+next_opens {rest} k = (
   k.string.opening,
   k.string.body ++ rest,
   k.string.opens,
-  next_drop eight offset s bytes rest k ∙ string_split eight s.bytes rest k.string,
+  next_drop k ∙ string_split k.string,
 )
 
-string_once : (eight : Bool) (a b c d : List ℕ) → IsString eight a b → IsString eight c d → a ++ b ≡ c ++ d
+string_once : {eight : Bool} {a b c d : List ℕ} → IsString eight a b → IsString eight c d → a ++ b ≡ c ++ d
     → (a ≡ c) × (b ≡ d)
-string_once eight a b c d p q e =
+string_once {a} {b} {c} {d} p q e =
     let parts : p.opening ++ (p.body ++ b) ≡ q.opening ++ (q.body ++ d) =
-    sym (string_split eight a b p) ∙ e ∙ string_split eight c d q in
+    sym (string_split p) ∙ e ∙ string_split q in
     let opening : p.opening ≡ q.opening =
-    opening_once eight p.opening (p.body ++ b) q.opening (q.body ++ d) p.opens q.opens parts in
+    opening_once (p.body ++ b) (q.body ++ d) p.opens q.opens parts in
     let after : p.body ++ b ≡ q.body ++ d =
     append_cancel_left q.opening (p.body ++ b) (q.body ++ d)
     (sym (ap (λ (t : List ℕ). t ++ (p.body ++ b)) opening) ∙ parts) in
-    let body : p.body ≡ q.body = end_once eight p.body b q.body d p.ends q.ends after in
+    let body : p.body ≡ q.body = end_once p.ends q.ends after in
     let same : a ≡ c =
     p.bytes_are ∙ ap₂ (λ (x y : List ℕ). x ++ y) opening body ∙ sym q.bytes_are in
     (same, append_cancel_left c b d (sym (ap (λ (t : List ℕ). t ++ b) same) ∙ e))
 
-same_texts : (eight : Bool) (offset : ℕ) (s t : StringAt) (bytes a b : List ℕ) (k : IsNext eight offset s bytes a)
+same_texts : {eight : Bool} {offset : ℕ} {s t : StringAt} {bytes a b : List ℕ} (k : IsNext eight offset s bytes a)
     (l : IsNext eight offset t bytes b) → length k.text ≡ length l.text
-same_texts eight offset s t bytes a b k l =
-    no_less (length k.text) (length l.text)
-    (λ lt. l.least (length k.text) lt (next_opens eight offset s bytes a k))
-    (λ lt. k.least (length l.text) lt (next_opens eight offset t bytes b l))
+same_texts k l =
+    no_less (length k.text) (length l.text) (λ lt. l.least (length k.text) lt (next_opens k))
+    (λ lt. k.least (length l.text) lt (next_opens l))
 
-next_once : (eight : Bool) (offset : ℕ) (s t : StringAt) (bytes a b : List ℕ) → IsNext eight offset s bytes a
+next_once : {eight : Bool} {offset : ℕ} {s t : StringAt} {bytes a b : List ℕ} → IsNext eight offset s bytes a
     → IsNext eight offset t bytes b → (s ≡ t) × (a ≡ b)
-next_once eight offset s t bytes a b k l =
-    let long = same_texts eight offset s t bytes a b k l in
+next_once {s} {t} {bytes} {a} {b} k l =
+    let long = same_texts k l in
     let after : s.bytes ++ a ≡ t.bytes ++ b =
-    sym (next_drop eight offset s bytes a k) ∙ ap (λ (n : ℕ). drop n bytes) long
-    ∙ next_drop eight offset t bytes b l in
-    let same = string_once eight s.bytes a t.bytes b k.string l.string after in
+    sym (next_drop k) ∙ ap (λ (n : ℕ). drop n bytes) long ∙ next_drop l in
+    let same = string_once k.string l.string after in
     let place : s.place ≡ t.place = omega (arith, k.place, l.place, long) in
     (ap₂ (λ (n : ℕ) (x : List ℕ). let r : StringAt = record { place = n; bytes = x } in r) place same.0, same.1)
 
 pub strings_once : (eight : Bool) (offset : ℕ) (first second : List StringAt) (bytes : List ℕ)
     → AreStringsFrom eight offset first bytes → AreStringsFrom eight offset second bytes → first ≡ second
 strings_once eight offset [] [] bytes p q = refl
-strings_once eight offset [] (t ∷ others) bytes p q =
-    absurd (p (length q.1.text) (next_opens eight offset t bytes q.0 q.1))
-strings_once eight offset (s ∷ more) [] bytes p q =
-    absurd (q (length p.1.text) (next_opens eight offset s bytes p.0 p.1))
+strings_once eight offset [] (t ∷ others) bytes p q = absurd (p (length q.1.text) (next_opens q.1))
+strings_once eight offset (s ∷ more) [] bytes p q = absurd (q (length p.1.text) (next_opens p.1))
 strings_once eight offset (s ∷ more) (t ∷ others) bytes p q =
-    let same = next_once eight offset s t bytes p.0 q.0 p.1 q.1 in
+    let same = next_once p.1 q.1 in
     let after : AreStringsFrom eight (t.place + length t.bytes) more q.0 =
     subst (λ (r : List ℕ). AreStringsFrom eight (t.place + length t.bytes) more r) same.1
     (subst (λ (x : StringAt). AreStringsFrom eight (x.place + length x.bytes) more p.0) same.0 p.2) in
@@ -185,9 +177,6 @@ pub one_list : (eight : Bool) (first second : List StringAt) (bytes : List ℕ) 
 one_list eight first second bytes p q = strings_once eight 0 first second bytes p q
 
 -- ---- a scan that goes on
-
-pub resumes_at_first : (eight : Bool) → Resumes eight [] [] 0 []
-resumes_at_first eight = λ found more h. h
 
 pub resumes_more : (eight : Bool) (told : List StringAt) (bytes : List ℕ) (offset : ℕ) (held piece : List ℕ)
     → Resumes eight told bytes offset held → Resumes eight told (bytes ++ piece) offset (held ++ piece)
@@ -202,32 +191,16 @@ pub resumes_past : (eight : Bool) (told : List StringAt) (bytes : List ℕ) (off
 resumes_past eight told bytes offset b held none r =
     λ found more h. r found more (pass eight offset b (held ++ more) found (none more) h)
 
--- past bytes at which no opening begins
-pub resumes_past_run : (eight : Bool) (told : List StringAt) (bytes : List ℕ) (offset : ℕ) (run held : List ℕ)
-    → NoneBegins eight run → Resumes eight told bytes offset (run ++ held)
-    → Resumes eight told bytes (offset + length run) held
-resumes_past_run eight told bytes offset [] held none r =
-    let e : offset ≡ offset + 0 = omega arith in subst (λ (n : ℕ). Resumes eight told bytes n held) e r
-resumes_past_run eight told bytes offset (b ∷ run) held none r =
-    let e : offset + 1 + length run ≡ offset + length (b ∷ run) = omega arith in
-    subst (λ (n : ℕ). Resumes eight told bytes n held) e
-    (resumes_past_run eight told bytes (offset + 1) run held (λ n more less. none (suc n) more (omega (arith, less)))
-    (resumes_past eight told bytes offset b (run ++ held)
-    (λ more h. none 0 (held ++ more) (omega arith)
-    (subst (λ (t : List ℕ). Opens eight (b ∷ t)) (append_assoc run held more) h)) r))
-
 -- past a string
 pub resumes_after : (eight : Bool) (told : List StringAt) (bytes : List ℕ) (offset : ℕ) (string held : List ℕ)
     → ((more : List ℕ) → IsString eight string (held ++ more)) → Resumes eight told bytes offset (string ++ held)
     → Resumes eight (told ++ record { place = offset; bytes = string } ∷ []) bytes (offset + length string) held
 resumes_after eight told bytes offset string held is r =
-    λ found more h.
-    subst (λ (t : List StringAt). AreStringsFrom eight 0 t (bytes ++ more))
+    λ found more h. subst (λ (t : List StringAt). AreStringsFrom eight 0 t (bytes ++ more))
     (sym (append_assoc told (record { place = offset; bytes = string } ∷ []) found))
     (r (record { place = offset; bytes = string } ∷ found) more
     (subst (AreStringsFrom eight offset (record { place = offset; bytes = string } ∷ found))
-    (sym (append_assoc string held more))
-    (begin_with eight offset string (held ++ more) found (is more) h)))
+    (sym (append_assoc string held more)) (begin_with offset found (is more) h)))
 
 -- at the end of the stream
 pub resumes_to_end : (eight : Bool) (told found : List StringAt) (bytes : List ℕ) (offset : ℕ) (held : List ℕ)

@@ -19,25 +19,21 @@ use Rattle.sixel_scan.proofs.StringLemmas.{one_list}
 
 -- ---- a scan that goes on
 
-pub reading_counts : (s : Scan) (told : List StringAt) (bytes : List ℕ) → IsReading s told bytes
+pub reading_counts : {s : Scan} {told : List StringAt} {bytes : List ℕ} → IsReading s told bytes
     → s.scanner.read + length s.unread ≡ length bytes
-reading_counts s told bytes r =
-    omega (arith, r.stands.read_is, ap length r.bytes_are, length-append r.read s.unread)
+reading_counts {s} r = omega (arith, r.stands.read_is, ap length r.bytes_are, length-append r.read s.unread)
 
 -- the scan hasn't ended, so it goes on
-pub still_goes : (eight : Bool) (registers : ℕ) (s : Scan) (remaining : Option (List ℕ)) (told : List StringAt)
-    (bytes : List ℕ) → s.ended ≡ false → HasTold eight registers s remaining told bytes
+pub still_goes : {eight : Bool} {registers : ℕ} {s : Scan} {remaining : Option (List ℕ)} {told : List StringAt}
+    {bytes : List ℕ} → s.ended ≡ false → HasTold eight registers s remaining told bytes
     → GoesOn eight registers s told bytes
-still_goes eight registers s remaining told bytes off h = elim h [
-  | inl g ↦ g
-  | inr t ↦ let both : true ≡ false = sym t.ended ∙ off in absurd (cc)
-]
+still_goes off h = elim h [ inl g ↦ g | inr t ↦ let both : true ≡ false = sym t.ended ∙ off in absurd (cc) ]
 
 -- the same choices, and the scan still reads
-pub goes_with : (eight : Bool) (registers : ℕ) (s t : Scan) (told now : List StringAt) (bytes after : List ℕ)
+pub goes_with : {eight : Bool} {registers : ℕ} {s t : Scan} {told now : List StringAt} {bytes after : List ℕ}
     → t.scanner.profile ≡ s.scanner.profile → t.scanner.eight ≡ s.scanner.eight → t.ended ≡ s.ended
     → GoesOn eight registers s told bytes → IsReading t now after → GoesOn eight registers t now after
-goes_with eight registers s t told now bytes after profile eight_same ended g r = record {
+goes_with profile eight_same ended g r = record {
   goes_on = ended ∙ g.goes_on;
   eight_is = eight_same ∙ g.eight_is;
   registers_are = ap count_of profile ∙ g.registers_are;
@@ -51,10 +47,10 @@ split_later first rest n =
     ∙ sym (append_assoc first (take n rest) (drop n rest))
 
 -- the scanner read some of the unread bytes
-pub tells_some : (s t : Scan) (told : List StringAt) (bytes : List ℕ) (count : ℕ) (reports : List Scanned)
+pub tells_some : {s : Scan} (t : Scan) {told : List StringAt} {bytes : List ℕ} (count : ℕ) {reports : List Scanned}
     → t.unread ≡ drop count s.unread → (r : IsReading s told bytes)
     → Reports t.scanner told (r.read ++ take count s.unread) reports → Tells t told bytes reports
-tells_some s t told bytes count reports rest r k = record {
+tells_some {s} t count rest r k = record {
   found = k.found;
   reported = k.reported;
   reading = record {
@@ -66,10 +62,10 @@ tells_some s t told bytes count reports rest r k = record {
   };
 }
 
-pub grows_some : (s : Scan) (told : List StringAt) (bytes : List ℕ) → (r : IsReading s told bytes)
+pub grows_some : {s : Scan} {told : List StringAt} {bytes : List ℕ} → (r : IsReading s told bytes)
     → (n : ℕ) × AreBeforeGrowth s.scanner.eight (count_of s.scanner.profile) told (r.read ++ take n s.unread)
     → GrowsWithin s.scanner.eight (count_of s.scanner.profile) told bytes
-grows_some s told bytes r grows = (
+grows_some {s} r grows = (
   r.read ++ take grows.0 s.unread,
   drop grows.0 s.unread,
   r.bytes_are ∙ split_later r.read s.unread grows.0,
@@ -78,79 +74,88 @@ grows_some s told bytes r grows = (
 )
 
 -- all that was taken is read
-pub all_read : (s : Scan) (told : List StringAt) (bytes : List ℕ) → s.unread ≡ [] → (r : IsReading s told bytes)
+pub all_read : {s : Scan} {told : List StringAt} {bytes : List ℕ} → s.unread ≡ [] → (r : IsReading s told bytes)
     → bytes ≡ r.read
-all_read s told bytes none r = r.bytes_are ∙ ap (λ (t : List ℕ). r.read ++ t) none ∙ append-nil r.read
+all_read none r = r.bytes_are ∙ ap (λ (t : List ℕ). r.read ++ t) none ∙ append-nil r.read
 
 -- the scanner has ended the stream
-pub tells_all : (s : Scan) (told : List StringAt) (bytes : List ℕ) (reports : List Scanned) → s.unread ≡ []
+pub tells_all : {s : Scan} {told : List StringAt} {bytes : List ℕ} {reports : List Scanned} → s.unread ≡ []
     → (r : IsReading s told bytes) → ReportsAll s.scanner told r.read reports → TellsAll s told bytes reports
-tells_all s told bytes reports none r k = record {
+tells_all {s} {told} none r k = record {
   found = k.found;
   reported = k.reported;
-  strings = subst (AreStrings s.scanner.eight (told ++ k.found)) (sym (all_read s told bytes none r)) k.strings;
+  strings = subst (AreStrings s.scanner.eight (told ++ k.found)) (sym (all_read none r)) k.strings;
 }
 
-pub grows_all : (s : Scan) (told : List StringAt) (bytes : List ℕ) → (r : IsReading s told bytes)
+pub grows_all : {s : Scan} {told : List StringAt} {bytes : List ℕ} → (r : IsReading s told bytes)
     → AreBeforeGrowth s.scanner.eight (count_of s.scanner.profile) told r.read
     → GrowsWithin s.scanner.eight (count_of s.scanner.profile) told bytes
-grows_all s told bytes r grows = (r.read, s.unread, r.bytes_are, grows, r.within)
+grows_all {s} r grows = (r.read, s.unread, r.bytes_are, grows, r.within)
 
 nothing_found : (registers : ℕ) (found : List StringAt) → AreReported registers found [] → found ≡ []
 nothing_found registers [] h = refl
 nothing_found registers (s ∷ more) h = absurd h
 
-pub tells_nothing : (s : Scan) (told : List StringAt) (bytes : List ℕ) → Tells s told bytes [] → IsReading s told bytes
-tells_nothing s told bytes t =
+pub tells_nothing : {s : Scan} {told : List StringAt} {bytes : List ℕ} → Tells s told bytes [] → IsReading s told bytes
+tells_nothing {s} {told} {bytes} t =
     subst (λ (x : List StringAt). IsReading s x bytes)
     (ap (λ (x : List StringAt). told ++ x) (nothing_found (count_of s.scanner.profile) t.found t.reported)
     ∙ append-nil told)
     t.reading
 
+pub no_string : (o : Option Scanned) → is_some o ≡ false → o ≡ None
+no_string None off = refl
+no_string (Some x) off = absurd (let both : true ≡ false = off in cc)
+
+pub told_none : {s : Scan} {told : List StringAt} {bytes : List ℕ} (o : Option Scanned) → is_some o ≡ false
+    → Tells s told bytes (option_to_list o) → Tells s told bytes []
+told_none {s} {told} {bytes} o off t =
+    subst (λ (x : Option Scanned). Tells s told bytes (option_to_list x)) (no_string o off) t
+
 -- ---- a scan and its source, after calls in which no string was told
 
-abbrev pub Goes : Scan → Option (List ℕ) → Scan → Option (List ℕ) → Type 0
-Goes s old t new =
-    (eight : Bool) (registers : ℕ) (told : List StringAt) (bytes : List ℕ) → GoesOn eight registers s told bytes
-    → (taken : List ℕ) × Consumes old new taken × GoesOn eight registers t told (bytes ++ taken)
+pub record Goes (s : Scan) (old : Option (List ℕ)) (t : Scan) (new : Option (List ℕ)) : Type 0 where
+  pub on : (eight : Bool) (registers : ℕ) (told : List StringAt) (bytes : List ℕ)
+      → GoesOn eight registers s told bytes
+      → (taken : List ℕ) × Consumes old new taken × GoesOn eight registers t told (bytes ++ taken)
 
-pub goes_first : (s : Scan) (remaining : Option (List ℕ)) → Goes s remaining s remaining
-goes_first s remaining = λ eight registers told bytes g. (
-  [],
-  Consumes-nil remaining,
-  subst (GoesOn eight registers s told) (sym (append-nil bytes)) g,
-)
+-- no string has ended in what was unread
+pub read_past : {s t u : Scan} {old mid : Option (List ℕ)} (o : Option Scanned) → Goes s old t mid
+    → u.scanner.profile ≡ t.scanner.profile → u.scanner.eight ≡ t.scanner.eight → u.ended ≡ t.ended → is_some o ≡ false
+    → ((told : List StringAt) (bytes : List ℕ) → IsReading t told bytes → Tells u told bytes (option_to_list o))
+    → Goes s old u mid
+read_past o goes profile eight_same ended off tells = record {
+  on = λ eight registers told bytes g.
+      let r = goes.on eight registers told bytes g in (
+        r.0,
+        r.1,
+        goes_with profile eight_same ended r.2
+            (tells_nothing (told_none o off (tells told (bytes ++ r.0) r.2.reading))),
+      );
+}
 
-pub goes_read : (s t u : Scan) (old mid : Option (List ℕ)) → Goes s old t mid
-    → u.scanner.profile ≡ t.scanner.profile → u.scanner.eight ≡ t.scanner.eight → u.ended ≡ t.ended
-    → ((told : List StringAt) (bytes : List ℕ) → IsReading t told bytes → Tells u told bytes []) → Goes s old u mid
-goes_read s t u old mid goes profile eight_same ended tells = λ eight registers told bytes g.
-    let r = goes eight registers told bytes g in (
-      r.0,
-      r.1,
-      goes_with eight registers t u told told (bytes ++ r.0) (bytes ++ r.0) profile eight_same ended r.2
-          (tells_nothing u told (bytes ++ r.0) (tells told (bytes ++ r.0) r.2.reading)),
-    )
-
-pub goes_taken : (s t u : Scan) (old mid new : Option (List ℕ)) (piece : List ℕ) → Goes s old t mid
-    → u.scanner ≡ t.scanner → u.ended ≡ t.ended → Consumes mid new piece
-    → ((told : List StringAt) (bytes : List ℕ) → IsReading t told bytes → IsReading u told (bytes ++ piece))
+-- and more was taken
+pub taken_past : {s t u : Scan} {old mid new : Option (List ℕ)} → Goes s old t mid
+    → u ≡ record t { unread = u.unread } → Consumes mid new u.unread
+    → ((told : List StringAt) (bytes : List ℕ) → IsReading t told bytes → IsReading u told (bytes ++ u.unread))
     → Goes s old u new
-goes_taken s t u old mid new piece goes same ended consumes more = λ eight registers told bytes g.
-    let r = goes eight registers told bytes g in (
-      r.0 ++ piece,
-      Consumes-trans old mid new r.0 piece r.1 consumes,
-      goes_with eight registers t u told told (bytes ++ r.0) (bytes ++ (r.0 ++ piece))
-          (ap (λ x. x.profile) same) (ap (λ x. x.eight) same) ended r.2
-          (subst (IsReading u told) (append_assoc bytes r.0 piece) (more told (bytes ++ r.0) r.2.reading)),
-    )
+taken_past {u} {old} {mid} {new} goes rest consumes more = record {
+  on = λ eight registers told bytes g.
+      let r = goes.on eight registers told bytes g in (
+        r.0 ++ u.unread,
+        Consumes-trans old mid new r.0 u.unread r.1 consumes,
+        goes_with (ap (λ (x : Scan). x.scanner.profile) rest) (ap (λ (x : Scan). x.scanner.eight) rest)
+            (ap (λ (x : Scan). x.ended) rest) r.2
+            (subst (IsReading u told) (append_assoc bytes r.0 u.unread) (more told (bytes ++ r.0) r.2.reading)),
+      );
+}
 
 -- ---- what a call answers
 
 -- the strings told are the first of the stream
-told_are_first : (eight : Bool) (registers : ℕ) (s : Scan) (remaining : Option (List ℕ)) (told : List StringAt)
-    (bytes : List ℕ) → HasTold eight registers s remaining told bytes → AreFirst eight remaining told bytes
-told_are_first eight registers s remaining told bytes h = elim h [
+told_are_first : {eight : Bool} {registers : ℕ} {s : Scan} {remaining : Option (List ℕ)} {told : List StringAt}
+    {bytes : List ℕ} → HasTold eight registers s remaining told bytes → AreFirst eight remaining told bytes
+told_are_first {s} {told} {bytes} h = elim h [
   | inl g ↦
       let k = g.reading in
       let ended = ended_of s.scanner.eight told k.read (length k.stands.before) k.stands.held k.stands.resumes in
@@ -166,34 +171,33 @@ told_are_first eight registers s remaining told bytes h = elim h [
 ]
 
 -- a string was told, or none
-pub next_told : (s t u : Scan) (old mid : Option (List ℕ)) (reports : List Scanned) → s.ended ≡ false → Goes s old t mid
-    → u.scanner.profile ≡ t.scanner.profile → u.scanner.eight ≡ t.scanner.eight → u.ended ≡ t.ended
+pub next_told : {s t u : Scan} {old mid : Option (List ℕ)} {reports : List Scanned} → s.ended ≡ false
+    → Goes s old t mid → u.scanner.profile ≡ t.scanner.profile → u.scanner.eight ≡ t.scanner.eight → u.ended ≡ t.ended
     → ((told : List StringAt) (bytes : List ℕ) → IsReading t told bytes → Tells u told bytes reports)
     → AfterTaking s old mid (λ eight registers told bytes. TellsNext eight registers u mid told bytes reports)
-next_told s t u old mid reports off goes profile eight_same ended tells = λ eight registers told bytes h.
-    let r = goes eight registers told bytes (still_goes eight registers s old told bytes off h) in
+next_told {u} {mid} {reports} off goes profile eight_same ended tells = λ eight registers told bytes h.
+    let r = goes.on eight registers told bytes (still_goes off h) in
     let k = tells told (bytes ++ r.0) r.2.reading in
     let has : HasTold eight registers u mid (told ++ k.found) (bytes ++ r.0) =
-    inl (goes_with eight registers t u told (told ++ k.found) (bytes ++ r.0) (bytes ++ r.0) profile eight_same ended
-    r.2 k.reading) in (
+    inl (goes_with profile eight_same ended r.2 k.reading) in (
       r.0,
       r.1,
       record {
         found = k.found;
         reported = subst (λ (n : ℕ). AreReported n k.found reports) (ap count_of profile ∙ r.2.registers_are)
             k.reported;
-        first = told_are_first eight registers u mid (told ++ k.found) (bytes ++ r.0) has;
+        first = told_are_first has;
         has_told = has;
       },
     )
 
 -- an allocation failed
-pub next_grows : (s t : Scan) (old mid : Option (List ℕ)) → s.ended ≡ false → Goes s old t mid
+pub next_grows : {s t : Scan} {old mid : Option (List ℕ)} → s.ended ≡ false → Goes s old t mid
     → ((told : List StringAt) (bytes : List ℕ) → IsReading t told bytes
     → GrowsWithin t.scanner.eight (count_of t.scanner.profile) told bytes)
     → AfterTaking s old mid (λ eight registers told bytes. GrowsWithin eight registers told bytes)
-next_grows s t old mid off goes grows = λ eight registers told bytes h.
-    let r = goes eight registers told bytes (still_goes eight registers s old told bytes off h) in (
+next_grows {t} off goes grows = λ eight registers told bytes h.
+    let r = goes.on eight registers told bytes (still_goes off h) in (
       r.0,
       r.1,
       subst (λ (n : ℕ). GrowsWithin eight n told (bytes ++ r.0)) r.2.registers_are
@@ -201,36 +205,30 @@ next_grows s t old mid off goes grows = λ eight registers told bytes h.
           (grows told (bytes ++ r.0) r.2.reading)),
     )
 
-given_reading : (s : Scan) (told : List StringAt) (bytes : List ℕ) → s.unread ≡ [] → IsReading s told bytes
-    → AreGiven s.scanner.eight told bytes
-given_reading s told bytes none r =
-    subst (AreGiven s.scanner.eight told) (sym (all_read s told bytes none r))
-    (given s.scanner told r.read r.stands)
-
 -- the source failed
-pub next_failed : (s t u : Scan) (old mid new : Option (List ℕ)) → s.ended ≡ false → Goes s old t mid → Keeps mid new
+pub next_failed : {s t u : Scan} {old mid new : Option (List ℕ)} → s.ended ≡ false → Goes s old t mid → Keeps mid new
     → t.unread ≡ [] → u ≡ t
     → AfterTaking s old new (λ eight registers told bytes. AreGiven eight told bytes
     × HasTold eight registers u new told bytes)
-next_failed s t u old mid new off goes kept none same = λ eight registers told bytes h.
-    let r = goes eight registers told bytes (still_goes eight registers s old told bytes off h) in (
+next_failed {t} {old} {mid} {new} off goes kept none same = λ eight registers told bytes h.
+    let r = goes.on eight registers told bytes (still_goes off h) in (
       r.0,
       Consumes-kept old mid new r.0 r.1 kept,
       (
         subst (λ (e : Bool). AreGiven e told (bytes ++ r.0)) r.2.eight_is
-            (given_reading t told (bytes ++ r.0) none r.2.reading),
+            (subst (AreGiven t.scanner.eight told) (sym (all_read none r.2.reading))
+            (given t.scanner told r.2.reading.read r.2.reading.stands)),
         inl (subst (λ (x : Scan). GoesOn eight registers x told (bytes ++ r.0)) (sym same) r.2),
       ),
     )
 
 -- the stream is over: the string that was open is told, if there was one
-pub next_last : (s t u : Scan) (old new : Option (List ℕ)) (reports : List Scanned) → s.ended ≡ false
-    → Goes s old t new → u.ended ≡ true
-    → ((told : List StringAt) (bytes : List ℕ) → IsReading t told bytes → IsOver new bytes)
+pub next_last : {s t u : Scan} {old new : Option (List ℕ)} {reports : List Scanned} → s.ended ≡ false → Goes s old t new
+    → u.ended ≡ true → ((told : List StringAt) (bytes : List ℕ) → IsReading t told bytes → IsOver new bytes)
     → ((told : List StringAt) (bytes : List ℕ) → IsReading t told bytes → TellsAll t told bytes reports)
     → AfterTaking s old new (λ eight registers told bytes. TellsNext eight registers u new told bytes reports)
-next_last s t u old new reports off goes ended over all = λ eight registers told bytes h.
-    let r = goes eight registers told bytes (still_goes eight registers s old told bytes off h) in
+next_last {u} {new} {reports} off goes ended over all = λ eight registers told bytes h.
+    let r = goes.on eight registers told bytes (still_goes off h) in
     let k = all told (bytes ++ r.0) r.2.reading in
     let through : IsThrough eight u new (told ++ k.found) (bytes ++ r.0) = record {
       ended = ended;
@@ -248,27 +246,24 @@ next_last s t u old new reports off goes ended over all = λ eight registers tol
       },
     )
 
-is_through : (eight : Bool) (registers : ℕ) (s : Scan) (remaining : Option (List ℕ)) (told : List StringAt)
-    (bytes : List ℕ) → s.ended ≡ true → HasTold eight registers s remaining told bytes
+is_through : {eight : Bool} {registers : ℕ} {s : Scan} {remaining : Option (List ℕ)} {told : List StringAt}
+    {bytes : List ℕ} → s.ended ≡ true → HasTold eight registers s remaining told bytes
     → IsThrough eight s remaining told bytes
-is_through eight registers s remaining told bytes on h = elim h [
-  | inl g ↦ let both : true ≡ false = sym on ∙ g.goes_on in absurd (cc)
-  | inr t ↦ t
-]
+is_through on h = elim h [ inl g ↦ let both : true ≡ false = sym on ∙ g.goes_on in absurd (cc) | inr t ↦ t ]
 
 -- if none was told, all are told
-pub next_all : (s u : Scan) (old new : Option (List ℕ)) → u.ended ≡ true
-    → AfterTaking s old new (λ eight registers told bytes. TellsNext eight registers u new told bytes [])
+pub next_all : {s : Scan} (u : Scan) {old new : Option (List ℕ)} (o : Option Scanned) → o ≡ None → u.ended ≡ true
+    → AfterTaking s old new (λ eight registers told bytes.
+    TellsNext eight registers u new told bytes (option_to_list o))
     → AfterTaking s old new (λ eight registers told bytes. AreStrings eight told bytes × IsOver new bytes)
-next_all s u old new on next = λ eight registers told bytes h.
+next_all u o none on next = λ eight registers told bytes h.
     let n = next eight registers told bytes h in
+    let reported = subst (λ (x : Option Scanned). AreReported registers n.2.found (option_to_list x)) none
+    n.2.reported in
     let same : told ++ n.2.found ≡ told =
-    ap (λ (x : List StringAt). told ++ x) (nothing_found registers n.2.found n.2.reported) ∙ append-nil told in
-    let t = is_through eight registers u new (told ++ n.2.found) (bytes ++ n.0) on n.2.has_told in (
-      n.0,
-      n.1,
-      (subst (λ (x : List StringAt). AreStrings eight x (bytes ++ n.0)) same t.strings, t.over),
-    )
+    ap (λ (x : List StringAt). told ++ x) (nothing_found registers n.2.found reported) ∙ append-nil told in
+    let t = is_through on n.2.has_told in
+    (n.0, n.1, (subst (λ (x : List StringAt). AreStrings eight x (bytes ++ n.0)) same t.strings, t.over))
 
 -- the stream was over before
 pub next_none : (s : Scan) (remaining : Option (List ℕ)) → s.ended ≡ true
@@ -277,123 +272,66 @@ pub next_none : (s : Scan) (remaining : Option (List ℕ)) → s.ended ≡ true
 next_none s remaining on = λ eight registers told bytes h.
     let has : HasTold eight registers s remaining (told ++ []) (bytes ++ []) =
     subst (λ (x : List StringAt). HasTold eight registers s remaining x (bytes ++ [])) (sym (append-nil told))
-    (subst (HasTold eight registers s remaining told) (sym (append-nil bytes)) h) in (
-      [],
-      Consumes-nil remaining,
-      record {
-        found = [];
-        reported = tt;
-        first = told_are_first eight registers s remaining (told ++ []) (bytes ++ []) has;
-        has_told = has;
-      },
-    )
+    (subst (HasTold eight registers s remaining told) (sym (append-nil bytes)) h) in
+    ([], Consumes-nil remaining, record { found = []; reported = tt; first = told_are_first has; has_told = has })
 
 -- ---- before and after a call
 
 -- the scan still reads, and had told some strings
-pub still_reading : (s t : Scan) (old mid : Option (List ℕ)) → s.ended ≡ false → Goes s old t mid → IsReady s old
+pub still_reading : {s t : Scan} {old mid : Option (List ℕ)} → s.ended ≡ false → Goes s old t mid → IsReady s old
     → (told : List StringAt) × (bytes : List ℕ) × IsReading t told bytes
-still_reading s t old mid off goes h =
-    let r = goes h.0 h.1 h.2 h.3 (still_goes h.0 h.1 s old h.2 h.3 off h.4) in (h.2, h.3 ++ r.0, r.2.reading)
+still_reading off goes h =
+    let r = goes.on h.0 h.1 h.2 h.3 (still_goes off h.4) in (h.2, h.3 ++ r.0, r.2.reading)
 
-pub still_on : (s t : Scan) (old mid : Option (List ℕ)) → s.ended ≡ false → Goes s old t mid → IsReady s old
+pub still_on : {s t : Scan} {old mid : Option (List ℕ)} → s.ended ≡ false → Goes s old t mid → IsReady s old
     → t.ended ≡ false
-still_on s t old mid off goes h =
-    (goes h.0 h.1 h.2 h.3 (still_goes h.0 h.1 s old h.2 h.3 off h.4)).2.goes_on
+still_on off goes h = (goes.on h.0 h.1 h.2 h.3 (still_goes off h.4)).2.goes_on
 
-pub ready_told : (s u : Scan) (old new : Option (List ℕ)) (reports : List Scanned) → IsReady s old
+pub ready_told : {s u : Scan} {old new : Option (List ℕ)} {reports : List Scanned} → IsReady s old
     → AfterTaking s old new (λ eight registers told bytes. TellsNext eight registers u new told bytes reports)
     → IsReady u new
-ready_told s u old new reports h next =
-    let n = next h.0 h.1 h.2 h.3 h.4 in (h.0, h.1, h.2 ++ n.2.found, h.3 ++ n.0, n.2.has_told)
+ready_told h next = let n = next h.0 h.1 h.2 h.3 h.4 in (h.0, h.1, h.2 ++ n.2.found, h.3 ++ n.0, n.2.has_told)
 
-pub ready_failed : (s u : Scan) (old new : Option (List ℕ)) → IsReady s old
+pub ready_failed : {s u : Scan} {old new : Option (List ℕ)} → IsReady s old
     → AfterTaking s old new (λ eight registers told bytes. AreGiven eight told bytes
     × HasTold eight registers u new told bytes)
     → IsReady u new
-ready_failed s u old new h next = let n = next h.0 h.1 h.2 h.3 h.4 in (h.0, h.1, h.2, h.3 ++ n.0, n.2.1)
+ready_failed h next = let n = next h.0 h.1 h.2 h.3 h.4 in (h.0, h.1, h.2, h.3 ++ n.0, n.2.1)
 
 -- ---- the calls come to an end
 
 -- a scan that takes more
-pub takes_more : (s t : Scan) (told : List StringAt) (bytes : List ℕ) → IsReading s told bytes
+pub takes_more : {s t : Scan} {told : List StringAt} {bytes : List ℕ} → IsReading s told bytes
     → IsReading t told (bytes ++ t.unread) → 0 < length t.unread
     → longest_stream - (t.scanner.read + length t.unread) < longest_stream - (s.scanner.read + length s.unread)
-takes_more s t told bytes old new some =
-    omega (
-      arith,
-      reading_counts s told bytes old,
-      reading_counts t told (bytes ++ t.unread) new,
-      length-append bytes t.unread,
-      new.within,
-      some,
-    )
+takes_more {t} {bytes} old new some =
+    omega (arith, reading_counts old, reading_counts new, length-append bytes t.unread, new.within, some)
 
 -- a scan that reads
-pub reads_later : (s t : Scan) (told now : List StringAt) (bytes : List ℕ) → IsReading s told bytes
+pub reads_later : {s t : Scan} {told now : List StringAt} {bytes : List ℕ} → IsReading s told bytes
     → IsReading t now bytes → length t.unread ≤ length s.unread → s.scanner.read ≤ t.scanner.read
-reads_later s t told now bytes old new less =
-    omega (arith, reading_counts s told bytes old, reading_counts t now bytes new, less)
+reads_later old new less = omega (arith, reading_counts old, reading_counts new, less)
 
 steps_of : (s : Scan) → s.ended ≡ false → steps_left s ≡ 2 ^ 64 - s.scanner.read
 steps_of s off = ap (λ (e : Bool). if e then 0 else 2 ^ 64 - s.scanner.read) off
 
 -- a scan that tells a string
-pub tells_fewer : (s t u : Scan) (told now : List StringAt) (bytes : List ℕ) → s.ended ≡ false → u.ended ≡ false
-    → s.scanner.read ≤ t.scanner.read → IsReading t told bytes → IsReading u now bytes
+pub tells_fewer : (s : Scan) {t u : Scan} {told now : List StringAt} {bytes : List ℕ} → s.ended ≡ false
+    → u.ended ≡ false → s.scanner.read ≤ t.scanner.read → IsReading t told bytes → IsReading u now bytes
     → length u.unread < length t.unread → steps_left u < steps_left s
-tells_fewer s t u told now bytes off still later old new less =
+tells_fewer s {u} off still later old new less =
     let before : ℕ = steps_left s in
     let after : ℕ = steps_left u in
     let are : before ≡ 2 ^ 64 - s.scanner.read = steps_of s off in
     let now_are : after ≡ 2 ^ 64 - u.scanner.read = steps_of u still in
-    omega (
-      arith,
-      are,
-      now_are,
-      later,
-      reading_counts t told bytes old,
-      reading_counts u now bytes new,
-      new.within,
-      less,
-    )
+    omega (arith, are, now_are, later, reading_counts old, reading_counts new, new.within, less)
 
--- ---- an answer without a string
-
-pub no_string : (o : Option Scanned) → is_some o ≡ false → o ≡ None
-no_string None off = refl
-no_string (Some x) off = absurd (let both : true ≡ false = off in cc)
-
-pub tells_none : (s : Scan) (told : List StringAt) (bytes : List ℕ) → IsReading s told bytes → Tells s told bytes []
-tells_none s told bytes r = record {
+pub tells_none : {s : Scan} {told : List StringAt} {bytes : List ℕ} → IsReading s told bytes → Tells s told bytes []
+tells_none {s} {told} {bytes} r = record {
   found = [];
   reported = tt;
   reading = subst (λ (x : List StringAt). IsReading s x bytes) (sym (append-nil told)) r;
 }
-
-pub told_none : (s : Scan) (told : List StringAt) (bytes : List ℕ) (o : Option Scanned) → is_some o ≡ false
-    → Tells s told bytes (option_to_list o) → Tells s told bytes []
-told_none s told bytes o off t =
-    subst (λ (x : Option Scanned). Tells s told bytes (option_to_list x)) (no_string o off) t
-
--- no string has ended in what was unread
-pub read_past : (s t u : Scan) (old mid : Option (List ℕ)) (o : Option Scanned) → Goes s old t mid
-    → u.scanner.profile ≡ t.scanner.profile → u.scanner.eight ≡ t.scanner.eight → u.ended ≡ t.ended
-    → is_some o ≡ false
-    → ((told : List StringAt) (bytes : List ℕ) → IsReading t told bytes → Tells u told bytes (option_to_list o))
-    → Goes s old u mid
-read_past s t u old mid o goes profile eight_same ended off tells =
-    goes_read s t u old mid goes profile eight_same ended
-    (λ told bytes r. told_none u told bytes o off (tells told bytes r))
-
--- and more was taken
-pub taken_past : (s t u : Scan) (old mid new : Option (List ℕ)) → Goes s old t mid
-    → u ≡ record t { unread = u.unread } → Consumes mid new u.unread
-    → ((told : List StringAt) (bytes : List ℕ) → IsReading t told bytes → IsReading u told (bytes ++ u.unread))
-    → Goes s old u new
-taken_past s t u old mid new goes rest consumes more =
-    goes_taken s t u old mid new u.unread goes (ap (λ (x : Scan). x.scanner) rest) (ap (λ (x : Scan). x.ended) rest)
-    consumes more
 
 pub grows_as : (s t : Scan) (told : List StringAt) (bytes : List ℕ) → t.scanner.profile ≡ s.scanner.profile
     → t.scanner.eight ≡ s.scanner.eight → GrowsWithin t.scanner.eight (count_of t.scanner.profile) told bytes
@@ -428,8 +366,7 @@ stream_begins rest bytes within =
 -- the strings told are the first of the stream
 pub told_first : (eight : Bool) (registers : ℕ) (s : Scan) (rest : List ℕ) (told strings : List StringAt)
     (bytes : List ℕ) → HasTold eight registers s (Some rest) told bytes
-    → AreStrings eight strings (take longest_stream (bytes ++ rest))
-    → (more : List StringAt) × (strings ≡ told ++ more)
+    → AreStrings eight strings (take longest_stream (bytes ++ rest)) → (more : List StringAt) × (strings ≡ told ++ more)
 told_first eight registers s rest told strings bytes h are = elim h [
   | inl g ↦
       let begins = stream_begins rest bytes g.reading.within in

@@ -27,16 +27,19 @@ use Rattle.sixel_model.proofs.CoverLemmas.{any_below_at, covers_under, idle_cove
 use Rattle.sixel_model.proofs.FirstLemmas.{earliest_all}
 use Rattle.sixel_model.proofs.GridLemmas.{cell-blank_grid, cell-painted_grid, length_rows}
 use Rattle.sixel_model.proofs.LastLemmas.{passes_there}
+use Rattle.sixel_model.proofs.RunLemmas.{same_test}
 use Rattle.sixel_model.proofs.StepLemmas.{covered_push, raster_push}
 use Rattle.sixel_plane.proofs.PaintedLemmas.{none_from_map, none_passes, row_below}
 use Rattle.sixel_judge.specs.Verdicts.{capped}
-use Rattle.sixel_judge.proofs.BlankLemmas.{Covers}
+use Rattle.sixel_judge.proofs.BlankLemmas.{some_width}
 use Rattle.sixel_judge.proofs.DrawLemmas.{falls_paints, sides}
-use Rattle.sixel_survey.specs.Counting.{blanks, has_box, paints_early}
-use Rattle.sixel_survey.specs.Covering.{AreCells, IsCoverOf, IsCoveredBy, blank_cells, blank_cells_in_row}
-use Rattle.sixel_survey.proofs.NotesLemmas.{early_push}
+use Rattle.sixel_judge.specs.Counting.{has_box, paints_early}
+use Rattle.sixel_survey.specs.Counting.{blanks}
+use Rattle.sixel_judge.specs.Covering.{IsCoverOf}
+use Rattle.sixel_survey.specs.Covering.{AreCells, IsCoveredBy, blank_cells, blank_cells_in_row}
+use Rattle.sixel_judge.proofs.NotesLemmas.{early_push}
 use Rattle.sixel_survey.proofs.TallyLemmas.{kept_last, range_agree}
-use Rattle.sixel_survey.proofs.TellLemmas.{Passes, passes_somewhere}
+use Rattle.sixel_judge.proofs.TellLemmas.{Passes, passes_somewhere}
 
 -- ---- before the box is declared
 
@@ -225,11 +228,6 @@ pub record IsRun (column band left line : ℕ) : Type 0 where
   pub column_is : column ≡ capped left
   pub band_is : band ≡ capped line
 
-same_bool : (b c : Bool) → (b ≡ true → c ≡ true) → (c ≡ true → b ≡ true) → b ≡ c
-same_bool true c to from = sym (to refl)
-same_bool false true to from = from refl
-same_bool false false to from = refl
-
 -- a run that begins right of the grid or below it covers none of its points
 pub outside_covers : (left line count bits column band width height x y : ℕ) → IsRun column band left line
     → width < 4294967296 → height < 4294967296 → (width ≤ column) ⊎ (height ≤ band) → x < width → y < height
@@ -258,7 +256,7 @@ inside_covers left line count bits column band width height part x y r narrow lo
     let band_is : band ≡ min line 18446744073709551615 = r.band_is in
     let across : column ≡ left = omega (arith, column_is, in_x, narrow) in
     let down : band ≡ line = omega (arith, band_is, in_y, low) in
-    same_bool (covers column (min count (width - column)) band 1 part x y) (covers left count line 1 bits x y)
+    same_test (covers column (min count (width - column)) band 1 part x y) (covers left count line 1 bits x y)
     (λ is.
     let u = lies_under column (min count (width - column)) band part x y is in
     let row : y ≡ 6 * band + u.bit = u.row in
@@ -352,14 +350,6 @@ cover_run s t before e c b = record {
 }
 
 -- ---- the blank pixels
-
-pub covers_of : (s : Grid) (before : List Event) → IsCoverOf s before → paints_early before ≡ false → Covers s before
-covers_of s before c late =
-    record { width = c.width; height = c.height; pixels = c.pixels; covered = c.covered late }
-
-some_columns : (w h i : ℕ) → i < w * h → 0 < w
-some_columns zero h i lt = absurd (omega arith)
-some_columns (suc w) h i lt = omega arith
 
 -- a filter of a mapped list keeps as many items as the test after the map
 length_kept : {X Y : Type 0} (p : Y → Bool) (f : X → Y) (xs : List X)
@@ -474,7 +464,7 @@ blanks_are s events c late =
     let of_points : ℕ → Bool = λ i. not (is_covered events (i % s.width) (i / s.width)) in
     let agree = range_agree of_cells of_points 0 pixels (λ i low high.
     let lt : i < s.width * s.height = omega (arith, high) in
-    let some : 0 < s.width = some_columns s.width s.height i lt in
+    let some : 0 < s.width = some_width s.width s.height i lt in
     none_some (cell s (i % s.width) (i / s.width))
     ∙ ap not (c.covered late (i % s.width) (i / s.width) (mod_below i s.width some)
     (row_below i s.width s.height some lt))) in

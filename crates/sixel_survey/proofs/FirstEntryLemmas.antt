@@ -1,5 +1,5 @@
 -- The entry of the least place, and of these the least number, is the first broken rule.
-use Rattle.std.proofs.Common.{◌≡◌, ◌≢◌, ◌<◌, ◌≤◌, ◌-◌, ℕ, zero, suc, Option, Some, None, List, [], ◌∷◌, length, refl}
+use Rattle.std.proofs.Common.{◌≡◌, ◌≢◌, ◌<◌, ◌≤◌, ◌-◌, ℕ, zero, suc, Option, Some, None, List, [], ◌∷◌, length, refl, take}
 use Rattle.std.proofs.Common.{sym, ap, subst, ◌∙◌, arith, inl, inr, ◌⊎◌}
 use Rattle.std.specs.Prelude.{All, Contains, filter_map, slice_get}
 use Rattle.std.specs.List.{AllByRecursion}
@@ -9,7 +9,7 @@ use Rattle.sixel_grammar.specs.declared.command.Event.{Event}
 use Rattle.sixel_grammar.specs.declared.command.Placed.{Placed}
 use Rattle.sixel_grammar.specs.Document.{Document, events_of}
 use Rattle.sixel_model.specs.Positions.{HoldsAtPosition}
-use Rattle.sixel_model.specs.Rules.{Breaks, BreaksNone, all_rules, last_rule, number_of}
+use Rattle.sixel_model.specs.Rules.{Breaks, BreaksNone, IsFirstBroken, all_rules, last_rule, number_of}
 use Rattle.sixel_model.proofs.RuleLemmas.{nowhere, same_rule}
 use Rattle.sixel_model.specs.declared.rule.Rule.{Rule}
 use Rattle.sixel_model.specs.declared.rule.Rule.TheVariants.{RasterFirst}
@@ -17,15 +17,16 @@ use Rattle.sixel_judge.specs.declared.verdict.Finding.{Finding}
 use Rattle.sixel_judge.specs.declared.verdict.Verdict.{Verdict}
 use Rattle.sixel_judge.specs.declared.verdict.Verdict.TheVariants.{Portable, Broken}
 use Rattle.sixel_judge.specs.Verdicts.{IsFinding, IsPixel, IsVerdict}
+use Rattle.sixel_judge.proofs.AlarmLemmas.{taken_there, taken_twice}
 use Rattle.sixel_judge.proofs.DecideLemmas.{verdict_exists}
 use Rattle.sixel_judge.proofs.OptionLemmas.{same_value}
 use Rattle.sixel_judge.proofs.VerdictLemmas.{pixel_at}
 use Rattle.sixel_survey.specs.declared.entry.Entry.{Entry}
-use Rattle.sixel_survey.specs.Counting.{Counts}
+use Rattle.sixel_judge.specs.Counting.{Counts}
 use Rattle.sixel_survey.specs.Surveys.{AreEntries, IsEntryAt, IsEntryOf}
 use Rattle.sixel_survey.specs.Laws.{EmptyIfNone, FirstIsVerdict, IsFirstEntry, SomeFirst, finding_of}
 use Rattle.sixel_survey.proofs.PlaceLemmas.{later_place, place_at}
-use Rattle.sixel_survey.proofs.TellLemmas.{first_counts}
+use Rattle.sixel_judge.proofs.TellLemmas.{least_counts}
 
 -- ---- what a list of results keeps
 
@@ -104,6 +105,31 @@ listed registers placed entries s e h =
     listed_as registers placed s.entry_of result.0 e (s.entry_of result.0) refl result.1 (s.each result.0)
 
 -- ---- the entry of the first broken rule
+
+-- no rule is broken before the first broken one
+unbroken_before : (registers : ℕ) (rule : Rule) (i : ℕ) (events : List Event) → IsFirstBroken registers events rule i
+    → BreaksNone registers last_rule (take i events)
+unfolding BreaksNone
+unbroken_before registers rule i events f m le j h =
+    let there = taken_there i j events h.item h.here in
+    let low : j < i = there.0 in
+    f.none_earlier m j low (record {
+      item = h.item;
+      here = there.1;
+      holds = subst (λ (l : List Event). Breaks registers m l h.item) (taken_twice j i events (omega arith)) h.holds;
+    })
+
+-- the first broken rule counts
+first_counts : (registers : ℕ) (rule : Rule) (i : ℕ) (events : List Event) → IsFirstBroken registers events rule i
+    → HoldsAtPosition (Counts registers rule) events i
+first_counts registers rule i events f =
+    let h = f.broken in
+    record {
+      item = h.item;
+      here = h.here;
+      holds = least_counts registers rule (take i events) h.item (unbroken_before registers rule i events f)
+          (λ m lt b. f.none_smaller m lt (record { item = h.item; here = h.here; holds = b })) h.holds;
+    }
 
 make : Rule → ℕ → Option (ℕ × ℕ) → Finding
 make rule place pixel = record { rule = rule; place = place; pixel = pixel }

@@ -1,11 +1,8 @@
-pub mod TellLemmas
 pub mod PlaceLemmas
 pub mod FirstEntryLemmas
 pub mod OneSurveyLemmas
-pub mod NotesLemmas
 pub mod TallyLemmas
 pub mod CoverLemmas
-pub mod HitLemmas
 pub mod DeclareLemmas
 mod FollowLemmas
 pub mod TallyingLemmas

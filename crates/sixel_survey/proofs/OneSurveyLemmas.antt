@@ -21,7 +21,8 @@ use Rattle.sixel_judge.proofs.SearchLemmas.{Decided, decide_true, least_below}
 use Rattle.sixel_judge.proofs.VerdictLemmas.{pixel_at}
 use Rattle.sixel_survey.specs.declared.entry.Entry.{Entry}
 use Rattle.sixel_survey.specs.declared.entry.Survey.{Survey}
-use Rattle.sixel_survey.specs.Counting.{Counts, HoldsOften, IsHowOften, blanks, is_told}
+use Rattle.sixel_judge.specs.Counting.{Counts, is_told}
+use Rattle.sixel_survey.specs.Counting.{HoldsOften, IsHowOften, blanks}
 use Rattle.sixel_survey.specs.Laws.{OneSurvey, SomeSurvey}
 use Rattle.sixel_survey.specs.Surveys.{AreEntries, IsEntryAt, IsEntryOf, size_if_none}
 use Rattle.sixel_survey.proofs.PlaceLemmas.{place_at}

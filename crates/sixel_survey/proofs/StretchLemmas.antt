@@ -4,6 +4,7 @@ use Rattle.std.proofs.Common.{Option, Some, None, List, [], ◌∷◌, ◌++◌,
 use Rattle.std.proofs.Common.{subst, ◌∙◌, arith}
 use Rattle.std.specs.Prelude.{is_none, is_some, nat_eq, nat_lt, slice_index, if◌then◌else◌}
 use Rattle.std.specs.Option.{option_map_or, option_or}
+use Rattle.std.proofs.Math.Bool.{and-false, and-true, or-false, or-true}
 use Rattle.std.proofs.lemmas.Bool.{cond-true, eqb-false, eqb-true, lt-ltb}
 use Rattle.std.proofs.lemmas.List.{append-nil, get_or-take, length-take-le}
 use Rattle.sixel_grammar.specs.declared.command.Event.{Event}
@@ -28,17 +29,20 @@ use Rattle.sixel_judge.proofs.OutsideLemmas.{IsCapped, inside_fits, none_outside
 use Rattle.sixel_judge.proofs.RunLemmas.{falls_first}
 use Rattle.sixel_judge.proofs.StretchLemmas.{sixels_then}
 use Rattle.sixel_survey.specs.declared.entry.Entry.{Entry}
-use Rattle.sixel_survey.specs.declared.notes.Notes.{Notes}
-use Rattle.sixel_survey.specs.declared.tally.Hit.{Hit}
-use Rattle.sixel_survey.specs.Counting.{has_box}
-use Rattle.sixel_survey.specs.Covering.{IsCoverOf, IsCoveredBy}
-use Rattle.sixel_survey.specs.Notes.{IsNotesAfter, counts_in, known_in, lacks_definition_in, marked}
-use Rattle.sixel_survey.specs.Stretches.{CountsAtEach, FitsIn, any_paints, passed, sixel_at, with_sixels}
+use Rattle.sixel_judge.specs.declared.notes.Notes.{Notes}
+use Rattle.sixel_judge.specs.declared.hits.Hit.{Hit}
+use Rattle.sixel_judge.specs.Counting.{has_box}
+use Rattle.sixel_judge.specs.Covering.{IsCoverOf}
+use Rattle.sixel_survey.specs.Covering.{IsCoveredBy}
+use Rattle.sixel_judge.specs.Notes.{IsNotesAfter, counts_in, known_in, lacks_definition_in, marked}
+use Rattle.sixel_judge.specs.Stretches.{Fits}
+use Rattle.sixel_survey.specs.Stretches.{CountsAtEach, any_paints, passed, sixel_at, with_sixels}
 use Rattle.sixel_survey.specs.Surveying.{AreTallies}
-use Rattle.sixel_survey.specs.Tallies.{AreTalliedFor, IsHit, IsTallyOf, next_tally, tally_in}
+use Rattle.sixel_judge.specs.Counting.{IsHit, at_pixel}
+use Rattle.sixel_survey.specs.Tallies.{AreTalliedFor, IsTallyOf, next_tally, tally_in}
 use Rattle.sixel_survey.proofs.CoverLemmas.{cover_run, covered_part}
-use Rattle.sixel_survey.proofs.HitLemmas.{box_told, hit_at, hit_if, notes_hit, outside_in, outside_none}
-use Rattle.sixel_survey.proofs.NotesLemmas.{notes_push}
+use Rattle.sixel_judge.proofs.HitLemmas.{box_told, hit_if, notes_hit, outside_in, outside_none}
+use Rattle.sixel_judge.proofs.NotesLemmas.{notes_push}
 use Rattle.sixel_survey.proofs.TallyLemmas.{tally_push}
 use Rattle.sixel_survey.proofs.TallyingLemmas.{never, side, sixel_only, tallied_rest}
 
@@ -66,10 +70,6 @@ over_all Q seen place stretch k le h =
 
 -- ---- the notes
 
-pub or_no : (b : Bool) → (b || false) ≡ b
-or_no true = refl
-or_no false = refl
-
 set_twice : (xs : List Bool) (k : ℕ) → set (set xs k true) k true ≡ set xs k true
 set_twice [] k = refl
 set_twice (x ∷ xs) zero = refl
@@ -96,7 +96,7 @@ early_more true b a late = refl
 early_more false true true true = refl
 early_more false true true false = refl
 early_more false true false late = refl
-early_more false false a late = or_no (a && late)
+early_more false false a late = or-false (a && late)
 
 notes_none : (n : Notes) (events : List Event) (stretch : List ℕ) → IsNotesAfter n events
     → IsNotesAfter (passed n stretch 0) events
@@ -104,7 +104,7 @@ notes_none n events stretch s =
     let is = s.column_is in
     let column : n.column ≡ capped (n.column + 0) = omega (arith, is) in
     subst (λ (c : ℕ). IsNotesAfter (record n { column = c; early = n.early || false }) events) column
-    (subst (λ (b : Bool). IsNotesAfter (record n { early = b }) events) (sym (or_no n.early)) s)
+    (subst (λ (b : Bool). IsNotesAfter (record n { early = b }) events) (sym (or-false n.early)) s)
 
 notes_one : (n : Notes) (events : List Event) (stretch : List ℕ) (k : ℕ)
     → IsNotesAfter (passed n stretch k) events
@@ -116,7 +116,7 @@ notes_one n events stretch k s =
     rw (
       column,
       marked_more (is_painting e) a n.painted (known_in n),
-      or_no n.declared,
+      or-false n.declared,
       early_more n.early (is_painting e) a (not n.declared),
     ) at (notes_push (passed n stretch k) events e s)
 
@@ -132,10 +132,6 @@ notes_passed n seen place stretch s =
     (notes_one n (events_of (with_sixels seen place stretch k)) stretch k v))
 
 -- a sixel that paints
-or_yes : (b : Bool) → (b || true) ≡ true
-or_yes true = refl
-or_yes false = refl
-
 paints_here : (stretch : List ℕ) (k n : ℕ) (b : Bool) → nat_eq k n ≡ b → k < suc n
     → is_painting (sixel_at stretch k) ≡ true → (k < n → any_paints stretch n ≡ true)
     → any_paints stretch (suc n) ≡ true
@@ -145,7 +141,7 @@ paints_here stretch k n true same lt is before =
 paints_here stretch k n false differ lt is before =
     let other = eqb-false k n differ in
     ap (λ (b : Bool). is_painting (sixel_at stretch n) || b) (before (omega (arith, lt, other)))
-    ∙ or_yes (is_painting (sixel_at stretch n))
+    ∙ or-true (is_painting (sixel_at stretch n))
 
 pub some_paints : (stretch : List ℕ) (k n : ℕ) → k < n → is_painting (sixel_at stretch k) ≡ true
     → any_paints stretch n ≡ true
@@ -230,14 +226,6 @@ sixel_hit registers n seen place stretch rule b few s p q k lt is =
     (notes_hit registers (passed n stretch k) (events_of (with_sixels seen place stretch k)) (sixel_at stretch k) rule few
     (notes_passed n seen place stretch s k (omega (arith, lt))) p q)
 
-no_and : (b : Bool) → (b && false) ≡ false
-no_and true = refl
-no_and false = refl
-
-yes_and : (b : Bool) → (b && true) ≡ b
-yes_and true = refl
-yes_and false = refl
-
 pub raster_first_each : (registers : ℕ) (n : Notes) (seen : List Placed) (place : ℕ) (stretch : List ℕ)
     → registers ≤ 256 → IsNotesAfter n (events_of seen) → n.declared ≡ false
     → CountsAtEach registers RasterFirst seen place stretch true
@@ -257,21 +245,21 @@ pub unselected_each : (registers : ℕ) (n : Notes) (seen : List Placed) (place 
     → CountsAtEach registers Unselected seen place stretch false
 unselected_each registers n seen place stretch few s none k lt =
     sixel_hit registers n seen place stretch Unselected _ few s (λ i. cc) (λ i. cc) k lt
-    (ap (λ (b : Bool). is_painting (sixel_at stretch k) && b) none ∙ yes_and (is_painting (sixel_at stretch k)))
+    (ap (λ (b : Bool). is_painting (sixel_at stretch k) && b) none ∙ and-true (is_painting (sixel_at stretch k)))
 
 pub unselected_none : (registers : ℕ) (n : Notes) (seen : List Placed) (place : ℕ) (stretch : List ℕ)
     → registers ≤ 256 → IsNotesAfter n (events_of seen) → is_none (known_in n) ≡ false → (k : ℕ) → k < length stretch
     → IsHit registers Unselected (events_of (with_sixels seen place stretch k)) (sixel_at stretch k) None
 unselected_none registers n seen place stretch few s some k lt =
     sixel_hit registers n seen place stretch Unselected false few s (λ i. cc) (λ i. cc) k lt
-    (ap (λ (b : Bool). is_painting (sixel_at stretch k) && b) some ∙ no_and (is_painting (sixel_at stretch k)))
+    (ap (λ (b : Bool). is_painting (sixel_at stretch k) && b) some ∙ and-false (is_painting (sixel_at stretch k)))
 
 pub undefined_each : (registers : ℕ) (n : Notes) (seen : List Placed) (place : ℕ) (stretch : List ℕ)
     → registers ≤ 256 → IsNotesAfter n (events_of seen) → lacks_definition_in registers n ≡ true
     → CountsAtEach registers Undefined seen place stretch false
 undefined_each registers n seen place stretch few s lacks k lt =
     sixel_hit registers n seen place stretch Undefined _ few s (λ i. cc) (λ i. cc) k lt
-    (ap (λ (b : Bool). is_painting (sixel_at stretch k) && b) lacks ∙ yes_and (is_painting (sixel_at stretch k)))
+    (ap (λ (b : Bool). is_painting (sixel_at stretch k) && b) lacks ∙ and-true (is_painting (sixel_at stretch k)))
 
 pub undefined_none : (registers : ℕ) (n : Notes) (seen : List Placed) (place : ℕ) (stretch : List ℕ)
     → registers ≤ 256 → IsNotesAfter n (events_of seen) → lacks_definition_in registers n ≡ false → (k : ℕ)
@@ -279,7 +267,7 @@ pub undefined_none : (registers : ℕ) (n : Notes) (seen : List Placed) (place :
     → IsHit registers Undefined (events_of (with_sixels seen place stretch k)) (sixel_at stretch k) None
 undefined_none registers n seen place stretch few s has k lt =
     sixel_hit registers n seen place stretch Undefined false few s (λ i. cc) (λ i. cc) k lt
-    (ap (λ (b : Bool). is_painting (sixel_at stretch k) && b) has ∙ no_and (is_painting (sixel_at stretch k)))
+    (ap (λ (b : Bool). is_painting (sixel_at stretch k) && b) has ∙ and-false (is_painting (sixel_at stretch k)))
 
 -- ---- the pixels
 
@@ -289,7 +277,7 @@ pub outside_each : (registers : ℕ) (n : Notes) (s : Grid) (seen : List Placed)
     → (k : ℕ) → k < length stretch
     → ((left line : ℕ) → capped (n.column + k) ≡ capped left → n.band ≡ capped line
     → IsFirstIfAny (PaintsOutside left 1 line (slice_index stretch k - 63) s.width s.height) o)
-    → IsHit registers Outside (events_of (with_sixels seen place stretch k)) (sixel_at stretch k) (hit_at o)
+    → IsHit registers Outside (events_of (with_sixels seen place stretch k)) (sixel_at stretch k) (at_pixel o)
 outside_each registers n s seen place stretch o h c k lt first =
     let before : List Event = events_of (with_sixels seen place stretch k) in
     let notes = notes_passed n seen place stretch h k (omega (arith, lt)) in
@@ -299,17 +287,17 @@ outside_each registers n s seen place stretch o h c k lt first =
     (falls_first before (sixel_at stretch k) c.box o
     (rw (c.width_is, c.height_is) (first (column 0 before) (band before) notes.column_is notes.band_is)))
 
-pub hit_there : (o : Option (ℕ × ℕ)) → is_some o ≡ true → hit_at o ≡ Some (record { pixel = o })
+pub hit_there : (o : Option (ℕ × ℕ)) → is_some o ≡ true → at_pixel o ≡ Some (record { pixel = o })
 hit_there None is = cc
 hit_there (Some p) is = refl
 
-pub hit_nowhere : (o : Option (ℕ × ℕ)) → is_some o ≡ false → hit_at o ≡ None
+pub hit_nowhere : (o : Option (ℕ × ℕ)) → is_some o ≡ false → at_pixel o ≡ None
 hit_nowhere None is = refl
 hit_nowhere (Some p) is = cc
 
 -- no sixel of a stretch that lies in the box paints outside it
 pub inside_none : (registers : ℕ) (n : Notes) (s : Grid) (seen : List Placed) (place : ℕ) (stretch : List ℕ)
-    → IsNotesAfter n (events_of seen) → IsCoverOf s (events_of seen) → FitsIn n (length stretch) s
+    → IsNotesAfter n (events_of seen) → IsCoverOf s (events_of seen) → Fits n (length stretch) s
     → (k : ℕ) → k < length stretch
     → IsHit registers Outside (events_of (with_sixels seen place stretch k)) (sixel_at stretch k) None
 inside_none registers n s seen place stretch h c fits k lt =
@@ -376,7 +364,7 @@ cover_none s before left line f r c =
 
 -- the covered pixels after a stretch that lies in the box
 pub cover_stretch : (n : Notes) (s : Grid) (seen : List Placed) (place count r : ℕ) (bytes : List ℕ)
-    → count ≤ length bytes → IsNotesAfter n (events_of seen) → FitsIn n count s → IsCoverOf s (events_of seen)
+    → count ≤ length bytes → IsNotesAfter n (events_of seen) → Fits n count s → IsCoverOf s (events_of seen)
     → (k : ℕ) → k ≤ count
     → IsCoverOf (stretched_grid s n.column n.band k (sixel_of bytes count) r)
     (events_of (with_sixels seen place (take count bytes) k))

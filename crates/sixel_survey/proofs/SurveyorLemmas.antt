@@ -25,15 +25,18 @@ use Rattle.sixel_model.specs.declared.rule.Rule.TheVariants.{BoxSize, Uncovered}
 use Rattle.sixel_judge.specs.Portable.{IsPortable}
 use Rattle.sixel_judge.proofs.AlarmLemmas.{taken_get, taken_twice}
 use Rattle.sixel_judge.proofs.DecideLemmas.{verdict_exists}
+use Rattle.sixel_judge.proofs.JudgeLemmas.{length_events}
 use Rattle.sixel_judge.proofs.ShownLemmas.{left_is_portable}
 use Rattle.sixel_survey.specs.declared.entry.Entry.{Entry}
 use Rattle.sixel_survey.specs.declared.entry.Survey.{Survey}
-use Rattle.sixel_survey.specs.declared.notes.Notes.{Notes}
-use Rattle.sixel_survey.specs.Notes.{IsNotesAfter}
+use Rattle.sixel_judge.specs.declared.notes.Notes.{Notes}
+use Rattle.sixel_judge.specs.Notes.{IsNotesAfter}
 use Rattle.sixel_model.specs.Profiles.{count_of}
 use Rattle.sixel_model.specs.declared.profile.Profile.{Profile}
-use Rattle.sixel_survey.specs.Counting.{Counts, HoldsOften, IsHowOften, has_box, paints_early}
-use Rattle.sixel_survey.specs.Covering.{IsCoverAfter, blank_cells, size_in}
+use Rattle.sixel_judge.specs.Counting.{Counts, has_box, paints_early}
+use Rattle.sixel_survey.specs.Counting.{HoldsOften, IsHowOften}
+use Rattle.sixel_judge.specs.Covering.{IsCoverAfter}
+use Rattle.sixel_survey.specs.Covering.{blank_cells, size_in}
 use Rattle.sixel_survey.specs.Surveying.{HasSurveyed, SurveyorValue}
 use Rattle.sixel_survey.specs.Surveys.{AreEntries, IsEntryAt, IsEntryOf, IsSurvey, size_if_none}
 use Rattle.sixel_survey.specs.Tallies.{IsTallyAt, IsTallyOf, entry_from, entry_in, tally_in}
@@ -41,7 +44,7 @@ use Rattle.sixel_survey.proofs.CoverLemmas.{blanks_are, early_item}
 use Rattle.sixel_survey.proofs.FirstEntryLemmas.{none_if_empty}
 use Rattle.sixel_survey.proofs.TallyingLemmas.{flat_at}
 use Rattle.sixel_survey.proofs.TallyLemmas.{often_within}
-use Rattle.sixel_survey.proofs.TellLemmas.{Passes, earliest_gives, if_box, passes_somewhere, sides_break}
+use Rattle.sixel_judge.proofs.TellLemmas.{Passes, earliest_gives, if_box, passes_somewhere, sides_break}
 
 -- ---- how often
 
@@ -54,10 +57,6 @@ few_pieces n (p ∷ ps) each =
     let long = length-append (bytes_of p) (joined ps) in
     let one = length-append p.filler p.text in
     omega (arith, more, some, long, one)
-
-length_events : (placed : List Placed) → length (events_of placed) ≡ length placed
-length_events [] = refl
-length_events (p ∷ ps) = ap suc (length_events ps)
 
 few_events : (events : List Placed) (bytes : List ℕ) → Document events bytes → length (events_of events) ≤ most_bytes
 few_events events bytes d =

@@ -15,11 +15,13 @@ use Rattle.sixel_model.specs.Positions.{HoldsAtPosition, HoldsNowhere}
 use Rattle.sixel_model.proofs.PositionLemmas.{get_before, get_end, holds_before, holds_end, holds_push, holds_within}
 use Rattle.sixel_model.specs.declared.rule.Rule.{Rule}
 use Rattle.sixel_judge.specs.Verdicts.{IsPixel, capped}
-use Rattle.sixel_judge.proofs.JudgeLemmas.{events_push}
+use Rattle.sixel_judge.proofs.JudgeLemmas.{events_push, length_events}
 use Rattle.sixel_survey.specs.declared.entry.Entry.{Entry}
-use Rattle.sixel_survey.specs.declared.tally.Hit.{Hit}
-use Rattle.sixel_survey.specs.Counting.{Counts, HoldsOften}
-use Rattle.sixel_survey.specs.Tallies.{IsHit, IsTallyAt, IsTallyOf, next_tally, tally_with}
+use Rattle.sixel_judge.specs.declared.hits.Hit.{Hit}
+use Rattle.sixel_judge.specs.Counting.{Counts}
+use Rattle.sixel_survey.specs.Counting.{HoldsOften}
+use Rattle.sixel_judge.specs.Counting.{IsHit}
+use Rattle.sixel_survey.specs.Tallies.{IsTallyAt, IsTallyOf, next_tally, tally_with}
 use Rattle.sixel_survey.proofs.PlaceLemmas.{place_at}
 
 -- ---- the number of positions
@@ -148,10 +150,6 @@ place_before : (seen : List Placed) (p : Placed) (i a : ℕ) → i < length seen
     → place_at (seen ++ p ∷ []) i ≡ Some a
 place_before seen p i a lt h =
     ap (option_map (λ (q : Placed). q.place)) (get_before seen (p ∷ []) i lt) ∙ h
-
-length_events : (seen : List Placed) → length (events_of seen) ≡ length seen
-length_events [] = refl
-length_events (p ∷ ps) = ap suc (length_events ps)
 
 -- what holds nowhere and not for the next event holds nowhere
 nowhere_push : {X : Type 0} (P : List X → X → Type 0) (xs : List X) (x : X) → HoldsNowhere P xs → ¬ P xs x

@@ -4,6 +4,7 @@ use Rattle.std.proofs.Common.{Option, Some, None, List, [], ◌∷◌, ◌++◌,
 use Rattle.std.proofs.Common.{arith}
 use Rattle.std.specs.Prelude.{IfSome, IsTrue, is_none, is_some, nat_le, slice_get}
 use Rattle.std.specs.Option.{option_flatten, option_map_or}
+use Rattle.std.proofs.Math.Bool.{and-false}
 use Rattle.std.proofs.lemmas.Bool.{and_parts, leb-true, eqb-false, eqb-true, or_parts}
 use Rattle.std.proofs.lemmas.List.{length-set}
 use Rattle.sixel_grammar.specs.declared.command.Command.TheVariants.{Sixel, Repeat, Select, Define, Raster}
@@ -28,16 +29,17 @@ use Rattle.sixel_judge.proofs.DrawLemmas.{falls_paints}
 use Rattle.sixel_judge.proofs.OutsideLemmas.{IsCapped, inside_fits, none_outside}
 use Rattle.sixel_judge.proofs.RunLemmas.{falls_first}
 use Rattle.sixel_survey.specs.declared.entry.Entry.{Entry}
-use Rattle.sixel_survey.specs.declared.notes.Notes.{Notes}
-use Rattle.sixel_survey.specs.Counting.{Counts}
-use Rattle.sixel_survey.specs.Covering.{IsCoverAfter}
-use Rattle.sixel_survey.specs.Stretches.{FitsIn}
-use Rattle.sixel_survey.specs.Notes.{IsNotesAfter, counts_in, known_in, lacks_definition_in}
+use Rattle.sixel_judge.specs.declared.notes.Notes.{Notes}
+use Rattle.sixel_judge.specs.Counting.{Counts}
+use Rattle.sixel_judge.specs.Covering.{IsCoverAfter}
+use Rattle.sixel_judge.specs.Stretches.{Fits}
+use Rattle.sixel_judge.specs.Notes.{IsNotesAfter, counts_in, known_in, lacks_definition_in}
 use Rattle.sixel_survey.specs.Surveying.{AreTallies}
-use Rattle.sixel_survey.specs.Tallies.{AreTalliedFor, IsHit, IsTallyOf, is_one_of, of_columns, tally_in}
-use Rattle.sixel_survey.proofs.HitLemmas.{hit_if, notes_hit, outside_hit, outside_none, uncovered_goes_on}
+use Rattle.sixel_judge.specs.Counting.{IsHit}
+use Rattle.sixel_survey.specs.Tallies.{AreTalliedFor, IsTallyOf, is_one_of, of_columns, tally_in}
+use Rattle.sixel_judge.proofs.HitLemmas.{hit_if, notes_hit, outside_hit, outside_none, uncovered_goes_on}
 use Rattle.sixel_survey.proofs.TallyLemmas.{tally_push}
-use Rattle.sixel_survey.proofs.TellLemmas.{if_box}
+use Rattle.sixel_judge.proofs.TellLemmas.{if_box}
 
 -- ---- one tally of the list
 
@@ -156,10 +158,6 @@ can_break Outside e = is_painting e
 can_break Uncovered e = is_finish e
 can_break EightBit e = is_eight_bit e
 
-no_and : (b : Bool) → (b && false) ≡ false
-no_and true = refl
-no_and false = refl
-
 no_map : {A : Type 0} (p : A → Bool) (o : Option A) → is_some o ≡ false → option_map_or p o false ≡ false
 no_map p None h = refl
 no_map p (Some a) h = cc
@@ -167,8 +165,8 @@ no_map p (Some a) h = cc
 never_in : (registers : ℕ) (n : Notes) (e : Event) (rule : Rule) → can_break rule e ≡ false
     → counts_in registers n e rule ≡ false
 unfolding breaks_ratio breaks_box_size breaks_register breaks_colour_value breaks_repeat_zero
-never_in registers n e RasterFirst h = ap (λ (b : Bool). not n.declared && b) h ∙ no_and (not n.declared)
-never_in registers n e RasterTwice h = ap (λ (b : Bool). n.declared && b) h ∙ no_and n.declared
+never_in registers n e RasterFirst h = ap (λ (b : Bool). not n.declared && b) h ∙ and-false (not n.declared)
+never_in registers n e RasterTwice h = ap (λ (b : Bool). n.declared && b) h ∙ and-false n.declared
 never_in registers n e Ratio h = no_map _ (raster_of e) h
 never_in registers n e BoxSize h = no_map _ (raster_of e) h
 never_in registers n e Register h = no_map _ (named_by e) h
@@ -290,7 +288,7 @@ pub side : (n : ℕ) → IsTrue (is_side n) → n ≤ most_side
 side n h = leb-true n most_side (and_parts (nat_le 1 n) (nat_le n most_side) h).1
 
 outside_quiet : (registers : ℕ) (n : Notes) (grid : Option Grid) (before : List Event) (e : Event)
-    → IsNotesAfter n before → IsCoverAfter grid before → IfSome grid (FitsIn n (columns_of 0 e))
+    → IsNotesAfter n before → IsCoverAfter grid before → IfSome grid (Fits n (columns_of 0 e))
     → IsHit registers Outside before e None
 outside_quiet registers n None before e s cover fits = outside_none registers before e cover
 outside_quiet registers n (Some t) before e s cover fits =
@@ -339,7 +337,7 @@ pub painted_quiet : (registers : ℕ) (n : Notes) (grid : Option Grid) (seen : L
     (tallies : List (Option Entry))
     → registers ≤ 256 → IsNotesAfter n (events_of seen) → IsCoverAfter grid (events_of seen) → n.declared ≡ true
     → is_repeat_of_zero p.event ≡ false → is_some (known_in n) ≡ true → lacks_definition_in registers n ≡ false
-    → IfSome grid (FitsIn n (columns_of 0 p.event)) → AreTalliedFor registers seen (p ∷ []) [] tallies
+    → IfSome grid (Fits n (columns_of 0 p.event)) → AreTalliedFor registers seen (p ∷ []) [] tallies
     → AreTalliedFor registers seen (p ∷ []) of_columns tallies
 painted_quiet registers n grid seen p tallies few s cover declared some known defined fits =
     quiet_kept registers seen p tallies none
@@ -349,9 +347,10 @@ painted_quiet registers n grid seen p tallies few s cover declared some known de
     none RepeatZero is = never registers n (events_of seen) p.event RepeatZero few s some
     none Unselected is =
         silent_if registers n (events_of seen) p.event Unselected few s (λ i. cc) (λ i. cc)
-        (ap (λ (b : Bool). is_painting p.event && b) (none_if_some (known_in n) known) ∙ no_and (is_painting p.event))
+        (ap (λ (b : Bool). is_painting p.event && b) (none_if_some (known_in n) known)
+        ∙ and-false (is_painting p.event))
     none Undefined is =
         silent_if registers n (events_of seen) p.event Undefined few s (λ i. cc) (λ i. cc)
-        (ap (λ (b : Bool). is_painting p.event && b) defined ∙ no_and (is_painting p.event))
+        (ap (λ (b : Bool). is_painting p.event && b) defined ∙ and-false (is_painting p.event))
     none Outside is = outside_quiet registers n grid (events_of seen) p.event s cover fits
     none _ is = cc

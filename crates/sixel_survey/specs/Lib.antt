@@ -3,7 +3,6 @@ pub mod Surveys
 pub mod Laws
 pub mod Answers
 pub mod Declaring
-pub mod Notes
 pub mod Covering
 pub mod Tallies
 pub mod Stretches

@@ -1,5 +1,5 @@
 -- Stretches of data bytes, each a single sixel. Only contracts of private functions cite these.
-use Rattle.std.specs.Prelude.{◌≡◌, ◌+◌, ◌-◌, ◌*◌, ◌<◌, ◌≤◌, ◌++◌, ◌||◌, ◌&&◌, ℕ, zero, suc, Bool, true, false, not}
+use Rattle.std.specs.Prelude.{◌≡◌, ◌+◌, ◌-◌, ◌<◌, ◌++◌, ◌||◌, ◌&&◌, ℕ, zero, suc, Bool, true, false, not}
 use Rattle.std.specs.Prelude.{Some, None, List, length, slice_index, take, if◌then◌else◌}
 use Rattle.sixel_grammar.specs.Bytes.{is_data}
 use Rattle.sixel_grammar.specs.Document.{events_of}
@@ -9,13 +9,11 @@ use Rattle.sixel_grammar.specs.declared.command.Event.{Event}
 use Rattle.sixel_grammar.specs.declared.command.Event.TheVariants.{Step}
 use Rattle.sixel_grammar.specs.declared.command.Placed.{Placed}
 use Rattle.sixel_model.specs.Events.{is_painting}
-use Rattle.sixel_model.specs.Geometry.{band_rows}
-use Rattle.sixel_model.specs.Grids.{Grid}
 use Rattle.sixel_model.specs.declared.rule.Rule.{Rule}
 use Rattle.sixel_judge.specs.Verdicts.{capped}
-use Rattle.sixel_survey.specs.declared.notes.Notes.{Notes}
-use Rattle.sixel_survey.specs.Notes.{known_in, marked}
-use Rattle.sixel_survey.specs.Tallies.{IsHit}
+use Rattle.sixel_judge.specs.declared.notes.Notes.{Notes}
+use Rattle.sixel_judge.specs.Notes.{known_in, marked}
+use Rattle.sixel_judge.specs.Counting.{IsHit}
 
 -- each byte is data
 abbrev pub AreSixels : List ℕ → Type 0
@@ -41,11 +39,6 @@ passed n stretch k = record n {
   painted = if any_paints stretch k then marked n.painted (known_in n) else n.painted;
   early = n.early || (any_paints stretch k && not n.declared);
 }
-
--- count columns from the current one on lie in the box, with all six rows of their band
-pub record FitsIn (n : Notes) (count : ℕ) (s : Grid) : Type 0 where
-  pub columns : n.column + count ≤ s.width
-  pub rows : band_rows * n.band + band_rows ≤ s.height
 
 -- the rule counts at each sixel that paints, and at the others too if blank_too; it never has a pixel
 abbrev pub CountsAtEach : ℕ → Rule → List Placed → ℕ → List ℕ → Bool → Type 0

@@ -6,10 +6,10 @@ use Rattle.sixel_model.specs.Grids.{Grid}
 use Rattle.sixel_model.specs.Profiles.{count_of}
 use Rattle.sixel_model.specs.declared.profile.Profile.{Profile}
 use Rattle.sixel_model.specs.declared.rule.Rule.{Rule}
-use Rattle.sixel_survey.specs.declared.notes.Notes.{Notes}
+use Rattle.sixel_judge.specs.declared.notes.Notes.{Notes}
 use Rattle.sixel_survey.specs.declared.entry.Entry.{Entry}
-use Rattle.sixel_survey.specs.Covering.{IsCoverAfter}
-use Rattle.sixel_survey.specs.Notes.{IsNotesAfter}
+use Rattle.sixel_judge.specs.Covering.{IsCoverAfter}
+use Rattle.sixel_judge.specs.Notes.{IsNotesAfter}
 use Rattle.sixel_survey.specs.Tallies.{IsTallyOf, tally_in}
 
 -- the tallies of all rules

@@ -10,7 +10,8 @@ use Rattle.sixel_model.specs.declared.rule.Rule.{Rule}
 use Rattle.sixel_judge.specs.Verdicts.{IsPixel}
 use Rattle.sixel_survey.specs.declared.entry.Entry.{Entry}
 use Rattle.sixel_survey.specs.declared.entry.Survey.{Survey}
-use Rattle.sixel_survey.specs.Counting.{Counts, IsHowOften}
+use Rattle.sixel_judge.specs.Counting.{Counts}
+use Rattle.sixel_survey.specs.Counting.{IsHowOften}
 
 -- the entry of its rule: the rule counts first at position i; the entry has the place and the pixel of the event there,
 -- and how often the rule counts

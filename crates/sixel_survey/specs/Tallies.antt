@@ -2,7 +2,6 @@
 use Rattle.std.specs.Prelude.{◌≡◌, ◌==◌, ◌||◌, ◌+◌, ◌-◌, ◌<◌, ℕ, Bool, true, false, Option, Some, None, List, []}
 use Rattle.std.specs.Prelude.{◌∷◌, ◌++◌, length, slice_get}
 use Rattle.std.specs.Option.{option_flatten, option_map}
-use Rattle.sixel_grammar.specs.declared.command.Event.{Event}
 use Rattle.sixel_grammar.specs.declared.command.Placed.{Placed}
 use Rattle.sixel_grammar.specs.Document.{events_of}
 use Rattle.sixel_model.specs.Positions.{HoldsAtPosition, HoldsNowhere}
@@ -12,13 +11,9 @@ use Rattle.sixel_model.specs.declared.rule.Rule.TheVariants.{Uncovered}
 use Rattle.sixel_model.specs.Rules.{number_of}
 use Rattle.sixel_judge.specs.Verdicts.{IsPixel, capped}
 use Rattle.sixel_survey.specs.declared.entry.Entry.{Entry}
-use Rattle.sixel_survey.specs.declared.tally.Hit.{Hit}
-use Rattle.sixel_survey.specs.Counting.{Counts, HoldsOften}
-
--- the rule counts at the event, and this is the pixel; or it doesn't count
-abbrev pub IsHit : ℕ → Rule → List Event → Event → Option Hit → Type 0
-IsHit registers rule before e None = ¬ Counts registers rule before e
-IsHit registers rule before e (Some hit) = Counts registers rule before e × IsPixel rule hit.pixel before e
+use Rattle.sixel_judge.specs.Counting.{Counts}
+use Rattle.sixel_judge.specs.declared.hits.Hit.{Hit}
+use Rattle.sixel_survey.specs.Counting.{HoldsOften}
 
 -- the first position at which the rule of the tally counts, and the number of positions, capped
 pub record IsTallyAt (registers : ℕ) (placed : List Placed) (tally : Entry) (i : ℕ) : Type 0 where

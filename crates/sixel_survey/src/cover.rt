@@ -9,12 +9,13 @@ ghost use Rattle.sixel_model.specs.Events.{has_sides, raster_of};
 ghost use Rattle.sixel_model.specs.Geometry.{band_rows};
 ghost use Rattle.sixel_model.specs.Grids.{cell};
 ghost use Rattle.sixel_judge.specs.Verdicts.{capped};
-ghost use Rattle.sixel_survey.specs.Covering.{AreCells, IsCoverAfter, IsCoveredBy, blank_cells, blank_cells_in_row};
-ghost use Rattle.sixel_survey.specs.Notes.{IsNotesAfter};
+ghost use Rattle.sixel_judge.specs.Covering.{IsCoverAfter};
+ghost use Rattle.sixel_survey.specs.Covering.{AreCells, IsCoveredBy, blank_cells, blank_cells_in_row};
+ghost use Rattle.sixel_judge.specs.Notes.{IsNotesAfter};
 
-use crate::notes::Notes;
 use sixel_grammar::Event;
 use sixel_judge::events::{bits_of, columns_of, is_raster, sides_of};
+use sixel_judge::notes::Notes;
 use sixel_judge::rules::breaks_box_size;
 use sixel_model::BAND_ROWS;
 use sixel_plane::Cover;

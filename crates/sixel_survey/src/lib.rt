@@ -4,9 +4,7 @@
 mod cover;
 mod entry;
 mod first;
-mod hits;
 pub mod laws;
-mod notes;
 mod stretch;
 mod surveying;
 mod surveyor;
@@ -15,4 +13,4 @@ mod tallying;
 
 pub use entry::{Entry, Survey};
 pub use sixel_model::RULE_COUNT;
-pub use surveying::survey;
+pub use surveying::{survey, survey_with};

@@ -15,37 +15,23 @@ ghost use Rattle.sixel_plane.specs.Covers.{kept_by};
 ghost use Rattle.sixel_plane.specs.Stretches.{sixel_of, stretched_grid};
 ghost use Rattle.sixel_model.specs.declared.rule.Rule.{Rule as RuleValue};
 ghost use Rattle.sixel_model.specs.declared.rule.Rule.TheVariants.{Outside, RasterFirst, Undefined, Unselected};
-ghost use Rattle.sixel_survey.specs.Covering.{IsCoverAfter, IsCoverOf};
-ghost use Rattle.sixel_survey.specs.Notes.{IsNotesAfter};
-ghost use Rattle.sixel_survey.specs.Stretches.{AreSixels, CountsAtEach, FitsIn, any_paints, with_sixels};
+ghost use Rattle.sixel_judge.specs.Covering.{IsCoverAfter, IsCoverOf};
+ghost use Rattle.sixel_judge.specs.Notes.{IsNotesAfter};
+ghost use Rattle.sixel_judge.specs.Stretches.{Fits};
+ghost use Rattle.sixel_survey.specs.Stretches.{AreSixels, CountsAtEach, any_paints, with_sixels};
 ghost use Rattle.sixel_survey.specs.Surveying.{AreTallies};
 ghost use Rattle.sixel_survey.specs.Tallies.{AreTalliedFor, IsTallyOf, is_one_of};
 
 use crate::cover::cover;
 use crate::entry::Entry;
-use crate::notes::Notes;
-use crate::tally::{Hit, counted, counted_more};
+use crate::tally::{counted, counted_more};
 use crate::tallying::{put, tally_of};
 use sixel_judge::Rule;
-use sixel_judge::outside::{is_inside, outside_pixel};
+use sixel_judge::hits::Hit;
+use sixel_judge::notes::Notes;
+use sixel_judge::outside::{fits, outside_pixel};
 use sixel_model::{Profile, RULE_COUNT};
 use sixel_plane::Cover;
-
-/// Whether `count` columns from the current one on lie in the box, with all six rows of their band.
-#[inline(always)]
-pub(crate) fn fits<P: Cover>(notes: &Notes, plane: &P, count: usize) -> bool
-    ensures within { result ≡ true → FitsIn notes.now count (P.grid plane.now) }
-    ensures column { result ≡ true → notes.now.column ≤ u32.MAX }
-    ensures band { result ≡ true → notes.now.band ≤ u32.MAX }
-{
-    is_inside(
-        notes.column,
-        notes.band,
-        count as u64,
-        plane.width(),
-        plane.height(),
-    )
-}
 
 /// Whether the sixel of the byte paints.
 #[inline(always)]
@@ -68,7 +54,7 @@ fn counts_at(byte: u8, blank_too: bool) -> bool
 
 /// Whether a sixel of the stretch paints.
 #[inline(always)]
-pub(crate) fn paints(stretch: &[u8]) -> bool
+fn paints(stretch: &[u8]) -> bool
     requires { AreSixels stretch.now }
     ensures { result ≡ any_paints stretch.now (length stretch.now) }
 {
@@ -279,7 +265,7 @@ pub(crate) fn tally_stretch<P: Cover>(
 fn try_cover<P: Cover>(notes: &Notes, plane: &mut P, bytes: &[u8], count: usize) -> bool
     requires sixels { (k : ℕ) → k < count → IsTrue (is_data (slice_index bytes.now k)) }
     requires bytes { count ≤ length bytes.now }
-    ensures fits { result ≡ true → FitsIn notes.now count (P.grid plane.old) }
+    ensures fits { result ≡ true → Fits notes.now count (P.grid plane.old) }
     ensures covered { result ≡ true → P.grid plane.new ≡ stretched_grid (P.grid plane.old) notes.now.column
         notes.now.band count (sixel_of bytes.now count) (kept_by P.keeps 0) }
     ensures kept { result ≡ false → plane.new ≡ plane.old }
@@ -323,5 +309,18 @@ pub(crate) fn draw_stretch<P: Cover>(
             }
         }
         None => {}
+    }
+}
+
+/// Notes a stretch of sixels.
+#[inline(always)]
+pub(crate) fn note_stretch(notes: &mut Notes, stretch: &[u8])
+    requires { AreSixels stretch.now }
+    ensures { (seen : List PlacedValue) (place : ℕ) → IsNotesAfter notes.old (events_of seen)
+        → IsNotesAfter notes.new (events_of (seen ++ sixels_from place stretch.now)) }
+{
+    notes.column = notes.column.saturating_add(stretch.len() as u64);
+    if paints(stretch) {
+        notes.paint();
     }
 }

@@ -89,9 +89,27 @@ pub fn survey<S: Source>(
     ensures memory { IfSome (S.state input.old).remaining (λ bytes. result ≡ Err InputFault.OutOfMemory
         → DeclareBoxIn bytes) }
 {
-    let mut piece = [0u8; PIECE];
+    survey_with(alloc, profile, input, &mut [0u8; PIECE])
+}
+
+/// As `survey`, with the caller's room for the bytes that are read at once. So a caller with many documents clears it
+/// once.
+pub fn survey_with<S: Source>(
+    alloc: Global,
+    profile: Profile,
+    input: &mut S,
+    piece: &mut [u8; PIECE],
+) -> Result<Survey, InputFault>
+    ensures answer { IfSome (S.state input.old).remaining (Answers (count_of profile) result) }
+    ensures failures { (S.state input.new).failures ≡ failures_after result (S.state input.old).failures }
+    ensures unread { result ≡ Err ReadFault →
+        IfSome (S.state input.old).remaining (NoFaultBefore (S.state input.new).remaining) }
+    ensures left { ReadsToEnd result (S.state input.old).remaining (S.state input.new).remaining }
+    ensures memory { IfSome (S.state input.old).remaining (λ bytes. result ≡ Err InputFault.OutOfMemory
+        → DeclareBoxIn bytes) }
+{
     let surveyor: Surveyor<CoverPlane> = Surveyor::new(profile);
     let mut surveying = Surveying { surveyor, alloc };
-    follow_source(input, &mut piece, &mut surveying)?;
+    follow_source(input, piece, &mut surveying)?;
     Ok(surveying.surveyor.finish())
 }

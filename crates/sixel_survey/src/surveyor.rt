@@ -11,7 +11,8 @@ ghost use Rattle.sixel_grammar.specs.declared.command.Placed.{Placed as PlacedVa
 ghost use Rattle.sixel_grammar.specs.Document.{Document, events_of, most_bytes};
 ghost use Rattle.sixel_model.specs.Profiles.{count_of};
 ghost use Rattle.sixel_model.specs.Rules.{all_rules as rules_in_order};
-ghost use Rattle.sixel_survey.specs.Covering.{IsCoverAfter, blank_cells, size_in};
+ghost use Rattle.sixel_judge.specs.Covering.{IsCoverAfter};
+ghost use Rattle.sixel_survey.specs.Covering.{blank_cells, size_in};
 ghost use Rattle.sixel_survey.specs.Declaring.{DeclaresBox};
 ghost use Rattle.sixel_survey.specs.Surveying.{HasSurveyed};
 ghost use Rattle.sixel_survey.specs.Surveys.{IsSurvey};
@@ -19,12 +20,12 @@ ghost use Rattle.sixel_survey.specs.Tallies.{entry_from as entry_made, entry_in}
 
 use crate::cover::{count_blank, draw};
 use crate::entry::{Entry, Survey};
-use crate::notes::Notes;
-use crate::stretch::{draw_stretch, tally_stretch};
+use crate::stretch::{draw_stretch, note_stretch, tally_stretch};
 use crate::tallying::tally;
 use arrayvec::ArrayVec;
 use sixel_grammar::Placed;
 use sixel_judge::Rule;
+use sixel_judge::notes::Notes;
 use sixel_model::{ALL_RULES, Profile, RULE_COUNT};
 use sixel_plane::Cover;
 use std::alloc::{AllocError, Global};
@@ -32,7 +33,7 @@ use std::marker::Model;
 
 /// The rule at this place in the order, counted from 0.
 fn rule_at(index: usize) -> Rule
-    requires { index < 13 }
+    requires { index < RULE_COUNT }
     ensures { result ≡ get_or rules_in_order index EightBit }
 {
     ALL_RULES[index]
@@ -40,7 +41,7 @@ fn rule_at(index: usize) -> Rule
 
 /// The tally of the rule at this place in the order.
 fn tally_at(tallies: &[Option<Entry>; RULE_COUNT], index: usize) -> Option<Entry>
-    requires { index < 13 }
+    requires { index < RULE_COUNT }
     ensures { result ≡ get_or tallies.now index None }
 {
     tallies[index]
@@ -61,7 +62,7 @@ fn entry_from(blank: u64, rule: Rule, tally: Entry) -> Entry
 
 /// The entry of the rule at this place in the order, if the rule counted.
 fn entry_at(tallies: &[Option<Entry>; RULE_COUNT], blank: u64, index: usize) -> Option<Entry>
-    requires { index < 13 }
+    requires { index < RULE_COUNT }
     ensures { result ≡ entry_in tallies.now blank (get_or rules_in_order index EightBit) }
 {
     match tally_at(tallies, index) {
@@ -194,7 +195,7 @@ impl<P: Cover> Surveyor<P> {
             stretch,
         );
         draw_stretch(&self.notes, &mut self.plane, bytes, count);
-        self.notes.take_stretch(stretch);
+        note_stretch(&mut self.notes, stretch);
     }
 
     /// The survey of a document.

@@ -5,13 +5,7 @@ ghost use Rattle.sixel_survey.specs.Tallies.{next_tally, tally_with};
 
 use crate::entry::Entry;
 use sixel_judge::Rule;
-
-/// A rule counts at an event.
-#[derive(Clone, Copy, Debug)]
-pub(crate) struct Hit {
-    /// The pixel of the event, as in `Entry`.
-    pub pixel: Option<(u64, u64)>,
-}
+use sixel_judge::hits::Hit;
 
 /// The tally of a rule after an event at this offset, at which the rule counts. The count stops at `u64::MAX`.
 #[inline(always)]

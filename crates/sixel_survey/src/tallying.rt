@@ -9,20 +9,20 @@ ghost use Rattle.sixel_grammar.specs.Document.{events_of};
 ghost use Rattle.sixel_model.specs.declared.rule.Rule.{Rule as RuleValue};
 ghost use Rattle.sixel_model.specs.Profiles.{count_of};
 ghost use Rattle.sixel_model.specs.Rules.{number_of};
-ghost use Rattle.sixel_survey.specs.Covering.{IsCoverAfter};
-ghost use Rattle.sixel_survey.specs.Notes.{IsNotesAfter, known_in, lacks_definition_in};
-ghost use Rattle.sixel_survey.specs.Stretches.{FitsIn};
+ghost use Rattle.sixel_judge.specs.Covering.{IsCoverAfter};
+ghost use Rattle.sixel_judge.specs.Notes.{IsNotesAfter, known_in, lacks_definition_in};
+ghost use Rattle.sixel_judge.specs.Stretches.{Fits};
 ghost use Rattle.sixel_survey.specs.Surveying.{AreTallies};
 ghost use Rattle.sixel_survey.specs.Tallies.{AreTalliedFor, is_one_of, of_columns, tally_in};
 
 use crate::entry::Entry;
-use crate::hits::hit_of;
-use crate::notes::Notes;
-use crate::stretch::fits;
 use crate::tally::counted;
 use sixel_grammar::{Command, Event, Placed};
 use sixel_judge::Rule;
 use sixel_judge::events::{columns_of, is_painting, is_repeat_of_zero};
+use sixel_judge::hits::hit_of;
+use sixel_judge::notes::Notes;
+use sixel_judge::outside::fits;
 use sixel_model::{Profile, RULE_COUNT};
 use sixel_plane::Cover;
 
@@ -30,23 +30,9 @@ use sixel_plane::Cover;
 #[inline(always)]
 pub(crate) fn index_of(rule: Rule) -> usize
     ensures value { result ≡ number_of rule - 1 }
-    ensures below { result < 13 }
+    ensures below { result < RULE_COUNT }
 {
-    match rule {
-        Rule::RasterFirst => 0,
-        Rule::RasterTwice => 1,
-        Rule::Ratio => 2,
-        Rule::BoxSize => 3,
-        Rule::Register => 4,
-        Rule::ColourValue => 5,
-        Rule::RepeatZero => 6,
-        Rule::Unselected => 7,
-        Rule::Undefined => 8,
-        Rule::Redefined => 9,
-        Rule::Outside => 10,
-        Rule::Uncovered => 11,
-        Rule::EightBit => 12,
-    }
+    rule as usize - 1
 }
 
 /// The tally of the rule.
@@ -89,7 +75,7 @@ fn tally_rule<P: Cover>(
 /// Whether columns lie in the box, if there is one, with all six rows of their band.
 #[inline(always)]
 fn fits_box<P: Cover>(notes: &Notes, plane: &Option<P>, count: u16) -> bool
-    ensures { result ≡ true → IfSome (option_map P.grid plane.now) (FitsIn notes.now count) }
+    ensures { result ≡ true → IfSome (option_map P.grid plane.now) (Fits notes.now count) }
 {
     match plane {
         Some(plane) => fits(notes, plane, count as usize),
@@ -102,7 +88,7 @@ fn fits_box<P: Cover>(notes: &Notes, plane: &Option<P>, count: u16) -> bool
 fn paints_well<P: Cover>(profile: Profile, notes: &Notes, plane: &Option<P>, event: &Event) -> bool
     ensures known { result ≡ true → is_some (known_in notes.now) ≡ true }
     ensures defined { result ≡ true → lacks_definition_in (count_of profile) notes.now ≡ false }
-    ensures fits { result ≡ true → IfSome (option_map P.grid plane.now) (FitsIn notes.now (said_columns 0 event.now)) }
+    ensures fits { result ≡ true → IfSome (option_map P.grid plane.now) (Fits notes.now (said_columns 0 event.now)) }
 {
     notes.known().is_some()
         && !notes.lacks_definition(profile)

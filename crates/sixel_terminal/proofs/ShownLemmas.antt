@@ -1,15 +1,12 @@
 -- The terminal shows what it stores after all events.
-use Rattle.std.proofs.Common.{◌≡◌, ℕ, zero, suc, ◌+◌, ◌*◌, ◌/◌, ◌%◌, ◌<◌, Bool, true, false, ◌||◌, Option, Some, None}
-use Rattle.std.proofs.Common.{List, [], ◌∷◌, length, take, get_or, map, refl, sym, ap, ◌∙◌, arith}
+use Rattle.std.proofs.Common.{◌≡◌, ℕ, zero, suc, ◌+◌, ◌*◌, ◌/◌, ◌%◌, ◌<◌, Bool, true, false, Option, Some, None}
+use Rattle.std.proofs.Common.{List, length, take, get_or, map, refl, sym, ap, ◌∙◌, arith}
 use Rattle.std.specs.Prelude.{slice_get, unwrap_or, IsSome, if◌then◌else◌}
-use Rattle.std.specs.List.{list_any}
 use Rattle.std.specs.Option.{option_or, option_map, option_and_then}
 use Rattle.std.proofs.Math.Nat.{mod-eq_of_lt}
 use Rattle.std.proofs.lemmas.List.{get_or-map, length-map}
 use Rattle.std.proofs.lemmas.Nat.{div-add-mod'}
 use Rattle.sixel_grammar.specs.declared.command.Event.{Event}
-use Rattle.sixel_grammar.specs.declared.command.Placed.{Placed}
-use Rattle.sixel_grammar.specs.Document.{events_of}
 use Rattle.sixel_model.specs.declared.colour.Parts.{Parts}
 use Rattle.sixel_model.specs.declared.colour.Parts.TheVariants.{Rgb}
 use Rattle.sixel_model.specs.Positions.{at_position, last_at, last_below}
@@ -115,11 +112,6 @@ all_shown t events p colours inks runs seen s =
     (s.registers, s.colours_are))
 
 -- ---- strings that a terminal doesn't see
-
-pub any_event : (f : Event → Bool) (placed : List Placed)
-    → list_any (λ (p : Placed). f p.event) placed ≡ list_any f (events_of placed)
-any_event f [] = refl
-any_event f (p ∷ ps) = ap (λ (b : Bool). f p.event || b) (any_event f ps)
 
 none_below : {A : Type 0} (n : ℕ) (g : ℕ → Option A) → ((i : ℕ) → g i ≡ None) → last_below n g ≡ None
 unfolding last_below

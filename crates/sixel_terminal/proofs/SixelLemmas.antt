@@ -1,11 +1,10 @@
 -- The bits that sixels have together, and sixels without bits.
-use Rattle.std.proofs.Common.{◌≡◌, ℕ, ◌+◌, ◌-◌, ◌*◌, ◌/◌, ◌%◌, ◌^◌, ◌<◌, Bool, true, false, ◌&&◌, ◌||◌, cond, List}
-use Rattle.std.proofs.Common.{length, get_or, nat_le, nat_lt, refl, sym, ap, ap₂, ◌∙◌, arith}
+use Rattle.std.proofs.Common.{◌≡◌, ℕ, ◌+◌, ◌-◌, ◌*◌, ◌/◌, ◌%◌, ◌^◌, ◌<◌, Bool, true, false, ◌&&◌, ◌||◌, List}
+use Rattle.std.proofs.Common.{length, nat_le, nat_lt, refl, sym, ap, ap₂, ◌∙◌, arith}
 use Rattle.std.proofs.Common.{[], ◌∷◌, ◌==◌, max, suc, zero, take}
 use Rattle.std.specs.List.{list_any}
 use Rattle.std.specs.Int.{bit_at}
 use Rattle.std.specs.Prelude.{slice_index}
-use Rattle.std.proofs.lemmas.Bool.{and_parts, leb-true, ltb-true}
 use Rattle.std.proofs.lemmas.List.Folds.{list_any_more}
 use Rattle.std.proofs.lemmas.Nat.Bits.{bit_at-lt, bit_at-zero}
 use Rattle.std.proofs.lemmas.Nat.{div-add-mod'}
@@ -13,12 +12,10 @@ use Rattle.std.proofs.lemmas.Nat.Bits.{bit_at_cat_low}
 use Rattle.sixel_model.specs.Geometry.{covers}
 use Rattle.sixel_model.specs.Positions.{any_below}
 use Rattle.sixel_terminal.specs.declared.pen.Pen.{Pen}
-use Rattle.sixel_terminal.specs.declared.pixel.Ink.{Ink}
 use Rattle.sixel_terminal.specs.Displays.{Display}
 use Rattle.sixel_terminal.specs.Steps.{is_before_edges, is_from_origin, pen_covers}
-use Rattle.sixel_terminal.specs.Canvases.{black}
 use Rattle.sixel_terminal.specs.Stretches.{AreJoined, has_bit}
-use Rattle.sixel_terminal.proofs.StretchLemmas.{and_none, and_when}
+use Rattle.sixel_terminal.proofs.StretchLemmas.{and_none}
 
 -- ---- joined bits
 
@@ -59,20 +56,6 @@ none_at p (x ∷ xs) (suc k) none lt =
     or_second : (a b : Bool) → (a || b) ≡ false → b ≡ false
     or_second false b h = h
     or_second true b h = cc
-
--- a row whose bit no sixel has stays as it is
-pub row_kept : (joined bit at i : ℕ) (bytes : List ℕ) (ink : Ink) (xs : List Ink) → AreJoined joined bytes
-    → (bit_at joined bit == 1) ≡ false
-    → get_or xs i black
-    ≡ cond ((nat_le at i && nat_lt i (at + length bytes)) && has_bit (slice_index bytes (i - at)) bit) ink
-    (get_or xs i black)
-row_kept joined bit at i bytes ink xs are clear =
-    let within = nat_le at i && nat_lt i (at + length bytes) in
-    ap (λ (t : Bool). cond t ink (get_or xs i black))
-    (sym (and_when within _ false (λ t.
-    let parts = and_parts (nat_le at i) (nat_lt i (at + length bytes)) t in
-    none_at (λ b. has_bit b bit) bytes (i - at) (sym (are bit) ∙ clear)
-    (omega (arith, leb-true _ _ parts.0, ltb-true _ _ parts.1))) ∙ and_none within))
 
 -- ---- a sixel without bits
 

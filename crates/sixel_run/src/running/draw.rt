@@ -12,7 +12,11 @@ use sixel_io::{PIECE, Source};
 use sixel_terminal::Drawing;
 
 /// Reads the source to its end, and draws the events of its document. It keeps none of them.
-pub fn draw<S: Source>(input: &mut S, drawing: &mut Drawing) -> Result<(), InputFault>
+pub fn draw<S: Source>(
+    input: &mut S,
+    piece: &mut [u8; PIECE],
+    drawing: &mut Drawing,
+) -> Result<(), InputFault>
     requires { HasDrawn drawing.old [] }
     ensures terminal { OnOk result (drawing.new.terminal ≡ drawing.old.terminal) }
     ensures drawn { OnOk result (IfSome (S.state input.old).remaining (λ bytes.
@@ -23,11 +27,11 @@ pub fn draw<S: Source>(input: &mut S, drawing: &mut Drawing) -> Result<(), Input
         IfSome (S.state input.old).remaining (NoFaultBefore (S.state input.new).remaining) }
     ensures memory { result ≢ Err InputFault.OutOfMemory }
 {
-    Ok(follow_source(input, &mut [0u8; PIECE], drawing)?)
+    Ok(follow_source(input, piece, drawing)?)
 }
 
 /// Reads the source to its end, and keeps nothing.
-pub fn read_whole<S: Source>(input: &mut S) -> Result<(), InputFault>
+pub fn read_whole<S: Source>(input: &mut S, piece: &mut [u8; PIECE]) -> Result<(), InputFault>
     ensures read { OnOk result (IfSome (S.state input.old).remaining IsDocument) }
     ensures refused { IfErr result (λ fault. IfSome (S.state input.old).remaining (Explains fault)) }
     ensures failures { (S.state input.new).failures ≡ failures_after result (S.state input.old).failures }
@@ -35,5 +39,5 @@ pub fn read_whole<S: Source>(input: &mut S) -> Result<(), InputFault>
         IfSome (S.state input.old).remaining (NoFaultBefore (S.state input.new).remaining) }
     ensures memory { result ≢ Err InputFault.OutOfMemory }
 {
-    Ok(follow_source(input, &mut [0u8; PIECE], &mut ())?)
+    Ok(follow_source(input, piece, &mut ())?)
 }

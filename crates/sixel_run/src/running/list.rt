@@ -84,7 +84,11 @@ impl From<Halt<DeviceFault>> for RunFault {
 ///
 /// It isn't inlined, or its block would be on the stack of every task.
 #[inline(never)]
-pub fn list<S: Source, K: Sink>(input: &mut S, output: &mut K) -> Result<Status, RunFault>
+pub fn list<S: Source, K: Sink>(
+    input: &mut S,
+    piece: &mut [u8; PIECE],
+    output: &mut K,
+) -> Result<Status, RunFault>
     ensures wrote { IfSome (S.state input.old).remaining (λ bytes.
         Wrote ListTask bytes (S.state input.new).remaining result
         (K.state output.old).taken (K.state output.new).taken) }
@@ -98,12 +102,13 @@ pub fn list<S: Source, K: Sink>(input: &mut S, output: &mut K) -> Result<Status,
         lines: &mut lines,
         out: output,
     };
-    list_all(input, &mut listing)
+    list_all(input, piece, &mut listing)
 }
 
 /// Writes the lines of the whole input. Nothing waits in the block when it begins.
 fn list_all<S: Source, K: Sink>(
     input: &mut S,
+    piece: &mut [u8; PIECE],
     listing: &mut Listing<'_, '_, K>,
 ) -> Result<Status, RunFault>
     requires { listing.old.lines.now ≡ [] }
@@ -117,9 +122,8 @@ fn list_all<S: Source, K: Sink>(
     ensures same_out { listing.new.out.ghost_name ≡ listing.old.out.ghost_name }
 {
     let mut reader = Reader::new();
-    let mut piece = [0; PIECE];
     loop {
-        let count = match input.fill(&mut piece) {
+        let count = match input.fill(piece) {
             Ok(count) => count,
             Err(_) => return Err(RunFault::Read),
         };

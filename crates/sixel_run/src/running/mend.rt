@@ -27,6 +27,7 @@ pub fn mend<S: Source, K: Sink>(
     profile: Profile,
     mending: &Mending,
     input: &mut S,
+    piece: &mut [u8; PIECE],
     output: &mut K,
 ) -> Result<Status, RunFault>
     ensures wrote { IfSome (S.state input.old).remaining (λ bytes.
@@ -39,7 +40,7 @@ pub fn mend<S: Source, K: Sink>(
         IfSome (S.state input.old).remaining (NoFaultBefore (S.state input.new).remaining) }
     ensures writes { CountsWrites result (K.state output.old).failures (K.state output.new).failures }
 {
-    let (kept, measurer) = read_document(alloc, input)?;
+    let (kept, measurer) = read_document(alloc, input, piece)?;
     let Some(bytes) = kept else {
         size_of(&measurer)?;
         return Err(RunFault::OutOfMemory);
@@ -56,6 +57,7 @@ pub fn mend<S: Source, K: Sink>(
 fn read_document<S: Source>(
     alloc: Global,
     input: &mut S,
+    piece: &mut [u8; PIECE],
 ) -> Result<(Option<Vec<u8>>, Measurer), InputFault>
     ensures read { IfOk result (λ document. IfSome document.0 (λ kept.
         IfSome (S.state input.old).remaining (λ told. told ≡ kept.items))) }
@@ -69,9 +71,8 @@ fn read_document<S: Source>(
 {
     let mut kept = Some(Vec::new(alloc));
     let mut measurer = Measurer::new();
-    let mut piece = [0u8; PIECE];
     loop {
-        let count = input.fill(&mut piece)?;
+        let count = input.fill(piece)?;
         if count == 0 {
             measurer.finish()?;
             return Ok((kept, measurer));

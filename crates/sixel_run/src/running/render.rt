@@ -9,8 +9,8 @@ ghost use Rattle.sixel_run.specs.Outputs.{CountsWrites, RenderGives, WroteBy, Wr
 
 use crate::fault::RunFault;
 use crate::task::Status;
-use sixel_check::Verdict;
-use sixel_io::{Sink, Source};
+use sixel_check::{Verdict, check_with};
+use sixel_io::{PIECE, Sink, Source};
 use sixel_model::Profile;
 use sixel_ppm::write_ppm;
 use std::alloc::Global;
@@ -21,6 +21,7 @@ pub fn render<S: Source, K: Sink>(
     alloc: Global,
     profile: Profile,
     input: &mut S,
+    piece: &mut [u8; PIECE],
     output: &mut K,
 ) -> Result<Status, RunFault>
     ensures wrote { IfSome (S.state input.old).remaining (λ bytes.
@@ -33,7 +34,7 @@ pub fn render<S: Source, K: Sink>(
         IfSome (S.state input.old).remaining (NoFaultBefore (S.state input.new).remaining) }
     ensures writes { CountsWrites result (K.state output.old).failures (K.state output.new).failures }
 {
-    match sixel_check::check(alloc, profile, input)? {
+    match check_with(alloc, profile, input, piece)? {
         Verdict::Portable(picture) => {
             write_ppm(&picture, output)?;
             Ok(Status::Done)

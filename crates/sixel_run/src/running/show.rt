@@ -20,7 +20,7 @@ use super::screen::write_screen;
 use crate::fault::RunFault;
 use crate::task::Status;
 use sixel_grammar::InputFault;
-use sixel_io::{Sink, Source};
+use sixel_io::{PIECE, Sink, Source};
 use sixel_model::{Colour, Profile};
 use sixel_terminal::{Choices, Drawing, Ground, Screen, Terminal};
 use std::alloc::{AllocError, Global};
@@ -58,6 +58,7 @@ pub fn show<S: Source, K: Sink>(
     profile: Profile,
     choices: Choices,
     input: &mut S,
+    piece: &mut [u8; PIECE],
     output: &mut K,
 ) -> Result<Status, RunFault>
     requires { terminal_fault choices (greys profile) (white_screen choices) ≡ None }
@@ -70,7 +71,7 @@ pub fn show<S: Source, K: Sink>(
         IfSome (S.state input.old).remaining (NoFaultBefore (S.state input.new).remaining) }
     ensures writes { CountsWrites result (K.state output.old).failures (K.state output.new).failures }
 {
-    let screen = read_screen(alloc, profile, choices, input)?;
+    let screen = read_screen(alloc, profile, choices, input, piece)?;
     write_screen(&screen, output)
 }
 
@@ -80,6 +81,7 @@ fn read_screen<S: Source>(
     profile: Profile,
     choices: Choices,
     input: &mut S,
+    piece: &mut [u8; PIECE],
 ) -> Result<Screen, InputFault>
     requires { terminal_fault choices (greys profile) (white_screen choices) ≡ None }
     ensures shown { IfOk result (λ screen. IfSome (S.state input.old).remaining (λ bytes.
@@ -92,10 +94,10 @@ fn read_screen<S: Source>(
     ensures memory { result ≡ Err InputFault.OutOfMemory → IfSome (S.state input.old).remaining IsDocument }
 {
     let Ok(mut drawing) = nothing_drawn(alloc, profile, choices) else {
-        read_whole(input)?;
+        read_whole(input, piece)?;
         return Err(InputFault::OutOfMemory);
     };
-    draw(input, &mut drawing)?;
+    draw(input, piece, &mut drawing)?;
     Ok(drawing.finish())
 }
 

@@ -59,6 +59,7 @@ pub fn show_box<S: Source, K: Sink>(
     fill: bool,
     selects: bool,
     input: &mut S,
+    piece: &mut [u8; PIECE],
     output: &mut K,
 ) -> Result<Status, RunFault>
     ensures wrote { IfSome (S.state input.old).remaining (λ bytes.
@@ -76,7 +77,7 @@ pub fn show_box<S: Source, K: Sink>(
         fill,
         selects,
     };
-    match read_box_screen(alloc, kind, input)? {
+    match read_box_screen(alloc, kind, input, piece)? {
         Some(screen) => write_screen(&screen, output),
         None => Err(RunFault::NoBox),
     }
@@ -87,6 +88,7 @@ fn read_box_screen<S: Source>(
     alloc: Global,
     kind: Kind,
     input: &mut S,
+    piece: &mut [u8; PIECE],
 ) -> Result<Option<Screen>, InputFault>
     ensures shown { IfOk result (λ screen. IfSome (S.state input.old).remaining (λ bytes.
         (events : List Place) × Document events bytes
@@ -99,9 +101,8 @@ fn read_box_screen<S: Source>(
 {
     let mut reader = Reader::new();
     let mut stage = Stage::Undeclared(Some(Vec::new(alloc)));
-    let mut piece = [0u8; PIECE];
     loop {
-        let count = input.fill(&mut piece)?;
+        let count = input.fill(piece)?;
         if count == 0 {
             reader.finish()?;
             return Ok(stage.screen());

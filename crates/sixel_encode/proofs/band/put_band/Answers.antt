@@ -19,8 +19,7 @@ put_next-requires-clause-sixels g c =
     let register = c.loop-register.register in
     let small : register < 256 = omega (arith, c.loop-register-test.true, c.count-register-end.ensures.most) in
     are_sixels p c.args.band register (length c.loop-register.sixels) c.find_sixels.new.sixels
-    (found_in p c.args.band register _ c.width.result c.rows_of-rows.result.now c.loop-register.sixels
-    c.find_sixels.new.sixels c.rows_of-rows.ensures (c.band_groups-groups.ensures.groups register small)
+    (found_in c.loop-register.sixels c.rows_of-rows.ensures (c.band_groups-groups.ensures.groups register small)
     c.width.ensures.same (omega arith) c.find_sixels.ensures.long c.find_sixels.ensures.found)
 
 pub returns-in_err-put_next : goal.returns-in_err-put_next
@@ -35,8 +34,8 @@ returns-in_err-put_next g c =
     let below : register < length p.palette =
     omega (arith, c.loop-register-test.true, c.count-register-end.ensures.value, c.profile.ensures.count) in
     let small : register < 256 = omega (arith, c.loop-register-test.true, c.count-register-end.ensures.most) in
-    let found = found_in p c.args.band register _ c.width.result c.rows_of-rows.result.now c.loop-register.sixels
-    c.find_sixels.new.sixels c.rows_of-rows.ensures (c.band_groups-groups.ensures.groups register small)
+    let found = found_in c.loop-register.sixels
+    c.rows_of-rows.ensures (c.band_groups-groups.ensures.groups register small)
     c.width.ensures.same (omega arith) c.find_sixels.ensures.long c.find_sixels.ensures.found in
     rw (failed.1, registers-all p c.args.band (length p.palette) refl)
     (through-steps (registers_above p c.args.band) (register_step p c.args.band) (registers-then p c.args.band)
@@ -54,14 +53,15 @@ loop-register-preserved g c = elim c.if-own-ne0.branch [
       (omega (arith, c.loop-register-test.true, c.count-register-end.ensures.most)))
       ∙ not_from_false _ (ne_eqb _ 0 w.if-own-ne0.true) in
       let small : register < 256 = omega (arith, c.loop-register-test.true, c.count-register-end.ensures.most) in
-      let found = found_in p c.args.band register _ c.width.result c.rows_of-rows.result.now c.loop-register.sixels
-      w.find_sixels.new.sixels c.rows_of-rows.ensures (c.band_groups-groups.ensures.groups register small)
+      let found = found_in c.loop-register.sixels
+      c.rows_of-rows.ensures (c.band_groups-groups.ensures.groups register small)
       c.width.ensures.same (omega arith) w.find_sixels.ensures.long w.find_sixels.ensures.found in
       rw (w.out-is, w.text-is, w.is_first-is)
       (record {
         put = through-next (registers-then p c.args.band register) c.loop-register.invariant.put
             (through-as (step-found p c.args.band register (length c.loop-register.sixels)
-            w.find_sixels.new.sixels c.loop-register.is_first found here c.loop-register.invariant.first) w.in_ok-put_next.ensures);
+            w.find_sixels.new.sixels c.loop-register.is_first found here c.loop-register.invariant.first)
+            w.in_ok-put_next.ensures);
         first = first-after p c.args.band register here;
       })
   | else-own-ne0 w ↦

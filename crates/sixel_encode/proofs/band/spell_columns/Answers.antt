@@ -15,18 +15,16 @@ loop-start-init c = record {
   short = omega arith;
   within = omega arith;
   apart = λ some. absurd (omega (arith, some));
-  next = λ listed. none_passed c.args.sixels.now c.args.gaps.now.ends c.args.gaps.now.count
-      (length c.args.sixels.now) (c.requires.ends listed);
+  next = λ listed. none_passed (c.requires.ends listed);
   small = omega arith;
 }
 
 pub returns-then-sixels-start-eq63-clause-text : goal.returns-then-sixels-start-eq63-clause-text
 returns-then-sixels-start-eq63-clause-text c =
-    let xs = c.args.sixels.now in
     let inv = c.loop-start.invariant in
     c.put_part-at.ensures.text
     ∙ sym (inv.text ∙ ap (λ (t : List _). take c.loop-start.at c.loop-start.text ++ t)
-    (blank_end xs c.loop-start.from c.in-Some.start c.run_end-end.result.0 c.requires.sixels c.in-Some.ensures
+    (blank_end c.requires.sixels c.in-Some.ensures
     c.run_end-end.ensures.run (omega (arith, c.if-end-sixels.true)) c.if-sixels-start-eq63.true))
 
 pub loop-start-preserved : goal.loop-start-preserved
@@ -35,8 +33,7 @@ loop-start-preserved c =
     let inv = c.loop-start.invariant in
     let some : c.run_end-end.result.0 ≡ length xs → get_or xs c.in-Some.start 0 ≢ 63 =
     elim c.else-end-sixels.branch [
-      | else-end-sixels-via-then-end-sixels+else-sixels-start-eq63 w ↦
-          λ done blank. w.if-sixels-start-eq63.false blank
+      | else-end-sixels-via-then-end-sixels+else-sixels-start-eq63 w ↦ λ done blank. w.if-sixels-start-eq63.false blank
       | else-end-sixels-via-else-end-sixels w ↦ λ done blank. absurd (omega (arith, w.if-end-sixels.false, done))
     ] in
     let more = next_text xs c.loop-start.from c.in-Some.start c.run_end-end.result.0 c.requires.sixels
@@ -49,21 +46,19 @@ loop-start-preserved c =
     let high : c.in-Some.start < c.run_end-end.result.0 = c.run_end-end.ensures.run.some in
     record {
       text = rw (c.put_repeat-at.ensures.text, c.put_part-at.ensures.text)
-          (inv.text ∙ ap (λ (t : List _). line ++ t) more
-          ∙ sym (append_assoc line (single ++ run) rest)
+          (inv.text ∙ ap (λ (t : List _). line ++ t) more ∙ sym (append_assoc line (single ++ run) rest)
           ∙ ap (λ (t : List _). t ++ rest) (sym (append_assoc line single run)));
       long = c.put_repeat-at.ensures.long ∙ c.put_part-at.ensures.long ∙ inv.long;
       short = omega arith;
       within = c.run_end-end.ensures.run.within;
-      apart = apart_behind c.in-Some.start c.run_end-end.result.0 xs c.run_end-end.ensures.run;
+      apart = apart_behind c.run_end-end.ensures.run;
       next = c.run_end-end.ensures.next;
       small = c.run_end-end.ensures.small;
     }
 
 pub returns-clause-text : goal.returns-clause-text
 returns-clause-text c =
-    let xs = c.args.sixels.now in
     let inv = c.loop-start.invariant in
     c.put_part.ensures.text
     ∙ sym (inv.text ∙ ap (λ (t : List _). take c.loop-start.at c.loop-start.text ++ t)
-    (ink_text xs c.loop-start.from c.ink_end.result c.requires.sixels c.in_default.ensures c.ink_end.ensures))
+    (ink_text c.requires.sixels c.in_default.ensures c.ink_end.ensures))

@@ -4,8 +4,8 @@ use Rattle.sixel_encode.proofs.lanes.first_other.Goals as goal
 
 pub returns-in-Some : goal.returns-in-Some
 returns-in-Some c =
-    first_behind (λ b. not (b == c.args.byte)) c.args.from c.loop-at.at _ (length c.args.bytes.now) c.args.bytes.now
-    c.in-Some.index c.loop-at.invariant.after c.loop-at.invariant.none (omega arith) c.in-Some.ensures
+    first_behind c.args.from (length c.args.bytes.now)
+    c.loop-at.invariant.after c.loop-at.invariant.none (omega arith) c.in-Some.ensures
 
 pub returns : goal.returns
 returns c =

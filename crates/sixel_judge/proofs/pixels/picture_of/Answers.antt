@@ -2,6 +2,7 @@ use Rattle.std.proofs.Common.{◌≡◌, ℕ, Bool, true, Option, Some, None, Li
 use Rattle.sixel_model.proofs.LeftLemmas.{length_left}
 use Rattle.sixel_grammar.specs.declared.command.Event.{Event}
 use Rattle.sixel_model.specs.declared.colour.Parts.{Parts}
+use Rattle.sixel_model.specs.Profiles.{count_of}
 use Rattle.sixel_model.specs.Pictures.{PictureValue, picture_fault, picture_of_parts}
 use Rattle.sixel_model.specs.Rules.{palette_left, picture_left}
 use Rattle.sixel_model.specs.Grids.{Grid}
@@ -30,14 +31,18 @@ left_of registers p w h palette xs s events keeps is width height colours drawn 
 
 pub of_parts-requires : goal.of_parts-requires
 of_parts-requires g c =
-    let q = c.requires.stands in
+    let registers = count_of c.args.profile in
+    let events = c.requires.stands.0 in
+    let u = c.requires.stands.1 in
     let s = g.P.Cover.grid c.args.plane in
-    fits_parts q.0 _ _ _ (palette_left q.0 q.1) _ s c.width-width.ensures c.height-height.ensures
-    (c.left_palette-palette.ensures q.0 q.1 q.2.state_is) (length_left q.0 q.1)
-    (picture_fits c.args.state s q.1 c.into_registers.result.items (all_kept _ g.met.P.Plane.keeps_registers) q.2.state_is q.2.grid_is q.2.coloured
+    fits_parts registers _ _ _ (palette_left registers events) _ s c.width-width.ensures c.height-height.ensures
+    (c.left_palette-palette.ensures events u.notes_are u.unbroken) (length_left registers events)
+    (picture_fits registers s events c.into_registers.result.items (all_kept _ g.met.P.Plane.keeps_registers) u.grid_is u.unbroken
     c.into_registers.ensures)
 
 pub returns : goal.returns
-returns g c = λ registers events s.
-    left_of registers _ _ _ _ _ (g.P.Cover.grid c.args.plane) events (all_kept _ g.met.P.Plane.keeps_registers) c.of_parts.ensures c.width-width.ensures
-    c.height-height.ensures (c.left_palette-palette.ensures registers events s.state_is) s.grid_is c.into_registers.ensures
+returns g c = λ events u.
+    left_of (count_of c.args.profile) _ _ _ _ _ (g.P.Cover.grid c.args.plane) events
+    (all_kept _ g.met.P.Plane.keeps_registers) c.of_parts.ensures c.width-width.ensures
+    c.height-height.ensures (c.left_palette-palette.ensures events u.notes_are u.unbroken) u.grid_is
+    c.into_registers.ensures

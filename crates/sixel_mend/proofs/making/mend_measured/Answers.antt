@@ -19,8 +19,7 @@ returns-in_err-screen c =
     let failed = err_from_is_err_and exit.result exit.ensures.1 in
     let d = c.in_ok-width.ensures.sized c.args.bytes.now c.requires in
     rw (failed.1, failed.2)
-    (reading_refused (count_of c.args.profile) c.args.mending.now c.args.bytes.now d.0 c.in_ok-width.width
-    c.in_ok-width.height c.in_err-screen.field-0.0
+    (reading_refused (count_of c.args.profile) c.in_err-screen.field-0.0
     (measured c.args.mending.now c.args.bytes.now c.in_ok-width.width c.in_ok-width.height d.0 d.0 d.1
     (d.2 c.args.mending.now) c.in_ok-width.ensures.sides d.1) c.in_err-screen.ensures.refused)
 
@@ -35,8 +34,7 @@ pub returns : goal.returns
 returns c =
     let d = c.in_ok-width.ensures.sized c.args.bytes.now c.requires in
     let shown = c.in_ok-screen.ensures.shown in
-    numbered (count_of c.args.profile) c.args.mending.now c.args.bytes.now shown.0 c.in_ok-width.width
-    c.in_ok-width.height (map colour_in_ink c.pixels.result.now) c.picture_of.result
+    numbered (count_of c.args.profile) (map colour_in_ink c.pixels.result.now) c.picture_of.result
     (measured c.args.mending.now c.args.bytes.now c.in_ok-width.width c.in_ok-width.height d.0 shown.0 d.1
     (d.2 c.args.mending.now) c.in_ok-width.ensures.sides shown.1)
     (c.pixels.ensures.pixels ∙ shown.2) c.picture_of.ensures.picture c.picture_of.ensures.few

@@ -8,12 +8,10 @@ pub returns-in_err-judge-clause-refused : goal.returns-in_err-judge-clause-refus
 returns-in_err-judge-clause-refused c =
     let exit = c.from_residual-in_err-judge in
     let failed = err_from_is_err_and exit.result exit.ensures.1 in
-    let w = c.size-width.result.0 in
-    let h = c.size-width.result.1 in
     rw (failed.1, failed.2)
     (λ bytes measured registers m.
     let d = c.in_ok-extent.ensures.measured bytes measured in
-    size_refused registers m bytes d.0 w h c.in_err-judge.field-0.0 d.1 (c.size-width.ensures m (events_of d.0) d.2)
+    size_refused registers c.in_err-judge.field-0.0 d.1 (c.size-width.ensures m (events_of d.0) d.2)
     (sym c.judge.ensures ∙ c.in_err-judge.was))
 
 pub returns-clause-sized : goal.returns-clause-sized
@@ -23,7 +21,6 @@ returns-clause-sized c = λ bytes measured.
     let h = c.size-width.result.1 in (
       d.0,
       d.1,
-      λ m.
-          size_accepted m (events_of d.0) w h (c.size-width.ensures m (events_of d.0) d.2)
+      λ m. size_accepted (c.size-width.ensures m (events_of d.0) d.2)
           (sides_accepted w h c.in_ok-judge.field-0 (sym c.judge.ensures ∙ c.in_ok-judge.was)),
     )

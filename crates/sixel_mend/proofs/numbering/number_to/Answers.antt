@@ -23,13 +23,14 @@ loop-at-preserved c =
     let seen = distinct (colours_to pixels i) in
     let n = c.in-Some.ensures.numbers seen inv.0.holds.fills inv.0.knows in
     let holds =
-    pushed c.loop-at.numbering.colours c.register_of.new.numbering.colours c.loop-at.registers.items pixels i pixel
+    pushed pixels i pixel
     c.in-Some.register there inv.0.holds n.0 n.1 in (
       record {
         holds = subst
             (λ (rs : List ℕ). HoldsPixels c.register_of.new.numbering.colours None 0 rs (length pixels - (i + 1))
             (length pixels) (colours_to pixels (i + 1))) (sym c.push_reserved.ensures.items) holds;
-        knows = subst (λ (s : List Parts). KnowsLast c.register_of.new.last s) (sym (distinct_more pixels i pixel there))
+        knows = subst (λ (s : List Parts). KnowsLast c.register_of.new.last s)
+            (sym (distinct_more pixels i pixel there))
             (c.in-Some.ensures.known seen inv.0.holds.fills inv.0.knows);
       },
       c.in-Some.ensures.profile ∙ inv.1,

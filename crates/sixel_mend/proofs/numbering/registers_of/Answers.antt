@@ -29,13 +29,12 @@ loop-at-preserved-then-are_same c =
     let read : register ≡ get_or rs (i - 1) 0 = get_or_read rs (i - 1) register kept c.index-register.ensures 0 in
     let within = c.end_of_run-at.ensures.within in
     let all =
-    repeated c.loop-at.numbering.colours c.loop-at.last pixels pixel register rs i (end - i) end
-    (omega (arith, within.0))
-    (all_of_both pixels i (i + 8) end first pixel (i - 1) here there (c.if-are_same.ensures refl) c.end_of_run-at.ensures.same)
+    repeated (end - i) end (omega (arith, within.0))
+    (all_of_both pixels i (i + 8) end first pixel (i - 1) here there
+    (c.if-are_same.ensures refl) c.end_of_run-at.ensures.same)
     (record {
       holds = inv.0.holds;
-      has = last_has c.loop-at.numbering.colours rs pixels i (i - 1) pixel register (omega (arith, some)) inv.3
-          inv.0.holds there read;
+      has = last_has pixels i (i - 1) pixel register (omega (arith, some)) inv.3 inv.0.holds there read;
       knows = inv.0.knows;
     }) in
     let items : c.push_until.new.registers.items ≡ rs ++ replicate (end - i) register =

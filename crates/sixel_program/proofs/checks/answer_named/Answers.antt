@@ -1,11 +1,14 @@
-use Rattle.std.proofs.Common.{refl}
+use Rattle.sixel_program.proofs.NamedLemmas.{named_cut, named_said}
 use Rattle.sixel_program.proofs.checks.answer_named.Goals as goal
 
-pub returns-in-Check : goal.returns-in-Check
-returns-in-Check g c = rw c.in-Check.is c.check_named.ensures
+pub returns-then-is_unwritten : goal.returns-then-is_unwritten
+returns-then-is_unwritten g c =
+    let f = c.format_for-format.ensures in
+    named_cut _ _ _ _ _ _ _ _ c.write_named-answer.ensures.lines f.told f.failures f.format _ _
+    (c.is_unwritten.ensures.yes c.if-is_unwritten.true) c.write_named-answer.ensures.loud
 
-pub returns-in-Survey : goal.returns-in-Survey
-returns-in-Survey g c = rw c.in-Survey.is c.survey_named.ensures
-
-pub returns-in-Scan : goal.returns-in-Scan
-returns-in-Scan g c = rw (c.in-Scan.is, c.requires (rw c.in-Scan.is refl)) c.scan_named.ensures
+pub returns : goal.returns
+returns g c =
+    let f = c.format_for-format.ensures in
+    named_said _ _ _ _ _ _ _ _ c.write_named-answer.ensures.lines f.told f.failures f.format _ _
+    (c.is_unwritten.ensures.no c.if-is_unwritten.false) c.say_answer.ensures.answer c.say_answer.ensures.said

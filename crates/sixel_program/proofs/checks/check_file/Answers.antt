@@ -29,7 +29,7 @@ returns-in-Err-clause-checked g c =
         left = λ is. let no : true ≡ false = sym is ∙ file in cc;
         counted = λ is. let no : true ≡ false = sym is ∙ file in cc;
       };
-      is_end = unopened c.args.task _ _ _;
+      is_end = unopened c.args.task.now c.requires _ _ _;
       opening = record {
         input = λ is. let no : true ≡ false = sym is ∙ file in cc;
         opening = λ is. c.in-Err.ensures.ended;

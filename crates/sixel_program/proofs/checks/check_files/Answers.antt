@@ -75,4 +75,4 @@ returns-in-Ok-flush_verdicts-clause-checked g c =
     inl (done_hinted _ _ _ _ _ _ _ _ _ _ _ _
     (rw (take_all c.loop-name.name-index c.args.names.now c.loop-name-test.false) at c.loop-name.invariant.0.1) _ _
     c.flush_verdicts.ensures.bytes c.in-Ok-flush_verdicts.ensures.failures c.in-Ok-flush_verdicts.ensures.flushed
-    (rw (c.has_hint-has_hint.ensures, c.task.ensures, c.loop-name.invariant.0.2) at c.put_hint.ensures))
+    (rw (c.has_hint-has_hint.ensures, c.loop-name.invariant.0.2) at c.put_hint.ensures))

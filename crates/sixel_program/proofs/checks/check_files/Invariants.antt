@@ -3,13 +3,12 @@ use Rattle.std.specs.List.{list_any}
 use Rattle.std.specs.String.{string_bytes}
 use Rattle.sixel_io.specs.Devices.{change}
 use Rattle.sixel_program.specs.Files.{AreChecked, FileEnd, first_broken, is_dash}
-use Rattle.sixel_program.specs.Findings.{task_of}
 use Rattle.sixel_program.specs.Openings.{folder_view}
 use Rattle.sixel_program.specs.Peeked.{peeked_state}
 use Rattle.sixel_program.proofs.checks.check_files.Given as goal
 
 abbrev pub invariant-loop-name : goal.invariant-loop-name
-invariant-loop-name g l = ((ends : List FileEnd) × AreChecked (task_of l.task) l.is_quiet
+invariant-loop-name g l = ((ends : List FileEnd) × AreChecked l.task l.is_quiet
     (folder_view (g.F.Folder.opening l.folder) g.F.Opened.Source.state) ends
     (map string_bytes (take l.name-index l.names)) l.exit
     (change (peeked_state (drop l.fn.input.given l.fn.input.prefix.items) l.fn.input.after

@@ -1,13 +1,13 @@
 use Rattle.sixel_model.specs.Profiles.{count_of}
 use Rattle.sixel_ppm.specs.PpmReading.{NoPpmFaultBefore, ppm_read}
-use Rattle.sixel_run.specs.Outputs.{CheckGives, EncodeGives, MendGives, RenderGives, ShowBoxGives, ShowGives}
-use Rattle.sixel_run.specs.Outputs.{SurveyGives, mending}
+use Rattle.sixel_run.specs.Outputs.{EncodeGives, MendGives, RenderGives, ShowBoxGives, ShowGives, mending}
 use Rattle.sixel_run.specs.Screens.{screen_terminal, show_choices, show_terminal}
+use Rattle.sixel_run.proofs.LineTaskLemmas.{plain_wrote}
 use Rattle.sixel_run.proofs.RunLemmas.{unread, unread_by}
 use Rattle.sixel_run.proofs.running.perform.Goals as goal
 
-pub returns-in-Scan-clause-wrote : goal.returns-in-Scan-clause-wrote
-returns-in-Scan-clause-wrote g c = rw c.in-Scan.is c.scan.ensures.wrote
+pub returns-in-Check-clause-wrote : goal.returns-in-Check-clause-wrote
+returns-in-Check-clause-wrote g c = plain_wrote _ _ _ _ c.write_lines.ensures
 
 pub returns-in-Encode-clause-wrote : goal.returns-in-Encode-clause-wrote
 returns-in-Encode-clause-wrote g c =
@@ -18,33 +18,11 @@ returns-in-Encode-clause-wrote g c =
     (g.K.Sink.state c.args.output.now).taken (g.K.Sink.state c.encode.new.output).taken c.encode.result
     c.encode.ensures.wrote c.encode.ensures.unread)
 
-pub returns-in-Check-clause-memory : goal.returns-in-Check-clause-memory
-returns-in-Check-clause-memory g c = rw c.in-Check.is c.check.ensures.memory
-
-pub returns-in-Scan-clause-memory : goal.returns-in-Scan-clause-memory
-returns-in-Scan-clause-memory g c = rw c.in-Scan.is c.scan.ensures.memory
-
 pub returns-in-Render-clause-memory : goal.returns-in-Render-clause-memory
 returns-in-Render-clause-memory g c = rw c.in-Render.is c.render.ensures.memory
 
 pub returns-in-Encode-clause-memory : goal.returns-in-Encode-clause-memory
 returns-in-Encode-clause-memory g c = rw c.in-Encode.is c.encode.ensures.memory
-
-pub returns-in-Check-clause-wrote : goal.returns-in-Check-clause-wrote
-returns-in-Check-clause-wrote g c =
-    rw c.in-Check.is
-    (unread (λ bytes. CheckGives (count_of c.in-Check.profile) bytes)
-    (g.S.Source.state c.args.input.now).remaining (g.S.Source.state c.check.new.input).remaining
-    (g.K.Sink.state c.args.output.now).taken (g.K.Sink.state c.check.new.output).taken c.check.result
-    c.check.ensures.wrote c.check.ensures.unread)
-
-pub returns-in-Survey-clause-wrote : goal.returns-in-Survey-clause-wrote
-returns-in-Survey-clause-wrote g c =
-    rw c.in-Survey.is
-    (unread (λ bytes. SurveyGives (count_of c.in-Survey.profile) bytes)
-    (g.S.Source.state c.args.input.now).remaining (g.S.Source.state c.survey.new.input).remaining
-    (g.K.Sink.state c.args.output.now).taken (g.K.Sink.state c.survey.new.output).taken c.survey.result
-    c.survey.ensures.wrote c.survey.ensures.unread)
 
 pub returns-in-Render-clause-wrote : goal.returns-in-Render-clause-wrote
 returns-in-Render-clause-wrote g c =

@@ -21,6 +21,6 @@ loop-after-preserved c =
     length-take-le (length piece - (at + 2)) (drop (at + 2) piece) (omega (arith, length-drop (at + 2) piece)) in
     record {
       within = omega (arith, inside, rest, c.plain_bytes_in.ensures.within);
-      none = none_further c.args.eight piece at c.plain_bytes_in.result inside c.loop-after.invariant.none
+      none = none_further piece at c.plain_bytes_in.result inside c.loop-after.invariant.none
           (test.escape refl) (test.no_letter refl) (test.none refl) c.plain_bytes_in.ensures.text;
     }

@@ -1,6 +1,6 @@
 use Rattle.std.proofs.Common.{◌≡◌, ◌∙◌, false, sym}
 use Rattle.sixel_model.specs.Geometry.{band, column}
-use Rattle.sixel_survey.specs.Counting.{has_box}
+use Rattle.sixel_judge.specs.Counting.{has_box}
 use Rattle.sixel_survey.proofs.CoverLemmas.{cover_run, no_raster_stays}
 use Rattle.sixel_survey.proofs.cover.draw.Goals as goal
 

@@ -6,8 +6,9 @@ use Rattle.sixel_grammar.specs.declared.command.Placed.{Placed}
 use Rattle.sixel_grammar.specs.Document.{events_of}
 use Rattle.sixel_model.specs.Events.{is_painting}
 use Rattle.sixel_survey.specs.Stretches.{sixel_at, with_sixels}
-use Rattle.sixel_survey.specs.Tallies.{IsHit, IsTallyOf, tally_with}
-use Rattle.sixel_survey.proofs.HitLemmas.{hit_if}
+use Rattle.sixel_judge.specs.Counting.{IsHit}
+use Rattle.sixel_survey.specs.Tallies.{IsTallyOf, tally_with}
+use Rattle.sixel_judge.proofs.HitLemmas.{hit_if}
 use Rattle.sixel_survey.proofs.StretchLemmas.{over_all, tally_more, tally_start}
 use Rattle.sixel_survey.proofs.TallyLemmas.{with_one_more}
 use Rattle.sixel_survey.proofs.stretch.counted_stretch.Goals as goal

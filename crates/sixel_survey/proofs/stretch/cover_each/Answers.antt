@@ -1,6 +1,6 @@
 use Rattle.std.proofs.Common.{◌∙◌, arith}
 use Rattle.sixel_grammar.specs.Document.{events_of}
-use Rattle.sixel_survey.specs.Covering.{IsCoverOf}
+use Rattle.sixel_judge.specs.Covering.{IsCoverOf}
 use Rattle.sixel_survey.proofs.StretchLemmas.{cover_more, over_all}
 use Rattle.sixel_survey.proofs.stretch.cover_each.Goals as goal
 

@@ -1,8 +1,8 @@
 use Rattle.std.proofs.Common.{ℕ, List}
 use Rattle.sixel_grammar.specs.declared.command.Placed.{Placed}
 use Rattle.sixel_grammar.specs.Document.{events_of}
-use Rattle.sixel_survey.specs.Covering.{IsCoverOf}
-use Rattle.sixel_survey.specs.Notes.{IsNotesAfter}
+use Rattle.sixel_judge.specs.Covering.{IsCoverOf}
+use Rattle.sixel_judge.specs.Notes.{IsNotesAfter}
 use Rattle.sixel_survey.specs.Stretches.{with_sixels}
 use Rattle.sixel_survey.proofs.stretch.cover_each.Given as goal
 

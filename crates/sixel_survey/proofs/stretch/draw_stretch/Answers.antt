@@ -1,8 +1,8 @@
 use Rattle.std.proofs.Common.{◌≡◌, ◌∙◌, false, true, arith, length, rules, take}
 use Rattle.std.proofs.lemmas.List.{length-take-le}
 use Rattle.sixel_grammar.specs.Document.{events_of}
-use Rattle.sixel_survey.specs.Counting.{has_box}
-use Rattle.sixel_survey.specs.Covering.{IsCoverOf}
+use Rattle.sixel_judge.specs.Counting.{has_box}
+use Rattle.sixel_judge.specs.Covering.{IsCoverOf}
 use Rattle.sixel_plane.specs.Covers.{kept_by}
 use Rattle.sixel_survey.proofs.StretchLemmas.{cover_stretch, has_box_stays, over_all}
 use Rattle.sixel_survey.proofs.stretch.draw_stretch.Goals as goal

@@ -2,7 +2,7 @@ use Rattle.std.proofs.Common.{◌≡◌, false, subst, sym}
 use Rattle.sixel_grammar.specs.Document.{events_of}
 use Rattle.sixel_grammar.specs.Stretches.{sixels_from}
 use Rattle.sixel_model.specs.declared.rule.Rule.TheVariants.{Outside}
-use Rattle.sixel_survey.specs.Counting.{has_box}
+use Rattle.sixel_judge.specs.Counting.{has_box}
 use Rattle.sixel_survey.specs.Tallies.{IsTallyOf, tally_in}
 use Rattle.sixel_survey.proofs.StretchLemmas.{no_box_none, tally_passed}
 use Rattle.sixel_survey.proofs.TallyingLemmas.{tallied_kept, tallied_set}

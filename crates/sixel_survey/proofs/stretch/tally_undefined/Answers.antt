@@ -3,7 +3,7 @@ use Rattle.sixel_grammar.specs.Stretches.{sixels_from}
 use Rattle.sixel_model.specs.declared.rule.Rule.TheVariants.{Undefined}
 use Rattle.sixel_model.specs.Profiles.{count_of}
 use Rattle.sixel_model.proofs.PictureLemmas.{at_most_256}
-use Rattle.sixel_survey.specs.Notes.{lacks_definition_in}
+use Rattle.sixel_judge.specs.Notes.{lacks_definition_in}
 use Rattle.sixel_survey.specs.Tallies.{IsTallyOf, tally_in}
 use Rattle.sixel_survey.proofs.StretchLemmas.{undefined_each, undefined_none, tally_passed}
 use Rattle.sixel_survey.proofs.TallyingLemmas.{tallied_kept, tallied_set}

@@ -2,7 +2,7 @@ use Rattle.std.proofs.Common.{◌≡◌, ◌∙◌, false, true, ap, not, subst,
 use Rattle.sixel_grammar.specs.Stretches.{sixels_from}
 use Rattle.sixel_model.specs.declared.rule.Rule.TheVariants.{Unselected}
 use Rattle.std.specs.Prelude.{is_none}
-use Rattle.sixel_survey.specs.Notes.{known_in}
+use Rattle.sixel_judge.specs.Notes.{known_in}
 use Rattle.sixel_survey.specs.Tallies.{IsTallyOf, tally_in}
 use Rattle.sixel_survey.proofs.StretchLemmas.{unselected_each, unselected_none, tally_passed}
 use Rattle.sixel_survey.proofs.TallyingLemmas.{tallied_kept, tallied_set}

@@ -1,7 +1,8 @@
 use Rattle.std.proofs.Common.{◌≡◌, [], ◌∷◌, None, Some, ap, ◌∙◌}
 use Rattle.sixel_grammar.specs.Document.{events_of}
 use Rattle.sixel_model.specs.Profiles.{count_of}
-use Rattle.sixel_survey.specs.Tallies.{IsHit, next_tally, tally_in}
+use Rattle.sixel_judge.specs.Counting.{IsHit}
+use Rattle.sixel_survey.specs.Tallies.{next_tally, tally_in}
 use Rattle.sixel_survey.proofs.TallyLemmas.{tally_push}
 use Rattle.sixel_survey.proofs.TallyingLemmas.{tallied_kept, tallied_set}
 use Rattle.sixel_survey.proofs.tallying.tally_rule.Goals as goal

@@ -8,9 +8,9 @@ overflow_shl-result c = omega (arith, (lowest_is c.args.left c.requires.few).mos
 pub returns-clause-added : goal.returns-clause-added
 returns-clause-added c = λ bytes are.
     let lowest = lowest_is c.args.left c.requires.few in
-    lowest_added c.args.at c.args.left _ _ _ c.from.result bytes c.args.self.now.ends c.args.self.now.count lowest
-    (rest_is c.args.left _ (omega (arith, lowest.most))) (omega arith) c.from.ensures (omega (arith, c.requires.room)) are
+    lowest_added _ _ c.from.result lowest
+    (rest_is c.args.left _ (omega (arith, lowest.most))) (omega arith) c.from.ensures
+    (omega (arith, c.requires.room)) are
 
 pub returns-clause-fewer : goal.returns-clause-fewer
-returns-clause-fewer c = λ some.
-    rest_less c.args.left _ c.requires.few some (lowest_is c.args.left c.requires.few)
+returns-clause-fewer c = λ some. rest_less c.requires.few some (lowest_is c.args.left c.requires.few)

@@ -10,28 +10,24 @@ end_of-requires c =
     let are = c.requires.ends c.if-self.true in
     omega (
       arith,
-      few_items c.args.sixels.now c.args.self.now.ends c.args.self.now.count (length c.args.sixels.now) are.items
-          are.before,
+      few_items c.args.self.now.count (length c.args.sixels.now) are.items are.before,
       are.items.long,
       c.requires.few,
     )
 
 pub returns-then-byte-eq63-clause-run : goal.returns-then-byte-eq63-clause-run
 returns-then-byte-eq63-clause-run c =
-    (blank_run c.args.from c.args.start c.args.next c.end_of.result c.args.sixels.now c.args.self.now.ends
-    c.args.self.now.count c.requires.repeat c.requires.apart (c.requires.ends c.if-self.true)
+    (blank_run c.end_of.result c.requires.repeat c.requires.apart (c.requires.ends c.if-self.true)
     (c.requires.next c.if-self.true) c.if-byte-eq63.true c.end_of.ensures).0
 
 pub returns-then-byte-eq63-clause-next : goal.returns-then-byte-eq63-clause-next
 returns-then-byte-eq63-clause-next c = λ listed.
-    (blank_run c.args.from c.args.start c.args.next c.end_of.result c.args.sixels.now c.args.self.now.ends
-    c.args.self.now.count c.requires.repeat c.requires.apart (c.requires.ends listed) (c.requires.next listed)
+    (blank_run c.end_of.result c.requires.repeat c.requires.apart (c.requires.ends listed) (c.requires.next listed)
     c.if-byte-eq63.true c.end_of.ensures).1
 
 pub returns-then-byte-eq63-clause-small : goal.returns-then-byte-eq63-clause-small
 returns-then-byte-eq63-clause-small c =
-    let run = blank_run c.args.from c.args.start c.args.next c.end_of.result c.args.sixels.now c.args.self.now.ends
-    c.args.self.now.count c.requires.repeat c.requires.apart (c.requires.ends c.if-self.true)
+    let run = blank_run c.end_of.result c.requires.repeat c.requires.apart (c.requires.ends c.if-self.true)
     (c.requires.next c.if-self.true) c.if-byte-eq63.true c.end_of.ensures in
     omega (arith, run.0.some, c.requires.small)
 
@@ -41,9 +37,8 @@ returns-in-Some-clause-next c = λ listed.
       | else-self-via-then-self+else-byte-eq63 w ↦ w.if-byte-eq63.false
       | else-self-via-else-self w ↦ cc (listed, w.if-self.false)
     ] in
-    ink_run c.args.from c.args.start c.args.next c.in-Some.end c.args.sixels.now c.args.self.now.ends
-    c.args.self.now.count c.requires.repeat c.requires.apart (c.requires.ends listed) (c.requires.next listed) ink
-    (other_run c.args.start c.in-Some.end c.args.sixels.now c.in-Some.ensures)
+    ink_run c.requires.repeat c.requires.apart (c.requires.ends listed) (c.requires.next listed) ink
+    (other_run c.args.start c.in-Some.ensures)
 
 pub returns-in-None-clause-next : goal.returns-in-None-clause-next
 returns-in-None-clause-next c = λ listed.
@@ -51,6 +46,5 @@ returns-in-None-clause-next c = λ listed.
       | else-self-via-then-self+else-byte-eq63 w ↦ w.if-byte-eq63.false
       | else-self-via-else-self w ↦ cc (listed, w.if-self.false)
     ] in
-    ink_run c.args.from c.args.start c.args.next (length c.args.sixels.now) c.args.sixels.now c.args.self.now.ends
-    c.args.self.now.count c.requires.repeat c.requires.apart (c.requires.ends listed) (c.requires.next listed) ink
+    ink_run c.requires.repeat c.requires.apart (c.requires.ends listed) (c.requires.next listed) ink
     (last_run c.args.start c.args.sixels.now (omega (arith, c.requires.repeat.within)) c.in-None.ensures)

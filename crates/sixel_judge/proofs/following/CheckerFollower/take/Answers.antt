@@ -1,11 +1,11 @@
-use Rattle.std.proofs.Common.{length}
+use Rattle.sixel_model.specs.Profiles.{count_of}
 use Rattle.sixel_judge.proofs.FollowLemmas.{event_may, stops_one}
 use Rattle.sixel_judge.proofs.following.CheckerFollower.take.Goals as goal
 
 pub push-requires-clause-expected : goal.push-requires-clause-expected
 push-requires-clause-expected g c =
     let h = c.requires in
-    (length h.0.state.palette, h.1, h.2, (event_may h.1 c.args.placed.now h.3).0)
+    (count_of h.0.profile, h.1, h.2, (event_may h.1 c.args.placed.now h.3).0)
 
 pub push-requires-clause-spellable : goal.push-requires-clause-spellable
 push-requires-clause-spellable g c = (event_may c.requires.1 c.args.placed.now c.requires.3).1

@@ -1,23 +1,43 @@
+use Rattle.std.proofs.Common.{[], ◌∷◌, refl, sym}
+use Rattle.std.proofs.lemmas.List.{append-nil}
+use Rattle.std.proofs.lemmas.List.Elements.{All-cons, All-nil}
 use Rattle.std.proofs.lemmas.Result.{err_from_is_err_and}
-use Rattle.sixel_run.proofs.CheckLemmas.{checked_unwritten, checked_written, grown}
+use Rattle.sixel_io.proofs.SinkLemmas.{writes-as}
+use Rattle.sixel_model.specs.Profiles.{count_of}
+use Rattle.sixel_run.specs.declared.task.Task.TheVariants.{Check}
+use Rattle.sixel_run.specs.Outputs.{CheckGives, outcome_status}
+use Rattle.sixel_run.specs.Texts.{IsLine, outcome_line}
+use Rattle.sixel_run.proofs.CheckLemmas.{checked, grown}
+use Rattle.sixel_run.proofs.FeedLemmas.{outcome_is_line}
+use Rattle.sixel_run.proofs.LineTaskLemmas.{lines_cut, lines_put, lines_refused, refused_if}
 use Rattle.sixel_run.proofs.running.check.check.Goals as goal
 
-pub returns-in-Ok-clause-wrote : goal.returns-in-Ok-clause-wrote
-returns-in-Ok-clause-wrote g c =
+pub returns-in-Ok : goal.returns-in-Ok
+returns-in-Ok g c =
+    let outcome = c.in_ok-outcome.outcome in
     rw c.status_of.ensures
-    (checked_written _ (g.S.Source.state c.args.input.now).remaining c.in_ok-outcome.outcome
-    (g.K.Sink.state c.args.output.now).taken (g.K.Sink.state c.write_outcome.new.out).taken
-    c.in_ok-outcome.ensures.answer c.in-Ok.ensures.taken)
+    (lines_put _ _ _ refl _ (outcome_line outcome ∷ []) (outcome_status outcome) _ _ _
+    (checked _ (g.S.Source.state c.args.input.now).remaining outcome c.in_ok-outcome.ensures.answer)
+    (All-cons IsLine _ [] (outcome_is_line outcome) (All-nil IsLine)) c.in_ok-outcome.ensures.left
+    c.in_ok-outcome.ensures.failures _ _
+    (writes-as (sym (append-nil _)) (rw (c.as_slice.ensures.value, c.outcome_line.ensures) at c.in-Ok.ensures)))
 
-pub returns-in-Err-clause-wrote : goal.returns-in-Err-clause-wrote
-returns-in-Err-clause-wrote g c =
-    checked_unwritten _ (g.S.Source.state c.args.input.now).remaining c.in_ok-outcome.outcome
-    (g.K.Sink.state c.args.output.now).taken (g.K.Sink.state c.write_outcome.new.out).taken
-    c.in_ok-outcome.ensures.answer c.in-Err.ensures.taken
+pub returns-in-Err : goal.returns-in-Err
+returns-in-Err g c =
+    let outcome = c.in_ok-outcome.outcome in
+    lines_cut _ _ _ refl _ (outcome_line outcome ∷ []) (outcome_status outcome) _ _ _
+    (checked _ (g.S.Source.state c.args.input.now).remaining outcome c.in_ok-outcome.ensures.answer)
+    (All-cons IsLine _ [] (outcome_is_line outcome) (All-nil IsLine)) c.in_ok-outcome.ensures.left
+    c.in_ok-outcome.ensures.failures _ _
+    (writes-as (sym (append-nil _)) (rw (c.as_slice.ensures.value, c.outcome_line.ensures) at c.in-Err.ensures))
 
-pub returns-in_err-outcome-clause-memory : goal.returns-in_err-outcome-clause-memory
-returns-in_err-outcome-clause-memory g c =
+pub returns-in_err-outcome : goal.returns-in_err-outcome
+returns-in_err-outcome g c =
     let failed = err_from_is_err_and c.from_residual.result c.from_residual.ensures.1 in
-    grown _ _ (g.S.Source.state c.args.input.now).remaining _ failed.0 c.from_residual.result
-    c.in_err-outcome.ensures.memory
-    failed.1 failed.2
+    let told = (g.S.Source.state c.args.input.now).remaining in
+    let e = c.in_err-outcome.ensures in
+    rw (failed.1, failed.2)
+    (lines_refused _ (Check c.args.profile) refl _ c.in_err-outcome.field-0.0 _ _
+    (refused_if (CheckGives (count_of c.args.profile)) told _ c.in_err-outcome.field-0.0 (λ bytes f is. (refl, is))
+    e.answer (λ is. e.unread (rw is refl)))
+    (grown _ _ told c.in_err-outcome.field-0.0 _ _ e.memory refl refl) e.left e.failures)

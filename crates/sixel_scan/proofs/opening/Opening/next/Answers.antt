@@ -8,8 +8,7 @@ use Rattle.sixel_scan.proofs.opening.Opening.next.Goals.{else-eight-via-else-eig
 use Rattle.sixel_scan.proofs.opening.Opening.next.Goals.{else-eight-via-then-eight+else-byte-eq-EIGHT_BIT_INTRODUCER}
 
 pub returns-then-byte-eq-ESCAPE-clause-next : goal.returns-then-byte-eq-ESCAPE-clause-next
-returns-then-byte-eq-ESCAPE-clause-next c =
-    next_anew c.args.eight c.args.self c.args.byte c.if-byte-eq-ESCAPE.true
+returns-then-byte-eq-ESCAPE-clause-next c = next_anew c.args.eight c.args.self c.args.byte c.if-byte-eq-ESCAPE.true
 
 pub returns-then-byte-eq-EIGHT_BIT_INTRODUCER-clause-next : goal.returns-then-byte-eq-EIGHT_BIT_INTRODUCER-clause-next
 returns-then-byte-eq-EIGHT_BIT_INTRODUCER-clause-next c =
@@ -50,7 +49,6 @@ returns-in-Letter c =
     record {
       next = subst (λ (o : Option Opening). NextIs c.args.eight c.args.self c.args.byte o)
           (sym c.after_introducer.ensures)
-          (next_on c.args.eight c.args.self c.args.byte introduced
-          (begins_none_by c.args.eight c.args.byte c.if-byte-eq-ESCAPE.false control));
+          (next_on c.args.self introduced (begins_none_by c.args.eight c.args.byte c.if-byte-eq-ESCAPE.false control));
       longer = λ is. introduced;
     }

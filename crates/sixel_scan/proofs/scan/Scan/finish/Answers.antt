@@ -19,11 +19,9 @@ returns-clause-all c =
     → ReportsAll s.scanner told bytes (option_to_list x))
     (λ (x : Option Scanned). (told : List StringAt) (bytes : List ℕ) → IsReading s told bytes
     → TellsAll s told bytes (option_to_list x))
-    (λ x all told bytes r.
-    tells_all s told bytes (option_to_list x) c.requires.empty r (all told r.read r.stands))
-    c.finish.ensures.all
+    (λ x all told bytes r. tells_all c.requires.empty r (all told r.read r.stands)) c.finish.ensures.all
 
 pub returns-clause-memory : goal.returns-clause-memory
 returns-clause-memory c =
     on_err_weaker c.finish.result
-    (λ grows told bytes r. grows_all c.args.self.now told bytes r (grows told r.read r.stands)) c.finish.ensures.memory
+    (λ grows told bytes r. grows_all r (grows told r.read r.stands)) c.finish.ensures.memory

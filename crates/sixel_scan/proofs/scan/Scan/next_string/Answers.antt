@@ -1,20 +1,15 @@
-use Rattle.std.proofs.Common.{◌≡◌, ◌∙◌, ◌++◌, Option, None, Ok, false, ap, arith, length, subst, sym}
-use Rattle.std.specs.Option.{option_to_list}
-use Rattle.sixel_scan.specs.declared.answer.Scanned.{Scanned}
+use Rattle.std.proofs.Common.{◌≡◌, ◌∙◌, [], None, Ok, ap, arith, length, sym}
 use Rattle.sixel_scan.specs.declared.scan.Scan.{Scan}
-use Rattle.sixel_scan.specs.Scans.{AfterTaking, TellsNext}
-use Rattle.sixel_scan.proofs.TellLemmas.{next_all, next_failed, next_grows, next_last, next_none, next_told}
+use Rattle.sixel_scan.proofs.TellLemmas.{Goes, next_all, next_failed, next_grows, next_last, next_none, next_told}
 use Rattle.sixel_scan.proofs.TellLemmas.{no_string, read_past, ready_failed, ready_told, reads_later, still_on}
 use Rattle.sixel_scan.proofs.TellLemmas.{still_reading, taken_past, takes_more, tells_fewer, tells_nothing, told_none}
+use Rattle.sixel_scan.proofs.scan.Scan.next_string.Given.{Over}
 use Rattle.sixel_scan.proofs.scan.Scan.next_string.Goals as goal
+use Rattle.sixel_scan.proofs.scan.Scan.next_string.Goals.{Else-is_some, In_ok-more}
 
 pub read_unread-requires : goal.read_unread-requires
 read_unread-requires g c =
-    let s = c.args.self.now in
-    let l = c.loop-scanned.self in
-    let old = (g.S.Source.state c.args.input.now).remaining in
-    let mid = (g.S.Source.state c.loop-scanned.input).remaining in
-    record { reads = still_reading s l old mid c.if-self.false c.loop-scanned.invariant.goes c.requires }
+    record { reads = still_reading c.if-self.false c.loop-scanned.invariant.goes c.requires }
 
 -- ---- the stream was over before
 
@@ -25,227 +20,121 @@ returns-then-self-clause-told g c =
 -- ---- a string has ended
 
 pub returns-in_err-scanned-clause-memory : goal.returns-in_err-scanned-clause-memory
-returns-in_err-scanned-clause-memory g c =
-    let s = c.args.self.now in
-    let l = c.loop-scanned.self in
-    let old = (g.S.Source.state c.args.input.now).remaining in
-    let mid = (g.S.Source.state c.loop-scanned.input).remaining in
-    λ is. next_grows s l old mid c.if-self.false c.loop-scanned.invariant.goes c.in_err-scanned.ensures.memory
+returns-in_err-scanned-clause-memory g c = λ is.
+    next_grows c.if-self.false c.loop-scanned.invariant.goes c.in_err-scanned.ensures.memory
 
 pub returns-then-is_some-clause-told : goal.returns-then-is_some-clause-told
 returns-then-is_some-clause-told g c =
-    let s = c.args.self.now in
-    let l = c.loop-scanned.self in
-    let old = (g.S.Source.state c.args.input.now).remaining in
-    let mid = (g.S.Source.state c.loop-scanned.input).remaining in
-    let u = c.read_unread.new.self in
     let e = c.in_ok-scanned.ensures in
-    next_told s l u old mid (option_to_list c.in_ok-scanned.scanned) c.if-self.false c.loop-scanned.invariant.goes
-    e.profile e.eight e.ended e.tells
+    next_told c.if-self.false c.loop-scanned.invariant.goes e.profile e.eight e.ended e.tells
 
 pub returns-then-is_some-clause-ready : goal.returns-then-is_some-clause-ready
-returns-then-is_some-clause-ready g c =
-    let s = c.args.self.now in
-    let l = c.loop-scanned.self in
-    let old = (g.S.Source.state c.args.input.now).remaining in
-    let mid = (g.S.Source.state c.loop-scanned.input).remaining in
-    let u = c.read_unread.new.self in
+returns-then-is_some-clause-ready g c = λ ne.
     let e = c.in_ok-scanned.ensures in
-    λ ne.
-    ready_told s u old mid (option_to_list c.in_ok-scanned.scanned) c.requires
-    (next_told s l u old mid (option_to_list c.in_ok-scanned.scanned) c.if-self.false c.loop-scanned.invariant.goes
-    e.profile e.eight e.ended e.tells)
+    ready_told c.requires
+    (next_told c.if-self.false c.loop-scanned.invariant.goes e.profile e.eight e.ended e.tells)
 
 pub returns-then-is_some-clause-fewer : goal.returns-then-is_some-clause-fewer
-returns-then-is_some-clause-fewer g c =
-    let s = c.args.self.now in
-    let l = c.loop-scanned.self in
-    let old = (g.S.Source.state c.args.input.now).remaining in
-    let mid = (g.S.Source.state c.loop-scanned.input).remaining in
-    let u = c.read_unread.new.self in
+returns-then-is_some-clause-fewer g c = λ some.
     let e = c.in_ok-scanned.ensures in
     let i = c.loop-scanned.invariant in
-    let t = still_reading s l old mid c.if-self.false i.goes c.requires in
-    let k = e.tells t.0 t.1 t.2 in
-    λ some.
-    tells_fewer s l u t.0 (t.0 ++ k.found) t.1 c.if-self.false
-    (e.ended ∙ still_on s l old mid c.if-self.false i.goes c.requires) i.later t.2 k.reading (e.less some)
+    let t = still_reading c.if-self.false i.goes c.requires in
+    tells_fewer c.args.self.now c.if-self.false (e.ended ∙ still_on c.if-self.false i.goes c.requires) i.later t.2
+    (e.tells t.0 t.1 t.2).reading (e.less some)
+
+-- ---- no string has ended
+
+module _ (g : Over) (c : Else-is_some g) where
+  past : Goes c.args.self.now (g.S.Source.state c.args.input.now).remaining c.read_unread.new.self
+      (g.S.Source.state c.loop-scanned.input).remaining
+  past =
+      let e = c.in_ok-scanned.ensures in
+      read_past c.in_ok-scanned.scanned c.loop-scanned.invariant.goes e.profile e.eight e.ended
+      (sym c.is_some.ensures ∙ c.if-is_some.false) e.tells
+
+  all_is_read : c.read_unread.new.self.unread ≡ []
+  all_is_read =
+      c.in_ok-scanned.ensures.all
+      (ap Ok (no_string c.in_ok-scanned.scanned (sym c.is_some.ensures ∙ c.if-is_some.false)))
+
+module _ (g : Over) (c : In_ok-more g) where
+  taken : Goes c.args.self.now (g.S.Source.state c.args.input.now).remaining c.take_more.new.self
+      (g.S.Source.state c.take_more.new.input).remaining
+  taken =
+      let e = c.in_ok-scanned.ensures in
+      let m = c.in_ok-more.ensures in
+      taken_past
+      (read_past c.in_ok-scanned.scanned c.loop-scanned.invariant.goes e.profile e.eight e.ended
+      (sym c.is_some.ensures ∙ c.if-is_some.false) e.tells)
+      m.rest m.taken m.more
 
 -- ---- the source failed
 
 pub returns-in_err-more-clause-read : goal.returns-in_err-more-clause-read
-returns-in_err-more-clause-read g c =
-    let s = c.args.self.now in
-    let l = c.loop-scanned.self in
-    let old = (g.S.Source.state c.args.input.now).remaining in
-    let mid = (g.S.Source.state c.loop-scanned.input).remaining in
-    let u = c.read_unread.new.self in
-    let e = c.in_ok-scanned.ensures in
-    let past = read_past s l u old mid c.in_ok-scanned.scanned c.loop-scanned.invariant.goes e.profile e.eight e.ended
-    (sym c.is_some.ensures ∙ c.if-is_some.false) e.tells in
-    λ is.
-    next_failed s u c.take_more.new.self old mid (g.S.Source.state c.take_more.new.input).remaining c.if-self.false past
-    c.in_err-more.ensures.kept
-    (e.all (ap Ok (no_string c.in_ok-scanned.scanned (sym c.is_some.ensures ∙ c.if-is_some.false))))
-    c.in_err-more.ensures.same
+returns-in_err-more-clause-read g c = λ is.
+    let p = (goal.at.returns-in_err-more-clause-read g c).Else-is_some in
+    next_failed c.if-self.false (past g p) c.in_err-more.ensures.kept (all_is_read g p) c.in_err-more.ensures.same
 
 pub returns-in_err-more-clause-ready : goal.returns-in_err-more-clause-ready
-returns-in_err-more-clause-ready g c =
-    let s = c.args.self.now in
-    let l = c.loop-scanned.self in
-    let old = (g.S.Source.state c.args.input.now).remaining in
-    let mid = (g.S.Source.state c.loop-scanned.input).remaining in
-    let u = c.read_unread.new.self in
-    let e = c.in_ok-scanned.ensures in
-    let past = read_past s l u old mid c.in_ok-scanned.scanned c.loop-scanned.invariant.goes e.profile e.eight e.ended
-    (sym c.is_some.ensures ∙ c.if-is_some.false) e.tells in
-    let new = (g.S.Source.state c.take_more.new.input).remaining in
-    λ ne.
-    ready_failed s c.take_more.new.self old new c.requires
-    (next_failed s u c.take_more.new.self old mid new c.if-self.false past c.in_err-more.ensures.kept
-    (e.all (ap Ok (no_string c.in_ok-scanned.scanned (sym c.is_some.ensures ∙ c.if-is_some.false))))
-    c.in_err-more.ensures.same)
+returns-in_err-more-clause-ready g c = λ ne.
+    let p = (goal.at.returns-in_err-more-clause-ready g c).Else-is_some in
+    ready_failed c.requires
+    (next_failed c.if-self.false (past g p) c.in_err-more.ensures.kept (all_is_read g p) c.in_err-more.ensures.same)
 
 -- ---- the end of the stream
 
 pub finish-requires-clause-reads : goal.finish-requires-clause-reads
 finish-requires-clause-reads g c =
-    let s = c.args.self.now in
-    let l = c.loop-scanned.self in
-    let old = (g.S.Source.state c.args.input.now).remaining in
-    let mid = (g.S.Source.state c.loop-scanned.input).remaining in
-    let u = c.read_unread.new.self in
-    let e = c.in_ok-scanned.ensures in
-    let past = read_past s l u old mid c.in_ok-scanned.scanned c.loop-scanned.invariant.goes e.profile e.eight e.ended
-    (sym c.is_some.ensures ∙ c.if-is_some.false) e.tells in
-    let v = c.take_more.new.self in
-    let new = (g.S.Source.state c.take_more.new.input).remaining in
-    let m = c.in_ok-more.ensures in
-    let goes = taken_past s u v old mid new past m.rest m.taken m.more in
-    still_reading s v old new c.if-self.false goes c.requires
+    still_reading c.if-self.false (taken g (goal.at.finish-requires-clause-reads g c).In_ok-more) c.requires
 
 pub returns-in_err-finish-clause-memory : goal.returns-in_err-finish-clause-memory
-returns-in_err-finish-clause-memory g c =
-    let s = c.args.self.now in
-    let l = c.loop-scanned.self in
-    let old = (g.S.Source.state c.args.input.now).remaining in
-    let mid = (g.S.Source.state c.loop-scanned.input).remaining in
-    let u = c.read_unread.new.self in
-    let e = c.in_ok-scanned.ensures in
-    let past = read_past s l u old mid c.in_ok-scanned.scanned c.loop-scanned.invariant.goes e.profile e.eight e.ended
-    (sym c.is_some.ensures ∙ c.if-is_some.false) e.tells in
-    let v = c.take_more.new.self in
-    let new = (g.S.Source.state c.take_more.new.input).remaining in
-    let m = c.in_ok-more.ensures in
-    let goes = taken_past s u v old mid new past m.rest m.taken m.more in
-    λ is. next_grows s v old new c.if-self.false goes c.in_err-finish.ensures.memory
+returns-in_err-finish-clause-memory g c = λ is.
+    next_grows c.if-self.false (taken g (goal.at.returns-in_err-finish-clause-memory g c).In_ok-more)
+    c.in_err-finish.ensures.memory
 
 pub returns-then-not-more-clause-told : goal.returns-then-not-more-clause-told
 returns-then-not-more-clause-told g c =
-    let s = c.args.self.now in
-    let l = c.loop-scanned.self in
-    let old = (g.S.Source.state c.args.input.now).remaining in
-    let mid = (g.S.Source.state c.loop-scanned.input).remaining in
-    let u = c.read_unread.new.self in
-    let e = c.in_ok-scanned.ensures in
-    let past = read_past s l u old mid c.in_ok-scanned.scanned c.loop-scanned.invariant.goes e.profile e.eight e.ended
-    (sym c.is_some.ensures ∙ c.if-is_some.false) e.tells in
-    let v = c.take_more.new.self in
-    let new = (g.S.Source.state c.take_more.new.input).remaining in
-    let m = c.in_ok-more.ensures in
-    let goes = taken_past s u v old mid new past m.rest m.taken m.more in
-    let over : c.in_ok-more.more ≡ false = c.if-not-more.true in
-    next_last s v c.finish.new.self old new (option_to_list c.in_ok-finish.field-0) c.if-self.false goes
-    c.finish.ensures.ended (m.over (ap Ok over)) c.in_ok-finish.ensures.all
+    next_last c.if-self.false (taken g (goal.at.returns-then-not-more-clause-told g c).In_ok-more)
+    c.finish.ensures.ended (c.in_ok-more.ensures.over (ap Ok c.if-not-more.true)) c.in_ok-finish.ensures.all
 
 pub returns-then-not-more-clause-ready : goal.returns-then-not-more-clause-ready
-returns-then-not-more-clause-ready g c =
-    let s = c.args.self.now in
-    let l = c.loop-scanned.self in
-    let old = (g.S.Source.state c.args.input.now).remaining in
-    let mid = (g.S.Source.state c.loop-scanned.input).remaining in
-    let u = c.read_unread.new.self in
-    let e = c.in_ok-scanned.ensures in
-    let past = read_past s l u old mid c.in_ok-scanned.scanned c.loop-scanned.invariant.goes e.profile e.eight e.ended
-    (sym c.is_some.ensures ∙ c.if-is_some.false) e.tells in
-    let v = c.take_more.new.self in
-    let new = (g.S.Source.state c.take_more.new.input).remaining in
-    let m = c.in_ok-more.ensures in
-    let goes = taken_past s u v old mid new past m.rest m.taken m.more in
-    let over : c.in_ok-more.more ≡ false = c.if-not-more.true in
-    λ ne.
-    ready_told s c.finish.new.self old new (option_to_list c.in_ok-finish.field-0) c.requires
-    (next_last s v c.finish.new.self old new (option_to_list c.in_ok-finish.field-0) c.if-self.false goes
-    c.finish.ensures.ended (m.over (ap Ok over)) c.in_ok-finish.ensures.all)
+returns-then-not-more-clause-ready g c = λ ne.
+    ready_told c.requires
+    (next_last c.if-self.false (taken g (goal.at.returns-then-not-more-clause-ready g c).In_ok-more)
+    c.finish.ensures.ended (c.in_ok-more.ensures.over (ap Ok c.if-not-more.true)) c.in_ok-finish.ensures.all)
 
 pub returns-then-not-more-clause-all : goal.returns-then-not-more-clause-all
-returns-then-not-more-clause-all g c =
-    let s = c.args.self.now in
-    let l = c.loop-scanned.self in
-    let old = (g.S.Source.state c.args.input.now).remaining in
-    let mid = (g.S.Source.state c.loop-scanned.input).remaining in
-    let u = c.read_unread.new.self in
-    let e = c.in_ok-scanned.ensures in
-    let past = read_past s l u old mid c.in_ok-scanned.scanned c.loop-scanned.invariant.goes e.profile e.eight e.ended
-    (sym c.is_some.ensures ∙ c.if-is_some.false) e.tells in
-    let v = c.take_more.new.self in
-    let new = (g.S.Source.state c.take_more.new.input).remaining in
-    let m = c.in_ok-more.ensures in
-    let goes = taken_past s u v old mid new past m.rest m.taken m.more in
-    let over : c.in_ok-more.more ≡ false = c.if-not-more.true in
-    λ is.
+returns-then-not-more-clause-all g c = λ is.
     let none : c.in_ok-finish.field-0 ≡ None = cc in
-    next_all s c.finish.new.self old new c.finish.ensures.ended
-    (subst
-    (λ (o : Option Scanned). AfterTaking s old new
-    (λ eight registers told bytes. TellsNext eight registers c.finish.new.self new told bytes (option_to_list o)))
-    none
-    (next_last s v c.finish.new.self old new (option_to_list c.in_ok-finish.field-0) c.if-self.false goes
-    c.finish.ensures.ended (m.over (ap Ok over)) c.in_ok-finish.ensures.all))
+    next_all c.finish.new.self c.in_ok-finish.field-0 none c.finish.ensures.ended
+    (next_last c.if-self.false (taken g (goal.at.returns-then-not-more-clause-all g c).In_ok-more)
+    c.finish.ensures.ended (c.in_ok-more.ensures.over (ap Ok c.if-not-more.true)) c.in_ok-finish.ensures.all)
 
 -- ---- the loop
 
 pub loop-scanned-smaller : goal.loop-scanned-smaller
 loop-scanned-smaller g c =
-    let s = c.args.self.now in
-    let l = c.loop-scanned.self in
-    let old = (g.S.Source.state c.args.input.now).remaining in
-    let mid = (g.S.Source.state c.loop-scanned.input).remaining in
-    let u = c.read_unread.new.self in
-    let e = c.in_ok-scanned.ensures in
-    let v = c.take_more.new.self in
     let m = c.in_ok-more.ensures in
-    let t = still_reading s l old mid c.if-self.false c.loop-scanned.invariant.goes c.requires in
-    let k = told_none u t.0 t.1 c.in_ok-scanned.scanned (sym c.is_some.ensures ∙ c.if-is_some.false)
-    (e.tells t.0 t.1 t.2) in
-    takes_more l v t.0 t.1 t.2 (m.more t.0 t.1 (tells_nothing u t.0 t.1 k)) (m.some (ap Ok c.if-not-more.false))
+    let t = still_reading c.if-self.false c.loop-scanned.invariant.goes c.requires in
+    let k = told_none c.in_ok-scanned.scanned (sym c.is_some.ensures ∙ c.if-is_some.false)
+    (c.in_ok-scanned.ensures.tells t.0 t.1 t.2) in
+    takes_more t.2 (m.more t.0 t.1 (tells_nothing k)) (m.some (ap Ok c.if-not-more.false))
 
 pub loop-scanned-preserved : goal.loop-scanned-preserved
 loop-scanned-preserved g c =
-    let s = c.args.self.now in
-    let l = c.loop-scanned.self in
-    let old = (g.S.Source.state c.args.input.now).remaining in
-    let mid = (g.S.Source.state c.loop-scanned.input).remaining in
-    let u = c.read_unread.new.self in
-    let e = c.in_ok-scanned.ensures in
-    let past = read_past s l u old mid c.in_ok-scanned.scanned c.loop-scanned.invariant.goes e.profile e.eight e.ended
-    (sym c.is_some.ensures ∙ c.if-is_some.false) e.tells in
-    let v = c.take_more.new.self in
-    let new = (g.S.Source.state c.take_more.new.input).remaining in
+    let at = goal.at.loop-scanned-preserved g c in
     let m = c.in_ok-more.ensures in
-    let goes = taken_past s u v old mid new past m.rest m.taken m.more in
     let i = c.loop-scanned.invariant in
-    let t = still_reading s l old mid c.if-self.false i.goes c.requires in
-    let k = told_none u t.0 t.1 c.in_ok-scanned.scanned (sym c.is_some.ensures ∙ c.if-is_some.false)
-    (e.tells t.0 t.1 t.2) in
-    let none = e.all (ap Ok (no_string c.in_ok-scanned.scanned (sym c.is_some.ensures ∙ c.if-is_some.false))) in
+    let t = still_reading c.if-self.false i.goes c.requires in
+    let k = told_none c.in_ok-scanned.scanned (sym c.is_some.ensures ∙ c.if-is_some.false)
+    (c.in_ok-scanned.ensures.tells t.0 t.1 t.2) in
     record {
-      goes = goes;
+      goes = taken g at.In_ok-more;
       failures = ◌∙◌ {b = (g.S.Source.state c.loop-scanned.input).failures} m.failures i.failures;
       later = omega (
         arith,
         i.later,
-        reads_later l u t.0 t.0 t.1 t.2 (tells_nothing u t.0 t.1 k) (omega (arith, ap length none)),
+        reads_later t.2 (tells_nothing k) (omega (arith, ap length (all_is_read g at.Else-is_some))),
         ap (λ (x : Scan). x.scanner.read) m.rest,
       );
     }

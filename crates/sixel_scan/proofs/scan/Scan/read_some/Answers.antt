@@ -9,16 +9,13 @@ read_some-requires-clause-stands c = let t = c.requires.reads in (t.0, t.2.read,
 pub read_some-requires-clause-room : goal.read_some-requires-clause-room
 read_some-requires-clause-room c =
     let t = c.requires.reads in
-    omega (arith, reading_counts c.args.self.now t.0 t.1 t.2, t.2.within, ap length c.as_slice.ensures)
+    omega (arith, reading_counts t.2, t.2.within, ap length c.as_slice.ensures)
 
 pub returns-in_err-step-clause-memory : goal.returns-in_err-step-clause-memory
 returns-in_err-step-clause-memory c =
     err_says _ c.from_residual.result
-    (λ told bytes r.
-    grows_some c.args.self.now told bytes r
-    (rw c.as_slice.ensures at (c.in_err-step.ensures.memory told r.read r.stands)))
+    (λ told bytes r. grows_some r (rw c.as_slice.ensures at (c.in_err-step.ensures.memory told r.read r.stands)))
 
 pub returns-clause-tells : goal.returns-clause-tells
-returns-clause-tells c = λ told bytes r.
-    tells_some c.args.self.now _ told bytes c.in_ok-step.step.count _ c.pass.ensures r
+returns-clause-tells c = λ told bytes r. tells_some _ c.in_ok-step.step.count c.pass.ensures r
     (rw c.as_slice.ensures at (c.in_ok-step.ensures.reports told r.read r.stands))

@@ -21,9 +21,8 @@ loop-self-preserved c =
     let e = c.in_ok-scanned.ensures in
     record {
       reads = λ told bytes r.
-          tells_nothing c.read_some.new.self told bytes
-          (told_none c.read_some.new.self told bytes c.in_ok-scanned.scanned
-          (sym c.is_some.ensures ∙ c.if-is_some.false) (e.tells told bytes (i.reads told bytes r)));
+          tells_nothing (told_none c.in_ok-scanned.scanned (sym c.is_some.ensures ∙ c.if-is_some.false)
+          (e.tells told bytes (i.reads told bytes r)));
       less = omega (arith, i.less, e.less);
       profile = e.profile ∙ i.profile;
       eight = e.eight ∙ i.eight;
@@ -31,5 +30,4 @@ loop-self-preserved c =
     }
 
 pub returns-clause-tells : goal.returns-clause-tells
-returns-clause-tells c = λ told bytes r.
-    tells_none c.loop-self.self told bytes (c.loop-self.invariant.reads told bytes r)
+returns-clause-tells c = λ told bytes r. tells_none (c.loop-self.invariant.reads told bytes r)

@@ -27,9 +27,8 @@ pub returns-in-Inside-clause-all : goal.returns-in-Inside-clause-all
 returns-in-Inside-clause-all c = λ told bytes h.
     let s = c.args.self.now in
     let r = stands_at s told bytes Inside c.in-Inside.is h in
-    last_told s told bytes r.before r.held c.report.result r.resumes r.holds.1
-    (c.report.ensures.reported r.held r.holds.2)
-    (string_ends_here s.eight r.held [] r.holds.0 (end_of_stream s.eight))
+    last_told s told bytes r.before r.resumes r.holds.1
+    (c.report.ensures.reported r.held r.holds.2) (string_ends_here r.holds.0 (end_of_stream s.eight))
 
 pub returns-in_err-feed-in-Escaped-clause-memory : goal.returns-in_err-feed-in-Escaped-clause-memory
 returns-in_err-feed-in-Escaped-clause-memory c =
@@ -42,7 +41,7 @@ returns-in_err-feed-in-Escaped-clause-memory c =
       string = r.holds.0 ++ 27 ∷ [];
       bytes_are = r.bytes_are ∙ ap (λ (t : List ℕ). r.before ++ t) r.holds.1;
       resumes = subst (Resumes s.eight told bytes (length r.before)) r.holds.1 r.resumes;
-      opens = opens_before s.eight r.holds.0 (27 ∷ []) r.holds.2;
+      opens = opens_before (27 ∷ []) r.holds.2;
       grows = c.in_err-feed-in-Escaped.ensures.memory (count_of s.profile) r.holds.0 r.holds.4;
     })
 
@@ -61,8 +60,7 @@ pub returns-in_ok-feed-in-Escaped-clause-all : goal.returns-in_ok-feed-in-Escape
 returns-in_ok-feed-in-Escaped-clause-all c = λ told bytes h.
     let s = c.args.self.now in
     let r = stands_at s told bytes Escaped c.in-Escaped.is h in
-    last_told s told bytes r.before (r.holds.0 ++ 27 ∷ []) c.report-in-Escaped.result
-    (subst (Resumes s.eight told bytes (length r.before)) r.holds.1 r.resumes) r.holds.3
+    last_told s told bytes r.before (subst (Resumes s.eight told bytes (length r.before)) r.holds.1 r.resumes) r.holds.3
     (c.report-in-Escaped.ensures.reported (r.holds.0 ++ 27 ∷ [])
     (c.in_ok-feed-in-Escaped.ensures.read (count_of s.profile) r.holds.0 r.holds.4))
-    (string_ends s.eight r.holds.0 (27 ∷ []) [] r.holds.2 (end_at_last_escape s.eight))
+    (string_ends r.holds.2 (end_at_last_escape s.eight))

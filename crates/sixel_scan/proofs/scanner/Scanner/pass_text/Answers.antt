@@ -18,8 +18,6 @@ returns-in-Nothing-clause-stands c = λ told bytes h.
     let stage : s.stage ≡ Text Nothing = c.in-Text.is ∙ ap Text c.in-Nothing.is in
     subst (λ (t : Stage). StandsWith s.eight registers (s.read + count) s.opened s.check t told (bytes ++ run))
     (sym stage)
-    (subst
-    (λ (n : ℕ). StandsWith s.eight registers (s.read + n) s.opened s.check (Text Nothing) told (bytes ++ run))
+    (subst (λ (n : ℕ). StandsWith s.eight registers (s.read + n) s.opened s.check (Text Nothing) told (bytes ++ run))
     (length-take-le count c.args.piece.now c.text_bytes_in-count.ensures.within)
-    (past_text s.eight registers s.read s.opened s.check told bytes run
-    (stands_at s told bytes (Text Nothing) stage h) c.text_bytes_in-count.ensures.text))
+    (past_text run (stands_at s told bytes (Text Nothing) stage h) c.text_bytes_in-count.ensures.text))

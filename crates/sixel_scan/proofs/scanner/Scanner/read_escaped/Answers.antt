@@ -1,10 +1,9 @@
-use Rattle.std.proofs.Common.{◌∙◌, ◌++◌, ◌∷◌, [], ℕ, List, ap, length, subst}
+use Rattle.std.proofs.Common.{◌∙◌, ◌++◌, ◌∷◌, [], ℕ, List, ap, length, refl}
 use Rattle.sixel_model.specs.Profiles.{count_of}
-use Rattle.sixel_judge.proofs.GrowthLemmas.{err_says}
+use Rattle.sixel_judge.proofs.GrowthLemmas.{err_says, grows_on}
 use Rattle.sixel_scan.specs.declared.scanner.Scanner.{Scanner}
-use Rattle.sixel_scan.specs.Prefixes.{Resumes}
-use Rattle.sixel_scan.proofs.GrowthLemmas.{opens_escaped}
-use Rattle.sixel_scan.proofs.ReportLemmas.{escape_grows, reports_one, room_for, two_read}
+use Rattle.sixel_scan.proofs.GrowthLemmas.{escape_grows}
+use Rattle.sixel_scan.proofs.ReportLemmas.{reports_one, room_for, two_read}
 use Rattle.sixel_scan.proofs.ScanLemmas.{to_next_escape, to_terminated, two_more}
 use Rattle.sixel_scan.proofs.scanner.Scanner.read_escaped.Goals as goal
 
@@ -12,9 +11,9 @@ pub returns-in_err-feed-clause-memory : goal.returns-in_err-feed-clause-memory
 returns-in_err-feed-clause-memory c =
     err_says _ c.from_residual.result
     (λ told bytes r.
-    let registers = count_of c.args.self.now.profile in
-    escape_grows c.args.self.now.eight registers told bytes r.before r.held r.holds.0 c.args.byte r.bytes_are r.holds.1
-    r.resumes r.holds.2 (c.in_err-feed.ensures.memory registers r.holds.0 r.holds.4))
+    escape_grows r
+    (grows_on (r.holds.0 ++ 27 ∷ []) (c.args.byte ∷ []) ((r.holds.0 ++ 27 ∷ []) ++ c.args.byte ∷ []) refl
+    (c.in_err-feed.ensures.memory (count_of c.args.self.now.profile) r.holds.0 r.holds.4)))
 
 pub feed-requires-then-byte-eq-BACKSLASH : goal.feed-requires-then-byte-eq-BACKSLASH
 feed-requires-then-byte-eq-BACKSLASH c =
@@ -27,17 +26,9 @@ returns-in_err-feed-2-clause-memory c =
     err_says _ c.from_residual-in_err-feed-2.result
     (λ told bytes r.
     let registers = count_of c.args.self.now.profile in
-    record {
-      before = r.before;
-      string = (r.holds.0 ++ 27 ∷ []) ++ c.args.byte ∷ [];
-      bytes_are = r.bytes_are ∙ ap (λ (t : List ℕ). r.before ++ (t ++ c.args.byte ∷ [])) r.holds.1;
-      resumes = subst
-          (λ (t : List ℕ). Resumes c.args.self.now.eight told bytes (length r.before) (t ++ c.args.byte ∷ []))
-          r.holds.1 r.resumes;
-      opens = opens_escaped c.args.self.now.eight r.holds.0 (c.args.byte ∷ []) r.holds.2;
-      grows = c.in_err-feed-2.ensures.memory registers (r.holds.0 ++ 27 ∷ [])
-          (c.in_ok-feed.ensures.read registers r.holds.0 r.holds.4);
-    })
+    escape_grows r
+    (c.in_err-feed-2.ensures.memory registers (r.holds.0 ++ 27 ∷ [])
+    (c.in_ok-feed.ensures.read registers r.holds.0 r.holds.4)))
 
 pub report-requires : goal.report-requires
 report-requires c =
@@ -59,26 +50,19 @@ returns-then-byte-eq-BACKSLASH-clause-read c = λ told bytes r.
     let s = c.args.self.now in
     let registers = count_of s.profile in
     let string = r.holds.0 in
-    reports_one c.report.new.self told bytes (string ++ 27 ∷ c.args.byte ∷ []) registers s.opened (length r.before)
-    c.report.result (ap (λ (x : Scanner). count_of x.profile) c.report.ensures.rest) r.holds.3
+    reports_one c.report.new.self told bytes (string ++ 27 ∷ c.args.byte ∷ []) s.opened (length r.before)
+    (ap (λ (x : Scanner). count_of x.profile) c.report.ensures.rest) r.holds.3
     (c.report.ensures.reported (string ++ 27 ∷ c.args.byte ∷ [])
     (two_read registers c.feed-then-byte-eq-BACKSLASH.new.self string c.args.byte
-    (c.in_ok-feed-2.ensures.read registers (string ++ 27 ∷ [])
-    (c.in_ok-feed.ensures.read registers string r.holds.4))))
-    (rw c.report.ensures.rest
-    (to_terminated s.eight registers s.read s.opened s.check c.report.new.self.check c.args.byte told bytes
-    c.if-byte-eq-BACKSLASH.true r))
+    (c.in_ok-feed-2.ensures.read registers (string ++ 27 ∷ []) (c.in_ok-feed.ensures.read registers string r.holds.4))))
+    (rw c.report.ensures.rest (to_terminated r c.report.new.self.check c.if-byte-eq-BACKSLASH.true))
 
 pub returns-clause-read : goal.returns-clause-read
 returns-clause-read c = λ told bytes r.
     let s = c.args.self.now in
-    let registers = count_of s.profile in
-    reports_one c.read_after_escape.new.self told bytes r.holds.0 registers s.opened (length r.before)
-    c.report-scanned.result
+    reports_one c.read_after_escape.new.self told bytes r.holds.0 s.opened (length r.before)
     (ap count_of c.read_after_escape.ensures.profile
     ∙ ap (λ (x : Scanner). count_of x.profile) c.report-scanned.ensures.rest)
     r.holds.3 (c.report-scanned.ensures.reported r.holds.0 r.holds.4)
     (c.read_after_escape.ensures.stands (told ++ record { place = length r.before; bytes = r.holds.0 } ∷ []) bytes
-    (rw c.report-scanned.ensures.rest
-    (to_next_escape s.eight registers s.read s.opened s.check c.report-scanned.new.self.check c.args.byte told bytes
-    c.if-byte-eq-BACKSLASH.false r)))
+    (rw c.report-scanned.ensures.rest (to_next_escape r c.report-scanned.new.self.check c.if-byte-eq-BACKSLASH.false)))

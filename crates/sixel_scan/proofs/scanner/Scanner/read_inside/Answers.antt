@@ -4,29 +4,21 @@ use Rattle.sixel_judge.proofs.GrowthLemmas.{err_says}
 use Rattle.sixel_scan.specs.declared.scanner.Scanner.{Scanner}
 use Rattle.sixel_scan.specs.declared.scanner.Stage.{Stage}
 use Rattle.sixel_scan.specs.Standing.{StandsWith}
-use Rattle.sixel_scan.proofs.GrowthLemmas.{opens_before}
+use Rattle.sixel_scan.proofs.GrowthLemmas.{byte_grows, opens_before}
 use Rattle.sixel_scan.proofs.ReportLemmas.{reports_none, reports_one, room_for}
 use Rattle.sixel_scan.proofs.ScanLemmas.{to_ended, to_escaped, to_inside}
 use Rattle.sixel_scan.proofs.scanner.Scanner.read_inside.Goals as goal
 
 pub returns-then-byte-eq-ESCAPE-clause-read : goal.returns-then-byte-eq-ESCAPE-clause-read
 returns-then-byte-eq-ESCAPE-clause-read c = λ told bytes r.
-    let s = c.args.self.now in
-    reports_none _ told bytes
-    (to_escaped s.eight (count_of s.profile) s.read s.opened s.check c.args.byte told bytes c.if-byte-eq-ESCAPE.true r)
+    reports_none _ told bytes (to_escaped r c.if-byte-eq-ESCAPE.true)
 
 pub returns-in_err-feed-clause-memory : goal.returns-in_err-feed-clause-memory
 returns-in_err-feed-clause-memory c =
     err_says _ c.from_residual.result
     (λ told bytes r.
-    record {
-      before = r.before;
-      string = r.held ++ c.args.byte ∷ [];
-      bytes_are = r.bytes_are;
-      resumes = r.resumes;
-      opens = opens_before c.args.self.now.eight r.held (c.args.byte ∷ []) r.holds.0;
-      grows = c.in_err-feed.ensures.memory (count_of c.args.self.now.profile) r.held r.holds.2;
-    })
+    byte_grows r (opens_before (c.args.byte ∷ []) r.holds.0)
+    (c.in_err-feed.ensures.memory (count_of c.args.self.now.profile) r.held r.holds.2))
 
 pub report-requires : goal.report-requires
 report-requires c =
@@ -42,12 +34,10 @@ pub returns-then-ends_after-clause-read : goal.returns-then-ends_after-clause-re
 returns-then-ends_after-clause-read c = λ told bytes r.
     let s = c.args.self.now in
     let registers = count_of s.profile in
-    reports_one c.report.new.self told bytes (r.held ++ c.args.byte ∷ []) registers s.opened (length r.before)
-    c.report.result (ap (λ (x : Scanner). count_of x.profile) c.report.ensures.rest) r.holds.1
+    reports_one c.report.new.self told bytes (r.held ++ c.args.byte ∷ []) s.opened (length r.before)
+    (ap (λ (x : Scanner). count_of x.profile) c.report.ensures.rest) r.holds.1
     (c.report.ensures.reported (r.held ++ c.args.byte ∷ []) (c.in_ok-feed.ensures.read registers r.held r.holds.2))
-    (rw c.report.ensures.rest
-    (to_ended s.eight registers s.read s.opened s.check c.report.new.self.check c.args.byte told bytes r
-    (c.ends_after.ensures.ends c.if-ends_after.true)))
+    (rw c.report.ensures.rest (to_ended r c.report.new.self.check (c.ends_after.ensures.ends c.if-ends_after.true)))
 
 pub returns-clause-read : goal.returns-clause-read
 returns-clause-read c = λ told bytes r.
@@ -56,6 +46,5 @@ returns-clause-read c = λ told bytes r.
     reports_none _ told bytes
     (subst (λ (t : Stage). StandsWith s.eight registers (s.read + 1) s.opened c.feed.new.self t told bytes)
     (sym c.requires.stage)
-    (to_inside s.eight registers s.read s.opened s.check c.feed.new.self c.args.byte told bytes r
-    (c.ends_after.ensures.inside c.if-ends_after.false)
+    (to_inside r c.feed.new.self (c.ends_after.ensures.inside c.if-ends_after.false)
     (c.in_ok-feed.ensures.read registers r.held r.holds.2)))

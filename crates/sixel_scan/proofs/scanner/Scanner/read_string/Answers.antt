@@ -25,7 +25,7 @@ returns-in_err-read-clause-memory c =
     let count = c.string_bytes_in-count.result in
     let r = stands_at s told bytes Inside c.requires.stage h in (
       count,
-      stretch_grows s.eight (count_of s.profile) s.read s.opened s.check told bytes (take count c.args.piece.now) r
+      stretch_grows (take count c.args.piece.now) r
           (c.in_err-read.ensures.memory (count_of s.profile) r.held r.holds.2),
     ))
 
@@ -38,8 +38,7 @@ returns-clause-stands c = λ told bytes h.
     let r = stands_at s told bytes Inside c.requires.stage h in
     subst (λ (t : Stage). StandsWith s.eight registers (s.read + count) s.opened c.read.new.self t told (bytes ++ run))
     (sym c.requires.stage)
-    (subst
-    (λ (n : ℕ). StandsWith s.eight registers (s.read + n) s.opened c.read.new.self Inside told (bytes ++ run))
+    (subst (λ (n : ℕ). StandsWith s.eight registers (s.read + n) s.opened c.read.new.self Inside told (bytes ++ run))
     (length-take-le count c.args.piece.now c.string_bytes_in-count.ensures.within)
-    (past_inside s.eight registers s.read s.opened s.check c.read.new.self told bytes run r
+    (past_inside c.read.new.self run r
     c.string_bytes_in-count.ensures.inside (c.in_ok-read.ensures.read registers r.held r.holds.2)))

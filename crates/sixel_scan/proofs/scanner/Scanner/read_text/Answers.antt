@@ -1,7 +1,7 @@
-use Rattle.std.proofs.Common.{◌++◌, ◌∷◌, [], length}
+use Rattle.std.proofs.Common.{length}
 use Rattle.sixel_model.specs.Profiles.{count_of}
 use Rattle.sixel_judge.proofs.GrowthLemmas.{err_says}
-use Rattle.sixel_scan.proofs.GrowthLemmas.{begun_grows_not, opens_now}
+use Rattle.sixel_scan.proofs.GrowthLemmas.{begun_grows_not, byte_grows, opens_now}
 use Rattle.sixel_scan.proofs.ScanLemmas.{text_held, to_introduced}
 use Rattle.sixel_scan.proofs.scanner.Scanner.read_text.Goals as goal
 
@@ -10,16 +10,10 @@ returns-in_err-check_opening-in-None-clause-memory c =
     err_says _ c.from_residual.result
     (λ told bytes r.
     let s = c.args.self.now in
-    record {
-      before = r.before;
-      string = r.held ++ c.args.byte ∷ [];
-      bytes_are = r.bytes_are;
-      resumes = r.resumes;
-      opens = opens_now s.eight (r.held ++ c.args.byte ∷ [])
-          (c.in-None.ensures.next r.held
-          (text_held s.eight (count_of s.profile) s.opened s.check c.args.opening (length r.before) r.held r.holds));
-      grows = c.in_err-check_opening-in-None.ensures.memory (length r.before) r.held r.holds;
-    })
+    let held = text_held s.eight (count_of s.profile) s.opened s.check c.args.opening (length r.before) r.held
+    r.holds in
+    byte_grows r (opens_now (c.in-None.ensures.next r.held held))
+    (c.in_err-check_opening-in-None.ensures.memory (length r.before) r.held r.holds))
 
 pub returns-in_err-check_opening-in-Some-Introduced-clause-memory :
     goal.returns-in_err-check_opening-in-Some-Introduced-clause-memory
@@ -30,7 +24,7 @@ returns-in_err-check_opening-in-Some-Introduced-clause-memory c =
     let f = rw c.in-Some-Introduced.field-0-is at c.in-Some-Introduced.ensures.next in
     let registers = count_of s.profile in
     let held = text_held s.eight registers s.opened s.check c.args.opening (length r.before) r.held r.holds in
-    absurd (begun_grows_not s.eight registers r.held c.args.byte (f r.held held)
+    absurd (begun_grows_not (f r.held held)
     (c.in_err-check_opening-in-Some-Introduced.ensures.memory (length r.before) r.held r.holds)))
 
 pub returns-in_ok-check_opening-in-Some-Introduced-clause-read :
@@ -38,10 +32,8 @@ pub returns-in_ok-check_opening-in-Some-Introduced-clause-read :
 returns-in_ok-check_opening-in-Some-Introduced-clause-read c =
     rw c.check_opening-in-Some-Introduced.ensures.rest
     (λ told bytes r.
-    let s = c.args.self.now in
     let f = rw c.in-Some-Introduced.field-0-is at c.in-Some-Introduced.ensures.next in
-    to_introduced s.eight (count_of s.profile) s.read s.opened s.check c.check_opening-in-Some-Introduced.new.self.check
-    c.args.opening c.args.byte told bytes f r
+    to_introduced r c.check_opening-in-Some-Introduced.new.self.check f
     (c.in_ok-check_opening-in-Some-Introduced.ensures.check (length r.before) r.held r.holds))
 
 pub returns-in-Some : goal.returns-in-Some

@@ -1,5 +1,4 @@
 use Rattle.std.proofs.Common.{[], ◌∷◌, refl}
-use Rattle.sixel_model.specs.Profiles.{count_of}
 use Rattle.sixel_judge.proofs.GrowthLemmas.{err_says}
 use Rattle.sixel_judge.proofs.GrowthLemmas.{grows_on}
 use Rattle.sixel_scan.proofs.scanner.Scanner.restart_after_control.Goals as goal

@@ -20,7 +20,7 @@ returns c = λ registers bytes read.
     let found = c.outcome.ensures registers a.events a.taken in record {
       checked = Ok found.verdict;
       answers = (a.events, document, found.verdict_is, found.everywhere, found.matters);
-      within = verdict_within registers a.events bytes found.verdict document found.verdict_is;
+      within = verdict_within registers found.verdict document found.verdict_is;
       result_is = ap (λ (o : Outcome). Ok o) found.outcome_is;
     }
 

@@ -1,0 +1,168 @@
+-- Each line that is written is one line: it has no line feed before its end.
+use Rattle.std.proofs.Common.{◌≡◌, ◌++◌, ◌∷◌, ℕ, true, false, Bool, List, [], Option, Some, None}
+use Rattle.std.proofs.Common.{ap, append_assoc, arith, codes, map, ne_eqb, refl, sym, ◌∙◌}
+use Rattle.std.specs.Prelude.{◌&&◌, decimal, nat_eq, not}
+use Rattle.std.specs.List.{All}
+use Rattle.std.specs.Option.{option_to_list}
+use Rattle.std.proofs.lemmas.List.Elements.{All-append, All-cons, All-nil}
+use Rattle.sixel_grammar.specs.declared.fault.Reason.{Reason}
+use Rattle.sixel_grammar.specs.declared.fault.Reason.TheVariants as reason
+use Rattle.sixel_model.specs.declared.rule.Rule.{Rule}
+use Rattle.sixel_model.specs.declared.rule.Rule.TheVariants as rule
+use Rattle.sixel_judge.specs.declared.verdict.Outcome.{Outcome}
+use Rattle.sixel_judge.specs.declared.verdict.Outcome.TheVariants.{Portable, Broken}
+use Rattle.sixel_survey.specs.declared.entry.Entry.{Entry}
+use Rattle.sixel_survey.specs.declared.entry.Survey.{Survey as ASurvey}
+use Rattle.sixel_scan.specs.declared.answer.Answer.{Answer}
+use Rattle.sixel_scan.specs.declared.answer.Answer.TheVariants as scanned
+use Rattle.sixel_scan.specs.declared.answer.Scanned.{Scanned}
+use Rattle.sixel_run.specs.Scanned.{string_lines}
+use Rattle.sixel_run.specs.Texts.{IsLine, Text, entry_line, line, numbers, pixel_parts, rule_name, size_line, spaced}
+use Rattle.sixel_run.specs.Texts.{answer_line, reason_name, string_line, survey_lines, outcome_line}
+use Rattle.sixel_run.proofs.DigitLemmas.{AreDigits, number_digits}
+
+-- a text without line feeds
+abbrev IsUnfed : ℕ → Type 0
+IsUnfed byte = nat_eq byte 10 ≡ false
+
+abbrev AreUnfed : List Text → Type 0
+AreUnfed [] = Unit {0}
+AreUnfed (part ∷ parts) = All IsUnfed part × AreUnfed parts
+
+-- whether a text has none
+abbrev has_no_feed : Text → Bool
+has_no_feed [] = true
+has_no_feed (byte ∷ text) = not (nat_eq byte 10) && has_no_feed text
+
+both_true : (a b : Bool) → (a && b) ≡ true → (a ≡ true) × (b ≡ true)
+both_true true b e = (refl, e)
+both_true false b e = let bad : false ≡ true = e in cc
+
+not_true : (a : Bool) → not a ≡ true → a ≡ false
+not_true true e = let bad : false ≡ true = e in cc
+not_true false e = refl
+
+name_unfed : (text : Text) → has_no_feed text ≡ true → All IsUnfed text
+name_unfed [] none = All-nil IsUnfed
+name_unfed (byte ∷ text) none =
+    let both = both_true (not (nat_eq byte 10)) (has_no_feed text) none in
+    All-cons IsUnfed byte text (not_true (nat_eq byte 10) both.0) (name_unfed text both.1)
+
+rule_unfed : (r : Rule) → All IsUnfed (rule_name r)
+rule_unfed rule.RasterFirst = name_unfed (codes "RasterFirst") refl
+rule_unfed rule.RasterTwice = name_unfed (codes "RasterTwice") refl
+rule_unfed rule.Ratio = name_unfed (codes "Ratio") refl
+rule_unfed rule.BoxSize = name_unfed (codes "BoxSize") refl
+rule_unfed rule.Register = name_unfed (codes "Register") refl
+rule_unfed rule.ColourValue = name_unfed (codes "ColourValue") refl
+rule_unfed rule.RepeatZero = name_unfed (codes "RepeatZero") refl
+rule_unfed rule.Unselected = name_unfed (codes "Unselected") refl
+rule_unfed rule.Undefined = name_unfed (codes "Undefined") refl
+rule_unfed rule.Redefined = name_unfed (codes "Redefined") refl
+rule_unfed rule.Outside = name_unfed (codes "Outside") refl
+rule_unfed rule.Uncovered = name_unfed (codes "Uncovered") refl
+rule_unfed rule.EightBit = name_unfed (codes "EightBit") refl
+
+-- nor do digits
+digits_unfed : (ds : Text) → AreDigits ds → All IsUnfed ds
+digits_unfed [] are = All-nil IsUnfed
+digits_unfed (d ∷ ds) are =
+    All-cons IsUnfed d ds (ne_eqb d 10 (λ is. omega (arith, is, are.0.0))) (digits_unfed ds are.1)
+
+number_unfed : (n : ℕ) → All IsUnfed (decimal n)
+number_unfed n = digits_unfed (decimal n) (number_digits n)
+
+pixel_unfed : (r : Rule) (pixel : Option (ℕ × ℕ)) → AreUnfed (pixel_parts r pixel)
+pixel_unfed rule.Outside None = tt
+pixel_unfed rule.Outside (Some p) = (number_unfed p.0, (number_unfed p.1, tt))
+pixel_unfed rule.Uncovered None = tt
+pixel_unfed rule.Uncovered (Some p) = (number_unfed p.0, (number_unfed p.1, tt))
+pixel_unfed _ pixel = tt
+
+spaced_unfed : (parts : List Text) → AreUnfed parts → All IsUnfed (spaced parts)
+spaced_unfed [] are = All-nil IsUnfed
+spaced_unfed (part ∷ parts) are =
+    All-cons IsUnfed 32 (part ++ spaced parts) refl
+    (All-append IsUnfed part (spaced parts) are.0 (spaced_unfed parts are.1))
+
+-- parts without line feeds make a line
+is_line : (first : Text) (parts : List Text) → All IsUnfed first → AreUnfed parts → IsLine (line first parts)
+is_line first parts one are = (
+  first ++ spaced parts,
+  refl,
+  All-append IsUnfed first (spaced parts) one (spaced_unfed parts are),
+)
+
+pub outcome_is_line : (o : Outcome) → IsLine (outcome_line o)
+outcome_is_line (Portable width height) =
+    is_line (codes "portable") (numbers (width ∷ height ∷ [])) (name_unfed (codes "portable") refl)
+    (number_unfed width, (number_unfed height, tt))
+outcome_is_line (Broken f) =
+    is_line (codes "broken") (rule_name f.rule ∷ decimal f.place ∷ pixel_parts f.rule f.pixel)
+    (name_unfed (codes "broken") refl)
+    (rule_unfed f.rule, (number_unfed f.place, pixel_unfed f.rule f.pixel))
+
+reason_unfed : (r : Reason) → All IsUnfed (reason_name r)
+reason_unfed reason.NotSixel = name_unfed (codes "NotSixel") refl
+reason_unfed reason.BadByte = name_unfed (codes "BadByte") refl
+reason_unfed reason.NumberTooLarge = name_unfed (codes "NumberTooLarge") refl
+reason_unfed reason.FieldCount = name_unfed (codes "FieldCount") refl
+reason_unfed reason.BadRepeat = name_unfed (codes "BadRepeat") refl
+reason_unfed reason.BadTerminator = name_unfed (codes "BadTerminator") refl
+reason_unfed reason.Truncated = name_unfed (codes "Truncated") refl
+reason_unfed reason.TooLong = name_unfed (codes "TooLong") refl
+reason_unfed reason.Trailing = name_unfed (codes "Trailing") refl
+
+-- a number, a space and a line are a line
+after_place : (place : ℕ) (first : Text) (parts : List Text) → All IsUnfed first → AreUnfed parts
+    → IsLine (decimal place ++ 32 ∷ line first parts)
+after_place place first parts one are =
+    let whole = is_line first parts one are in (
+      decimal place ++ 32 ∷ whole.0,
+      ap (λ (t : Text). decimal place ++ 32 ∷ t) whole.1
+          ∙ sym (append_assoc (decimal place) (32 ∷ whole.0) (10 ∷ [])),
+      All-append IsUnfed (decimal place) (32 ∷ whole.0) (number_unfed place) (All-cons IsUnfed 32 whole.0 refl whole.2),
+    )
+
+entry_is_line : (e : Entry) → IsLine (entry_line e)
+entry_is_line e =
+    is_line (rule_name e.rule) (decimal e.count ∷ decimal e.place ∷ pixel_parts e.rule e.pixel) (rule_unfed e.rule)
+    (number_unfed e.count, (number_unfed e.place, pixel_unfed e.rule e.pixel))
+
+entries_are_lines : (entries : List Entry) → All IsLine (map entry_line entries)
+entries_are_lines [] = All-nil IsLine
+entries_are_lines (e ∷ entries) =
+    All-cons IsLine (entry_line e) (map entry_line entries) (entry_is_line e) (entries_are_lines entries)
+
+size_is_line : (size : Option (ℕ × ℕ)) → All IsLine (map (λ size. size_line size.0 size.1) (option_to_list size))
+size_is_line None = All-nil IsLine
+size_is_line (Some size) =
+    All-cons IsLine (size_line size.0 size.1) []
+    (is_line (codes "portable") (numbers (size.0 ∷ size.1 ∷ [])) (name_unfed (codes "portable") refl)
+    (number_unfed size.0, (number_unfed size.1, tt)))
+    (All-nil IsLine)
+
+pub survey_is_lines : (s : ASurvey) → All IsLine (survey_lines s)
+survey_is_lines s =
+    All-append IsLine (map entry_line s.entries.items) (map (λ size. size_line size.0 size.1) (option_to_list s.size))
+    (entries_are_lines s.entries.items) (size_is_line s.size)
+
+-- ---- strings
+
+answer_is_line : (place : ℕ) (a : Answer) → IsLine (decimal place ++ 32 ∷ answer_line a)
+answer_is_line place (scanned.Portable width height) =
+    after_place place (codes "portable") (numbers (width ∷ height ∷ [])) (name_unfed (codes "portable") refl)
+    (number_unfed width, (number_unfed height, tt))
+answer_is_line place (scanned.Broken f) =
+    after_place place (codes "broken") (rule_name f.rule ∷ decimal f.place ∷ pixel_parts f.rule f.pixel)
+    (name_unfed (codes "broken") refl)
+    (rule_unfed f.rule, (number_unfed f.place, pixel_unfed f.rule f.pixel))
+answer_is_line place (scanned.Refused f) =
+    after_place place (codes "refused") (reason_name f.reason ∷ decimal f.place ∷ [])
+    (name_unfed (codes "refused") refl) (reason_unfed f.reason, (number_unfed f.place, tt))
+
+pub strings_are_lines : (reports : List Scanned) → All IsLine (string_lines reports)
+strings_are_lines [] = All-nil IsLine
+strings_are_lines (r ∷ reports) =
+    All-cons IsLine (string_line r) (string_lines reports) (answer_is_line r.place r.answer)
+    (strings_are_lines reports)

@@ -1,0 +1,80 @@
+-- How a check, a survey or a scan ends that writes something for each of its lines.
+use Rattle.std.specs.Prelude.{◌≡◌, ◌≢◌, ◌⊎◌, ℕ, Bool, true, false, List, [], flat_map, map, take, Option, Some, IfSome, OnOk}
+use Rattle.std.specs.Prelude.{Result, Ok, Err}
+use Rattle.std.specs.Io.KnownBytes.{Appends, Consumes, IsAtEnd}
+use Rattle.std.specs.List.{All, concat}
+use Rattle.arrayvec.specs.ArrayVec.{ArrayVec}
+use Rattle.sixel_io.specs.Devices.{Change, SinkState, SourceState}
+use Rattle.sixel_scan.specs.Scans.{IsOver}
+use Rattle.sixel_survey.specs.declared.entry.Survey.{Survey as ASurvey}
+use Rattle.sixel_survey.specs.Laws.{IsFirstFinding}
+use Rattle.sixel_run.specs.declared.fault.RunFault.{RunFault}
+use Rattle.sixel_run.specs.declared.fault.RunFault.TheVariants.{OutOfMemory, Read, Write}
+use Rattle.sixel_run.specs.declared.task.Status.{Status}
+use Rattle.sixel_run.specs.declared.task.Status.TheVariants.{Done, Broken, Unfit}
+use Rattle.sixel_run.specs.declared.task.Task.{Task}
+use Rattle.sixel_run.specs.declared.task.Task.TheVariants.{Check, Scan, Survey}
+use Rattle.sixel_run.specs.Outputs.{CountsWrites, TakesMemory, Wrote, failures_by}
+use Rattle.sixel_run.specs.Texts.{IsLine, Text}
+
+-- the texts of these lines
+abbrev pub texts_of : List (ArrayVec ℕ) → List Text
+texts_of lines = map (λ line. line.items) lines
+
+-- whether the task is a check, a survey or a scan
+abbrev pub has_lines : Task → Bool
+has_lines (Check profile) = true
+has_lines (Survey profile) = true
+has_lines (Scan profile eight) = true
+has_lines t = false
+
+-- whether the task writes while it reads
+abbrev pub scans : Task → Bool
+scans (Scan profile eight) = true
+scans t = false
+
+-- these bytes were read, and these are left: nothing, or for a scan what is behind the stream
+abbrev pub IsOverFor : Task → Option (List ℕ) → List ℕ → Type 0
+IsOverFor (Scan profile eight) left bytes = IsOver left bytes
+IsOverFor t left bytes = IsAtEnd left
+
+-- a prefix of the bytes was read, perhaps none, and the rest is still to come; after an `Ok` it is over for the task
+pub record ReadsOver (t : Task) (answer : Result Status RunFault) (old new : Option (List ℕ)) : Type 0 where
+  pub bytes : List ℕ
+  pub read : Consumes old new bytes
+  pub ended : OnOk answer (IsOverFor t new bytes)
+
+-- the text was appended to what the sink `had`; after Write, a prefix of it
+abbrev pub PutsText : Result Status RunFault → Option (List ℕ) → Option (List ℕ) → Text → Type 0
+PutsText (Err Write) had has text = (n : ℕ) × Appends had has (take n text)
+PutsText answer had has text = Appends had has text
+
+-- a task that found this answers it; or Write, if the output failed after all was read
+abbrev pub EndsAs : Result Status RunFault → Result Status RunFault → Type 0
+EndsAs found answer = (answer ≡ found) ⊎ ((status : Status) × (found ≡ Ok status) × (answer ≡ Err Write))
+
+-- a check, a survey or a scan with this answer put `written` of each of its lines to the output. These are the lines of
+-- what a run of the task writes, and `found` is what that answers. After Write, which only a scan finds, they are those
+-- of the strings up to the one whose line couldn't be written
+pub record WritesLines (t : Task) (written : Text → Text) (answer : Result Status RunFault)
+    (input : Change SourceState) (output : Change SinkState) : Type 0 where
+  pub found : Result Status RunFault
+  pub lines : List Text
+  pub wrote : IfSome input.old.remaining
+      (λ bytes. Wrote t bytes input.new.remaining found (Some []) (Some (concat lines)))
+  pub are_lines : All IsLine lines
+  -- a check or a survey that is refused has no line
+  pub refused : scans t ≡ false → (fault : RunFault) → found ≡ Err fault → lines ≡ []
+  pub unwritten : scans t ≡ false → found ≢ Err Write
+  pub ends : EndsAs found answer
+  pub put : PutsText answer output.old.taken output.new.taken (flat_map written lines)
+  pub memory : found ≡ Err OutOfMemory → TakesMemory t input.old.remaining
+  pub over : ReadsOver t found input.old.remaining input.new.remaining
+  pub reads : input.new.failures ≡ failures_by Read found input.old.failures
+  pub writes : CountsWrites answer output.old.failures output.new.failures
+
+-- the status after a survey: Done without an entry, else Broken with the first one's finding
+abbrev pub IsStatusOf : ASurvey → Status → Type 0
+IsStatusOf survey Done = survey.entries.items ≡ []
+IsStatusOf survey (Broken finding) = IsFirstFinding survey.entries.items finding
+IsStatusOf survey Unfit = ⊥
