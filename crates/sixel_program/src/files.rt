@@ -96,45 +96,22 @@ pub fn answer<F: Folder, S: Source, K: Sink, E: Sink>(
     ensures unread { reads_input request.now.task (map string_bytes request.now.files.items) ≡ false →
         input.new ≡ input.old }
 {
+    let task = &request.task;
     let names = request.files.as_slice();
     let is_quiet = request.is_quiet;
     let is_shown = terminals.errors;
     match (request.task, names) {
         (Task::Check { profile }, []) if is_quiet => check_quietly(alloc, profile, input, errors),
-        (task, []) => report(alloc, &task, is_shown, None, input, output, errors),
+        (_, []) => report(alloc, task, is_shown, None, input, output, errors),
         (Task::Check { .. }, _) => check_files(
-            alloc,
-            &request.task,
-            is_quiet,
-            is_shown,
-            names,
-            folder,
-            input,
-            output,
-            errors,
+            alloc, task, is_quiet, is_shown, names, folder, input, output, errors,
         ),
         (Task::Survey { .. } | Task::Scan { .. }, _) => check_files(
-            alloc,
-            &request.task,
-            false,
-            is_shown,
-            names,
-            folder,
-            input,
-            output,
-            errors,
+            alloc, task, false, is_shown, names, folder, input, output, errors,
         ),
-        (task, [name, ..]) => {
-            report_file(
-                alloc,
-                &task,
-                is_shown,
-                name.as_str(),
-                folder,
-                input,
-                output,
-                errors,
-            )
+        (_, [name, ..]) => {
+            let name = name.as_str();
+            report_file(alloc, task, is_shown, name, folder, input, output, errors)
         }
     }
 }

@@ -95,23 +95,14 @@ fn statuses(
     bytes: &[u8],
     piece: &mut [u8; PIECE],
 ) -> (Result<Status, RunFault>, Result<Status, RunFault>) {
-    let task = Task::Check {
-        profile: Profile::Registers16,
-    };
-    let own = run(
-        alloc,
-        task,
-        &mut SliceSource::new(bytes, 5, None),
-        &mut SliceSink::new(&mut [0u8; 64], 64, None),
-    );
-    let other = write_lines(
-        alloc,
-        task,
-        &Plain,
-        &mut SliceSource::new(bytes, 64, None),
-        piece,
-        &mut SliceSink::new(&mut [0u8; 64], 64, None),
-    );
+    let profile = Profile::Registers16;
+    let mut room = [0u8; 64];
+    let mut sink = SliceSink::new(&mut room, 64, None);
+    let mut source = SliceSource::new(bytes, 5, None);
+    let own = run(alloc, Task::Check { profile }, &mut source, &mut sink);
+    let mut source = SliceSource::new(bytes, 64, None);
+    let task = Task::Check { profile };
+    let other = write_lines(alloc, task, &Plain, &mut source, piece, &mut sink);
     (own, other)
 }
 
