@@ -64,7 +64,7 @@ impl Notes {
     }
 
     /// The known register: the one of the last select, if the last select or definition names it too.
-    #[inline]
+    #[inline(always)]
     pub fn known(&self) -> Option<u16>
         ensures { result ≡ known_in self.now }
     {
@@ -92,7 +92,7 @@ impl Notes {
         self.painted[register as usize]
     }
 
-    #[inline]
+    #[inline(always)]
     fn mark(&mut self, event: &Event)
         ensures { self.new ≡ record self.old { painted = next_painted self.old event.now } }
     {
@@ -104,7 +104,7 @@ impl Notes {
         }
     }
 
-    #[inline]
+    #[inline(always)]
     fn move_on(&mut self, event: &Event)
         ensures { self.new ≡ record self.old {
           column = next_column self.old event.now;
@@ -121,7 +121,7 @@ impl Notes {
         }
     }
 
-    #[inline]
+    #[inline(always)]
     fn name(&mut self, event: &Event)
         ensures { self.new ≡ record self.old {
           selected = next_selected self.old event.now;
@@ -136,7 +136,7 @@ impl Notes {
         }
     }
 
-    #[inline]
+    #[inline(always)]
     fn define(&mut self, event: &Event)
         ensures { self.new ≡ record self.old { definitions = next_definitions self.old.definitions event.now } }
     {
@@ -160,7 +160,7 @@ impl Notes {
         }
     }
 
-    #[inline]
+    #[inline(always)]
     fn declare(&mut self, event: &Event)
         ensures { self.new ≡ record self.old { declared = is_declared_with self.old event.now } }
     {
@@ -170,7 +170,7 @@ impl Notes {
     }
 
     /// Notes a command that paints before the first raster attributes.
-    #[inline]
+    #[inline(always)]
     fn note_early(&mut self, event: &Event)
         ensures { self.new ≡ record self.old { early = is_early_with self.old event.now } }
     {
