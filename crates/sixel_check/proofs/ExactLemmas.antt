@@ -1,19 +1,18 @@
 -- In a document the coordinates of a finding are exact: none is large enough to be capped.
 use Rattle.std.proofs.Common.{◌≡◌, ◌<◌, ◌≤◌, ◌+◌, ◌*◌, ◌==◌, lit≤, ℕ, suc, Bool, true, false, cond, Option, Some, List}
-use Rattle.std.proofs.Common.{[], ◌∷◌, ◌++◌, length, take, refl, ap, subst, ◌∙◌, arith}
+use Rattle.std.proofs.Common.{[], ◌∷◌, length, take, refl, ap, subst, ◌∙◌, arith}
 use Rattle.std.specs.Prelude.{slice_get, sum_by}
 use Rattle.std.specs.List.{AllByRecursion, fold, list_any}
 use Rattle.std.specs.Option.{option_map_or}
-use Rattle.std.proofs.lemmas.List.{length-append, length-take}
+use Rattle.std.proofs.lemmas.List.{length-take}
 use Rattle.std.proofs.lemmas.List.Sums.{count_by-le-length}
 use Rattle.sixel_grammar.specs.declared.command.Command.TheVariants.{Sixel, Repeat}
 use Rattle.sixel_grammar.specs.declared.command.Event.{Event}
 use Rattle.sixel_grammar.specs.declared.command.Event.TheVariants.{Step}
 use Rattle.sixel_grammar.specs.declared.command.Placed.{Placed}
-use Rattle.sixel_grammar.specs.Document.{Document, IsPiece, Piece, bytes_of, events_in, events_of, joined, most_bytes}
+use Rattle.sixel_grammar.specs.Document.{Document, IsPiece, Piece, bytes_of, events_in, events_of, most_bytes}
 use Rattle.sixel_grammar.specs.Document.{placed_from}
 use Rattle.sixel_grammar.specs.Spelling.{Spells}
-use Rattle.sixel_grammar.proofs.ViableLemmas.{spells-some}
 use Rattle.sixel_model.specs.Events.{columns_of, is_next_line, is_return}
 use Rattle.sixel_model.specs.Geometry.{band, column, falls}
 use Rattle.sixel_model.specs.Positions.{HoldsAtPosition, since}
@@ -25,8 +24,9 @@ use Rattle.sixel_check.specs.Differences.{CoordinatesAreExact}
 use Rattle.sixel_judge.specs.Verdicts.{IsPixel, capped, greatest}
 use Rattle.sixel_judge.proofs.DecideLemmas.{falls_left}
 use Rattle.sixel_judge.proofs.DifferenceLemmas.{and_some}
+use Rattle.sixel_survey.proofs.SurveyorLemmas.{few_events}
 
--- ---- a document has no more events than bytes, and an event at most 65,535 columns
+-- ---- an event of a document has at most 65,535 columns
 
 cond_small : (b : Bool) (n : ℕ) → n ≤ 65535 → cond b 0 n ≤ 65535
 cond_small true n h = omega arith
@@ -41,13 +41,6 @@ pieces_narrow : (ps : List Piece) → AllByRecursion IsPiece ps
     → AllByRecursion (λ e. columns_of 0 e ≤ 65535) (events_in ps)
 pieces_narrow [] h = tt
 pieces_narrow (p ∷ ps) h = (narrow p.event p.text h.0.spells, pieces_narrow ps h.1)
-
-pieces_few : (ps : List Piece) → AllByRecursion IsPiece ps → length (events_in ps) ≤ length (joined ps)
-pieces_few [] h = omega arith
-pieces_few (p ∷ ps) h =
-    let some = spells-some p.event p.text h.0.spells in
-    let rest = pieces_few ps h.1 in
-    omega (arith, length-append (bytes_of p) (joined ps), length-append p.filler p.text, some, rest)
 
 events_placed : (n : ℕ) (ps : List Piece) → events_of (placed_from n ps) ≡ events_in ps
 events_placed n [] = refl
@@ -109,14 +102,6 @@ document_narrow placed bytes d =
     let same : events_of placed ≡ events_in d.pieces = ap events_of d.events_are ∙ events_placed 0 d.pieces in
     rw same (pieces_narrow d.pieces d.parses.each)
 
-document_few : (placed : List Placed) (bytes : List ℕ) (d : Document placed bytes)
-    → length (events_of placed) ≤ most_bytes
-document_few placed bytes d =
-    let same : events_of placed ≡ events_in d.pieces = ap events_of d.events_are ∙ events_placed 0 d.pieces in
-    let few = pieces_few d.pieces d.parses.each in
-    let whole : length bytes ≡ length (joined d.pieces ++ d.parses.after) = ap length d.parses.bytes_are in
-    rw same (omega (arith, few, whole, length-append (joined d.pieces) d.parses.after, d.short))
-
 -- a point that an event of a document paints has coordinates far below the cap
 near : (events : List Event) (i : ℕ) (e : Event) (x y : ℕ) → AllByRecursion (λ e. columns_of 0 e ≤ 65535) events
     → length events ≤ most_bytes → slice_get events i ≡ Some e → falls (take i events) e x y ≡ true
@@ -148,4 +133,4 @@ pub coordinates_are_exact : (registers : ℕ) → CoordinatesAreExact registers
 coordinates_are_exact registers bytes placed f i x y d found is pixel =
     let at : HoldsAtPosition (IsPixel Outside f.pixel) (events_of placed) i =
     subst (λ (r : Rule). HoldsAtPosition (IsPixel r f.pixel) (events_of placed) i) is found.pixel in
-    pixel_near (events_of placed) i x y (document_narrow placed bytes d) (document_few placed bytes d) (rw pixel at at)
+    pixel_near (events_of placed) i x y (document_narrow placed bytes d) (few_events d) (rw pixel at at)

@@ -1,6 +1,6 @@
 -- A check that was halted.
-use Rattle.std.proofs.Common.{◌≡◌, ℕ, List, [], None, Option, Some}
-use Rattle.std.specs.Prelude.{Err, IfOk, IfSome, Ok, Result}
+use Rattle.std.proofs.Common.{◌≡◌, ℕ, List, [], Option}
+use Rattle.std.specs.Prelude.{Err, IfSome, Ok, Result}
 use Rattle.sixel_grammar.specs.Following.{input_fault_of}
 use Rattle.sixel_grammar.specs.Reading.{Explains}
 use Rattle.sixel_grammar.specs.declared.fault.InputFault.{InputFault}
@@ -8,9 +8,8 @@ use Rattle.sixel_grammar.specs.declared.fault.InputFault.TheVariants.{OutOfMemor
 use Rattle.sixel_grammar.specs.declared.following.Halt.{Halt}
 use Rattle.sixel_grammar.specs.declared.following.Halt.TheVariants.{Refused, Stopped}
 use Rattle.sixel_judge.specs.Growth.{MayGrowIn}
-use Rattle.sixel_grammar.specs.Source.{HaltsSource, IsFollowed, fault_of_source, source_halt_of}
-use Rattle.sixel_grammar.specs.declared.source.SourceHalt.{SourceHalt}
-use Rattle.sixel_grammar.proofs.FollowSourceLemmas.{halt_memory, told_known}
+use Rattle.sixel_grammar.specs.Source.{HaltsSource, IsFollowed, source_halt_of}
+use Rattle.sixel_grammar.proofs.FollowSourceLemmas.{told_known}
 use Rattle.sixel_judge.specs.Standing.{CheckerValue, StandsAfter}
 use Rattle.sixel_judge.proofs.FollowLemmas.{HasTaken, MayStop, source_grows, whole_then}
 use Rattle.sixel_check.specs.Checking.{HasSeen, IsWhole}
@@ -41,23 +40,3 @@ seen_all n checker known f =
 pub whole_all : (n : ℕ) (checker : CheckerValue) (known : Option (List ℕ)) → IsFollowed (StandsAfter n) checker known
     → IsWhole checker
 whole_all n checker known f = (n, f.events, f.taken, whole_then f.events f.bytes f.document)
-
-pub fine_grows : (known : Option (List ℕ)) (checker : CheckerValue) (P : List ℕ → Type 0)
-    → IfSome known (λ bytes. (let r : Result CheckerValue InputFault = Ok checker in r) ≡ Err OutOfMemory → P bytes)
-fine_grows None checker P = tt
-fine_grows (Some bytes) checker P = λ e. absurd (other e)
-  where
-    other : (let r : Result CheckerValue InputFault = Ok checker in r) ≡ Err OutOfMemory → ⊥
-    other e = cc
-
-pub none_whole : (r : Result CheckerValue InputFault) (fault : InputFault) → r ≡ Err fault → IfOk r IsWhole
-none_whole (Ok v) fault is = cc
-none_whole (Err f) fault is = tt
-
-pub source_memory : {S : Type 0} (n : ℕ) (old new : CheckerValue) (known : Option (List ℕ)) (halt : SourceHalt S)
-    → IfSome known (HaltsSource HasTaken MayStop old new halt) → StandsAfter n old []
-    → IfSome known (λ bytes.
-    (let r : Result CheckerValue InputFault = Err (fault_of_source halt) in r) ≡ Err OutOfMemory → MayGrowIn n bytes)
-source_memory n old new known halt halts s =
-    halt_memory CheckerValue HasTaken MayStop old new known halt (MayGrowIn n)
-    (λ stop bytes h. source_grows n old new stop bytes h s) halts

@@ -19,8 +19,7 @@ use Rattle.sixel_judge.proofs.DifferenceLemmas.{found_truly}
 
 -- what we promise for the finding
 pub promised : (registers : ℕ) (placed : List Placed) (rule : Rule) (i : ℕ) (f : Finding)
-    → IsFound registers placed rule i f
-    → WhatTerminalsDo registers (events_of placed) rule f.pixel i
+    → IsFound registers placed rule i f → WhatTerminalsDo registers (events_of placed) rule f.pixel i
 promised registers placed rule i f is =
     subst (λ (r : Rule). WhatTerminalsDo registers (events_of placed) r f.pixel i) is.rule_is
     (found_truly registers placed f i is.whole is.found)
@@ -31,22 +30,10 @@ uncovered_differs registers placed f i x y t u is pixel room also ground kept ot
     (promised registers placed Uncovered i f is) in
     other (sym (stays t room ground) ∙ same ∙ stays u also kept)
 
--- with clipping or without, the terminal stays in the class
-clipping_class : {registers : ℕ} (b : Bool) (t : Display) → IsInClass registers t → IsInClass registers (clipping b t)
-clipping_class b t c = record {
-  enough = c.enough;
-  selected = c.selected;
-  ground = c.ground;
-  zero = c.zero;
-  tall = c.tall;
-  screen = c.screen;
-  origin_x = c.origin_x;
-  origin_y = c.origin_y;
-}
-
-with_controls_class : {registers : ℕ} (b : Bool) (t : Display) → IsInClass registers t
-    → IsInClass registers (with_controls b t)
-with_controls_class b t c = record {
+-- with clipping or without, with 8-bit controls or without, the terminal stays in the class
+same_class : {registers : ℕ} (clips eight : Bool) (t : Display) → IsInClass registers t
+    → IsInClass registers (clipping clips (with_controls eight t))
+same_class clips eight t c = record {
   enough = c.enough;
   selected = c.selected;
   ground = c.ground;
@@ -67,7 +54,7 @@ room_each (Some a) P Q h p = h a p
 with_controls_has_room : {registers : ℕ} (b : Bool) (t : Display) (events : List Event) → HasRoomFor registers t events
     → HasRoomFor registers (with_controls b t) events
 with_controls_has_room b t events r = record {
-  in_class = with_controls_class b t r.in_class;
+  in_class = same_class t.choices.clips b t r.in_class;
   room = room_each (raster_before events) _ _ (λ a h. with_controls_room b t h) r.room;
 }
 
@@ -76,14 +63,14 @@ outside_differs registers placed f i x y t is pixel low high class ground eight 
     let cut : x < greatest → y < greatest → IsPaintedUnlessClipped registers (events_of placed) i x y =
     rw pixel at (promised registers placed Outside i f is) in
     let stays = unpainted (clipping true t) (events_of placed) _ _
-    ((cut low high).cut_off (clipping true t) (clipping_class true t class) refl ground) in
+    ((cut low high).cut_off (clipping true t) (same_class true t.choices.eight_bit t class) refl ground) in
     other (sym stays ∙ same)
 
 pub eight_bit_differs : (registers : ℕ) → EightBitDiffers registers
 eight_bit_differs registers placed f i x y t is ends room p q other same =
     let seen : IsUnseenWithoutEightBits registers (events_of placed) i = promised registers placed EightBit i f is in
     let stays = unpainted (with_controls false t) (events_of placed) _ _
-    (seen.unpainted (with_controls false t) _ _ (with_controls_class false t room.in_class) refl) in
+    (seen.unpainted (with_controls false t) _ _ (same_class t.choices.clips false t room.in_class) refl) in
     let shows = seen.shown ends (with_controls true t) x y (with_controls_has_room true t (events_of placed) room) refl
     p q in
     other (shows ∙ ap (λ (c : Parts). Some c) (same ∙ stays))

@@ -1,11 +1,10 @@
 -- Two terminals, written out, that differ at what a finding names.
 use Rattle.std.proofs.Common.{◌≡◌, ◌≢◌, ◌<◌, ◌≤◌, ◌+◌, ◌*◌, ◌&&◌, lit≤, ℕ, suc, Bool, true, false, Option, Some, None}
 use Rattle.std.proofs.Common.{List, length, take, replicate, nat_le, nat_lt, refl, sym, ap, subst, ◌∙◌, arith}
-use Rattle.std.specs.Prelude.{◌==◌, is_some, slice_get, unwrap_or, IsSome, if◌then◌else◌}
-use Rattle.std.specs.Option.{option_map, option_map_or}
+use Rattle.std.specs.Prelude.{◌==◌, unwrap_or, IsSome, if◌then◌else◌}
+use Rattle.std.specs.Option.{option_map_or}
 use Rattle.std.proofs.lemmas.Bool.{and_parts, eqb-true, leb-true, ltb-true}
 use Rattle.std.proofs.lemmas.List.{get_or-replicate, length-replicate}
-use Rattle.std.proofs.lemmas.Option.{slice_get_within}
 use Rattle.sixel_grammar.specs.declared.command.Event.{Event}
 use Rattle.sixel_grammar.specs.declared.command.Placed.{Placed}
 use Rattle.sixel_grammar.specs.Document.{events_of}
@@ -16,15 +15,13 @@ use Rattle.sixel_model.specs.declared.profile.Profile.TheVariants.{Registers16, 
 use Rattle.sixel_model.specs.Events.{Attributes, has_sides, is_in_box}
 use Rattle.sixel_model.specs.Colours.{palette_at}
 use Rattle.sixel_model.specs.Pictures.{is_side, register_of}
-use Rattle.sixel_model.specs.Positions.{HoldsAtPosition, at_position, last_at}
+use Rattle.sixel_model.specs.Positions.{HoldsAtPosition, last_at}
 use Rattle.sixel_model.specs.Profiles.{count_of}
 use Rattle.sixel_model.specs.Rules.{BreaksNone, IsFirstBroken, StaysBlank, picture_left, raster_before}
-use Rattle.sixel_model.proofs.CoverLemmas.{any_below_at}
 use Rattle.sixel_model.proofs.FirstLemmas.{earliest_all}
-use Rattle.sixel_model.proofs.LastLemmas.{at_there, some_last}
 use Rattle.sixel_terminal.specs.Displays.{Display, IsInClass}
 use Rattle.sixel_terminal.specs.Drawing.{height_of, inked_on, is_kept_on, is_seen_on, map_on, paints_in, paints_on}
-use Rattle.sixel_terminal.specs.Drawing.{selected_on, shown_on, stood_on, touches_on}
+use Rattle.sixel_terminal.specs.Drawing.{selected_on, touches_on}
 use Rattle.sixel_model.specs.declared.rule.Rule.{Rule}
 use Rattle.sixel_model.specs.declared.rule.Rule.TheVariants.{Outside, Uncovered, EightBit}
 use Rattle.sixel_judge.specs.declared.verdict.Finding.{Finding}
@@ -37,7 +34,7 @@ use Rattle.sixel_judge.proofs.CoverLemmas.{box_there}
 use Rattle.sixel_judge.proofs.DifferenceLemmas.{and_some, box_of_prefix, box_sides, small_point, unbroken_but_last}
 use Rattle.sixel_judge.proofs.OptionLemmas.{same_value, some_value}
 use Rattle.sixel_check.proofs.PairLemmas.{eight_bit_differs, outside_differs, promised, uncovered_differs}
-use Rattle.sixel_judge.proofs.ShownLemmas.{size_left}
+use Rattle.sixel_judge.proofs.ShownLemmas.{painted_shows, size_left}
 
 some_registers : (profile : Profile) → 0 < count_of profile
 some_registers Registers16 = lit≤ tt
@@ -169,40 +166,12 @@ not_other (Hls hue lightness saturation) e = split (lightness == 0) e
     split true e = cc
     split false e = cc
 
-last_some : {X A : Type 0} (g : List X → X → Option A) (xs : List X) (j : ℕ) (x : X) → slice_get xs j ≡ Some x
-    → IsSome (g (take j xs) x) → IsSome (last_at g xs)
-unfolding last_at
-last_some g xs j x here h =
-    some_last (length xs) (λ i. is_some (at_position g xs i)) (at_position g xs) (λ i lt p. p)
-    (any_below_at (length xs) j (λ i. is_some (at_position g xs i)) (slice_get_within xs j x here)
-    (rw (at_there g xs j x here) h))
-
-unwrap_same : {A : Type 0} (o : Option A) (a b : A) → IsSome o → unwrap_or o a ≡ unwrap_or o b
-unwrap_same None a b h = cc
-unwrap_same (Some c) a b h = refl
-
-map_some : {A B : Type 0} (f : A → B) (o : Option A) → IsSome o → IsSome (option_map f o)
-map_some f None h = cc
-map_some f (Some a) h = refl
-
 -- the events paint the same whatever the screen showed before
 same_ink : (n w h : ℕ) (c d : Parts) (events : List Event) (x y : ℕ)
     → last_at (inked_on (witness_terminal n w h c) events x y) events
     ≡ last_at (inked_on (witness_terminal n w h d) events x y) events
 unfolding paints_on is_seen_on is_kept_on touches_on height_of selected_on map_on
 same_ink n w h c d events x y = refl
-
--- so a pixel that an event paints shows the same on any screen
-painted_shows : (n w h : ℕ) (c d : Parts) (events : List Event) (x y j : ℕ)
-    → HoldsAtPosition (λ before e. IsSome (paints_in (witness_terminal n w h c) events before e x y)) events j
-    → shown_on (witness_terminal n w h c) events x y ≡ shown_on (witness_terminal n w h d) events x y
-unfolding shown_on
-painted_shows n w h c d events x y j at =
-    unwrap_same (last_at (inked_on (witness_terminal n w h c) events x y) events)
-    (stood_on (witness_terminal n w h c) x y)
-    (stood_on (witness_terminal n w h d) x y)
-    (last_some (inked_on (witness_terminal n w h c) events x y) events j at.item at.here (map_some _ _ at.holds))
-    ∙ ap (λ o. unwrap_or o (stood_on (witness_terminal n w h d) x y)) (same_ink n w h c d events x y)
 
 outside_painted : (registers i x y : ℕ) (placed : List Placed) (f : Finding) (t : Display)
     → IsFound registers placed Outside i f → f.pixel ≡ Some (x, y) → x < greatest → y < greatest → IsInClass registers t
@@ -222,7 +191,8 @@ some_outside_differ profile placed f i x y is pixel low high =
     let painted = outside_painted n i x y placed f
     (witness_terminal n (x + 1) (y + 1) (other_than k)) is pixel low high class refl refl in
     let shows : shown_at (witness_terminal n (x + 1) (y + 1) (other_than k)) placed x y ≡ k =
-    painted_shows n (x + 1) (y + 1) (other_than k) black (events_of placed) (0 + x) (0 + y) i painted in
+    painted_shows _ _ (events_of placed) (0 + x) (0 + y) i
+    (same_ink n (x + 1) (y + 1) (other_than k) black (events_of placed) (0 + x) (0 + y)) painted in
     let stood = witness_stood n x y (x + 1) (y + 1) (other_than k) (omega arith) (omega arith) in
     record {
       in_class = class;

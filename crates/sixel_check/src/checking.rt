@@ -6,6 +6,7 @@ ghost use Rattle.sixel_grammar.specs.Reading.{NoFaultBefore, failures_after};
 ghost use Rattle.sixel_grammar.specs.declared.fault.InputFault.TheVariants.{Read as ReadFault};
 ghost use Rattle.sixel_model.specs.Profiles.{count_of};
 ghost use Rattle.sixel_judge.specs.Growth.{MayGrowIn};
+ghost use Rattle.sixel_survey.specs.Reads.{ReadsDocument};
 ghost use Rattle.sixel_check.specs.Answers.{Answers, AnswersOutcome};
 ghost use Rattle.sixel_check.specs.Checking.{HasSeen, IsWhole};
 
@@ -24,14 +25,9 @@ fn read_document<S: Source, P: Cover>(
     input: &mut S,
     piece: &mut [u8; PIECE],
 ) -> Result<Checker<P>, InputFault>
-    ensures seen { IfSome (S.state input.old).remaining (HasSeen (count_of profile) result) }
+    ensures reads { ReadsDocument (HasSeen (count_of profile)) (MayGrowIn (count_of profile)) result
+        (S.state input.old) (S.state input.new) }
     ensures whole { IfOk result IsWhole }
-    ensures failures { (S.state input.new).failures ≡ failures_after result (S.state input.old).failures }
-    ensures unread { result ≡ Err ReadFault →
-        IfSome (S.state input.old).remaining (NoFaultBefore (S.state input.new).remaining) }
-    ensures left { ReadsToEnd result (S.state input.old).remaining (S.state input.new).remaining }
-    ensures memory { IfSome (S.state input.old).remaining (λ bytes. result ≡ Err InputFault.OutOfMemory
-        → MayGrowIn (count_of profile) bytes) }
 {
     let mut checker = Checker::new(alloc, profile);
     follow_source(input, piece, &mut checker)?;
@@ -73,53 +69,23 @@ pub fn check_with<S: Source>(
     input: &mut S,
     piece: &mut [u8; PIECE],
 ) -> Result<Verdict, InputFault>
-    ensures answer { IfSome (S.state input.old).remaining (Answers (count_of profile) result) }
-    ensures failures { (S.state input.new).failures ≡ failures_after result (S.state input.old).failures }
-    ensures unread { result ≡ Err ReadFault →
-        IfSome (S.state input.old).remaining (NoFaultBefore (S.state input.new).remaining) }
-    ensures left { ReadsToEnd result (S.state input.old).remaining (S.state input.new).remaining }
-    ensures memory { IfSome (S.state input.old).remaining (λ bytes. result ≡ Err InputFault.OutOfMemory
-        → MayGrowIn (count_of profile) bytes) }
+    ensures { ReadsDocument (Answers (count_of profile)) (MayGrowIn (count_of profile)) result
+        (S.state input.old) (S.state input.new) }
 {
     let checker: Checker<BandPlane> = read_document(alloc, profile, input, piece)?;
     Ok(checker.finish()?)
 }
 
-/// As `check`, without the picture: its size, or the first broken rule. What is painted of the box takes a seventh of
-/// the memory.
-///
-/// It isn't inlined, or its room would be on the stack of every task.
-#[inline(never)]
-pub fn outcome<S: Source>(
-    alloc: Global,
-    profile: Profile,
-    input: &mut S,
-) -> Result<Outcome, InputFault>
-    ensures answer { IfSome (S.state input.old).remaining (AnswersOutcome (count_of profile) result) }
-    ensures failures { (S.state input.new).failures ≡ failures_after result (S.state input.old).failures }
-    ensures unread { result ≡ Err ReadFault →
-        IfSome (S.state input.old).remaining (NoFaultBefore (S.state input.new).remaining) }
-    ensures left { ReadsToEnd result (S.state input.old).remaining (S.state input.new).remaining }
-    ensures memory { IfSome (S.state input.old).remaining (λ bytes. result ≡ Err InputFault.OutOfMemory
-        → MayGrowIn (count_of profile) bytes) }
-{
-    outcome_with(alloc, profile, input, &mut [0u8; PIECE])
-}
-
-/// As `outcome`, with the caller's room for the bytes that are read at once.
+/// As `check_with`, without the picture: its size, or the first broken rule. What is painted of the box takes a seventh
+/// of the memory.
 pub fn outcome_with<S: Source>(
     alloc: Global,
     profile: Profile,
     input: &mut S,
     piece: &mut [u8; PIECE],
 ) -> Result<Outcome, InputFault>
-    ensures answer { IfSome (S.state input.old).remaining (AnswersOutcome (count_of profile) result) }
-    ensures failures { (S.state input.new).failures ≡ failures_after result (S.state input.old).failures }
-    ensures unread { result ≡ Err ReadFault →
-        IfSome (S.state input.old).remaining (NoFaultBefore (S.state input.new).remaining) }
-    ensures left { ReadsToEnd result (S.state input.old).remaining (S.state input.new).remaining }
-    ensures memory { IfSome (S.state input.old).remaining (λ bytes. result ≡ Err InputFault.OutOfMemory
-        → MayGrowIn (count_of profile) bytes) }
+    ensures { ReadsDocument (AnswersOutcome (count_of profile)) (MayGrowIn (count_of profile)) result
+        (S.state input.old) (S.state input.new) }
 {
     let checker: Checker<CoverPlane> = read_document(alloc, profile, input, piece)?;
     Ok(checker.outcome())

@@ -5,6 +5,6 @@
 mod checking;
 pub mod laws;
 
-pub use checking::{check, check_bytes, check_with, outcome, outcome_with};
+pub use checking::{check, check_bytes, check_with, outcome_with};
 pub use sixel_judge::{Checker, Finding, Outcome, Rule, Verdict};
 pub use sixel_survey::{Entry, RULE_COUNT, Survey, survey, survey_with};

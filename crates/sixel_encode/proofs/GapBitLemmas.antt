@@ -1,8 +1,7 @@
 -- The bits of columns where gaps end.
 use Rattle.std.proofs.Common.{◌≡◌, ◌≢◌, ◌==◌, ℕ, zero, suc, ◌+◌, ◌-◌, ◌*◌, ◌%◌, ◌/◌, ◌^◌, ◌<◌, ◌≤◌, Bool, true, false}
-use Rattle.std.proofs.Common.{◌&&◌, List, length, map, max, replicate, cond, w8, w64, inl, inr, refl, sym}
-use Rattle.std.proofs.Common.{ap, ap₂}
-use Rattle.std.proofs.Common.{◌∙◌, arith, bit_or}
+use Rattle.std.proofs.Common.{◌&&◌, List, length, map, max, replicate, cond, w8, w64, inl, inr, refl, sym, ap, ap₂, ◌∙◌}
+use Rattle.std.proofs.Common.{arith, bit_or}
 use Rattle.std.specs.Prelude.{nat_le, slice_index, if◌then◌else◌}
 use Rattle.std.specs.Int.{bit_at}
 use Rattle.std.proofs.Math.Bool.{and-false}

@@ -1,15 +1,13 @@
 -- The list of where gaps end.
-use Rattle.std.proofs.Common.{◌≡◌, ◌≢◌, ◌⊎◌, ℕ, zero, suc, ◌+◌, ◌-◌, ◌*◌, ◌%◌, ◌/◌, ◌^◌, ◌<◌, ◌≤◌}
-use Rattle.std.proofs.Common.{List, length, get_or, set, max, w64, inl, inr, sym, ap, subst}
-use Rattle.std.proofs.Common.{◌∙◌, arith, bit_and, bit_or}
+use Rattle.std.proofs.Common.{◌≡◌, ◌≢◌, ◌⊎◌, ℕ, zero, suc, ◌+◌, ◌-◌, ◌*◌, ◌%◌, ◌/◌, ◌^◌, ◌<◌, ◌≤◌, List, length, get_or}
+use Rattle.std.proofs.Common.{set, max, w64, inl, inr, sym, ap, subst, ◌∙◌, arith, bit_and, bit_or}
 use Rattle.std.specs.Prelude.{nat_lt}
 use Rattle.std.specs.Int.{bit_at, trailing_zeros}
 use Rattle.std.proofs.lemmas.Bool.{cases_eq, cases_lt, le-ltb, lt-ltb}
 use Rattle.std.proofs.lemmas.List.{get_or-set_other, get_or-set_same, length-set}
 use Rattle.std.proofs.lemmas.Nat.{and-not, and_comm, le_or_r, one_shl, or_lt, pow_below, pow_pos}
 use Rattle.std.proofs.lemmas.Nat.Bits.{bit_at-pow_other, bit_at-pow_same, bit_at-trailing_zeros, bit_at-zero}
-use Rattle.std.proofs.lemmas.Nat.Bits.{bit_at_clear_other, bit_at_clear_same}
-use Rattle.std.proofs.lemmas.Nat.Bits.{and_pow, bit_at_or, same_from_bits_below}
+use Rattle.std.proofs.lemmas.Nat.Bits.{bit_at_clear_other, bit_at_clear_same, and_pow, bit_at_or, same_from_bits_below}
 use mir.Val.{bool_byte}
 use Rattle.sixel_encode.specs.Columns.{IsInkIn}
 use Rattle.sixel_encode.specs.Gaps.{AreEndBits, AreGapEnds, AreGapEndsBut, AreRising, IsGapEnd}

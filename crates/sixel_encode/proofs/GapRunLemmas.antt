@@ -1,14 +1,12 @@
 -- Runs, by where gaps end.
-use Rattle.std.proofs.Common.{◌≡◌, ◌≢◌, ◌==◌, ℕ, zero, suc, ◌+◌, ◌-◌, ◌<◌, ◌≤◌, Bool, true, false}
-use Rattle.std.proofs.Common.{not, List, length, get_or, inl, inr, sym, ap}
-use Rattle.std.proofs.Common.{◌∙◌, arith}
+use Rattle.std.proofs.Common.{◌≡◌, ◌≢◌, ◌==◌, ℕ, zero, suc, ◌+◌, ◌-◌, ◌<◌, ◌≤◌, Bool, true, false, not, List, length}
+use Rattle.std.proofs.Common.{get_or, inl, inr, sym, ap, ◌∙◌, arith}
 use Rattle.std.specs.Prelude.{nat_lt, slice_index, if◌then◌else◌}
 use Rattle.std.proofs.lemmas.Bool.{and_from, and_parts, cases_eq, cases_lt, eq-eqb, eqb-true, le-ltb, lt-ltb}
 use Rattle.std.proofs.lemmas.Bool.{eqb-false, not-false, not-true}
 use Rattle.sixel_plane.specs.Lanes.{IsFirstAt, NonePasses}
 use Rattle.sixel_encode.specs.Columns.{IsRepeatAt, IsRun, are_four}
-use Rattle.sixel_encode.specs.Gaps.{AreGapEnds, IsApart, IsGapEnd}
-use Rattle.sixel_encode.specs.Gaps.{IsNext}
+use Rattle.sixel_encode.specs.Gaps.{AreGapEnds, IsApart, IsGapEnd, IsNext}
 
 -- ---- runs
 

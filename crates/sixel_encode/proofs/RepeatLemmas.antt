@@ -5,9 +5,8 @@ use Rattle.std.proofs.Common.{◌∙◌, Option, Some, None, arith}
 use Rattle.std.specs.Int.{bit_at, trailing_zeros}
 use Rattle.std.proofs.lemmas.Bool.{cases_eq, cases_lt, ne_eqb}
 use Rattle.std.proofs.lemmas.Nat.Bits.{bit_at-trailing_zeros, bit_at-zero}
-use Rattle.std.proofs.lemmas.Simd.{bit_mask_l, get_or-chunk, get_or-replicate, get_or-sel_l}
-use Rattle.std.proofs.lemmas.Simd.{get_or-zip2, length-chunk, length-replicate, length-sel_l, length-zip2}
-use Rattle.std.proofs.lemmas.Simd.{mask_l-lt, mask_l-mod, tops_compared}
+use Rattle.std.proofs.lemmas.Simd.{bit_mask_l, get_or-chunk, get_or-replicate, get_or-sel_l, get_or-zip2, length-chunk}
+use Rattle.std.proofs.lemmas.Simd.{length-replicate, length-sel_l, length-zip2, mask_l-lt, mask_l-mod, tops_compared}
 use lib.Lanes.{chunk, mask_l, sel_l, top, zip2}
 use Rattle.sixel_plane.specs.Lanes.{IsFirst, IsFirstAt, NonePasses}
 use Rattle.sixel_encode.specs.Columns.{ArePairs, NoFour, are_four}

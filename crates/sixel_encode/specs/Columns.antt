@@ -1,5 +1,5 @@
 -- The sixels of a register in the columns of a band, as data bytes.
-use Rattle.std.specs.Prelude.{◌≡◌, ◌≢◌, ◌==◌, ◌&&◌, ◌⊎◌, ◌/◌, ◌*◌, ◌^◌, ℕ, ◌+◌, ◌-◌, ◌<◌, ◌≤◌, Bool, true, false}
+use Rattle.std.specs.Prelude.{◌≡◌, ◌≢◌, ◌==◌, ◌&&◌, ◌⊎◌, ◌/◌, ◌*◌, ◌^◌, ◌%◌, ℕ, ◌+◌, ◌-◌, ◌<◌, ◌≤◌, Bool, true, false}
 use Rattle.std.specs.Prelude.{List, ◌++◌, Option, drop, flat_map, get_or, length, map, nat_le, replicate, slice_index}
 use Rattle.std.specs.Prelude.{sum_by, take, if◌then◌else◌}
 use Rattle.std.specs.Int.{bit_at}
@@ -78,6 +78,14 @@ HasBandGroups p band register groups = (x row : ℕ) → x < p.width → row < b
 -- columns whose group isn't in the mask are blank
 abbrev pub IsInkIn : ℕ → List ℕ → Type 0
 IsInkIn groups sixels = (x : ℕ) → x < length sixels → bit_at groups (x / 32) ≡ 0 → slice_index sixels x ≡ 63
+
+-- columns of a register as data bytes: whole groups, no more than there is room for. Those whose group isn't in the
+-- mask are blank
+pub record AreColumns (groups : ℕ) (columns : List ℕ) : Type 0 where
+  pub sixels : AreSixels columns
+  pub few : length columns ≤ 2112
+  pub whole : length columns % 32 ≡ 0
+  pub ink : IsInkIn groups columns
 
 -- the registers of the pixels from `from` up to `to` were marked, each with the bit of its group, and no others
 pub record AreGroupsMarked (from to : ℕ) (pixels old new : List ℕ) : Type 0 where

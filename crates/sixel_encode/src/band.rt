@@ -6,7 +6,7 @@ ghost use Rattle.sixel_io.specs.Blocks.{WritesThrough};
 ghost use Rattle.sixel_grammar.specs.Spelling.{IsSpellable};
 ghost use Rattle.sixel_model.specs.Pictures.{most_side};
 ghost use Rattle.sixel_encode.specs.Canon.{band_commands, commands_text, most_bands};
-ghost use Rattle.sixel_encode.specs.Columns.{AreSixels, IsInkIn, sixel_commands};
+ghost use Rattle.sixel_encode.specs.Columns.{AreColumns, AreSixels, sixel_commands};
 ghost use Rattle.sixel_encode.specs.Gaps.{AreGapEnds};
 
 use crate::columns::find_sixels;
@@ -45,10 +45,7 @@ impl Speller {
 
     /// Makes the text of the columns, and returns where it ends. Those whose group isn't in the mask are blank.
     fn spell(&mut self, sixels: &[u8], groups: u64) -> usize
-        requires sixels { AreSixels sixels.now }
-        requires few { length sixels.now ≤ ROOM }
-        requires whole { length sixels.now % LANES ≡ 0 }
-        requires ink { IsInkIn groups sixels.now }
+        requires { AreColumns groups sixels.now }
         ensures text { take result self.new.text ≡ commands_text (sixel_commands sixels.now) }
         ensures short { result ≤ MOST_BYTES }
     {
@@ -108,10 +105,7 @@ fn put_next<K: Sink>(
     is_first: bool,
     out: &mut K,
 ) -> Result<(), DeviceFault>
-    requires sixels { AreSixels sixels.now }
-    requires few { length sixels.now ≤ ROOM }
-    requires whole { length sixels.now % LANES ≡ 0 }
-    requires ink { IsInkIn groups sixels.now }
+    requires { AreColumns groups sixels.now }
     ensures { WritesThrough result (K.state out.old) (K.state out.new) text.old text.new
         (commands_text ((if is_first then [] else Command.CarriageReturn ∷ [])
         ++ (Command.Select register ∷ sixel_commands sixels.now))) }
@@ -147,10 +141,7 @@ fn put_register<K: Sink>(
     speller: &mut Speller,
     out: &mut K,
 ) -> Result<(), DeviceFault>
-    requires sixels { AreSixels sixels.now }
-    requires few { length sixels.now ≤ ROOM }
-    requires whole { length sixels.now % LANES ≡ 0 }
-    requires ink { IsInkIn groups sixels.now }
+    requires { AreColumns groups sixels.now }
     ensures { WritesThrough result (K.state out.old) (K.state out.new) text.old text.new
         (commands_text (Command.Select register ∷ sixel_commands sixels.now)) }
 {
@@ -172,10 +163,7 @@ fn put_columns<K: Sink>(
     speller: &mut Speller,
     out: &mut K,
 ) -> Result<(), DeviceFault>
-    requires sixels { AreSixels sixels.now }
-    requires few { length sixels.now ≤ ROOM }
-    requires whole { length sixels.now % LANES ≡ 0 }
-    requires ink { IsInkIn groups sixels.now }
+    requires { AreColumns groups sixels.now }
     ensures { WritesThrough result (K.state out.old) (K.state out.new) text.old text.new
         (commands_text (sixel_commands sixels.now)) }
 {

@@ -1,8 +1,8 @@
 //! Finds where the gaps between the columns with ink end.
 
-ghost use Rattle.std.specs.Prelude.{◌≡◌, ◌≢◌, ◌+◌, ◌%◌, ◌^◌, ◌<◌, ◌≤◌, ◌⊎◌, List, ℕ, get_or, if◌then◌else◌, length, nat_lt};
+ghost use Rattle.std.specs.Prelude.{◌≡◌, ◌≢◌, ◌+◌, ◌^◌, ◌<◌, ◌≤◌, ◌⊎◌, List, ℕ, get_or, if◌then◌else◌, length, nat_lt};
 ghost use Rattle.std.specs.Prelude.{true};
-ghost use Rattle.sixel_encode.specs.Columns.{IsInkIn, IsRepeatAt, IsRun};
+ghost use Rattle.sixel_encode.specs.Columns.{AreColumns, IsRepeatAt, IsRun};
 ghost use Rattle.sixel_encode.specs.Gaps.{AreBlanks, AreBlanksFrom, AreEndBits, AreGapEnds, AreGapEndsBut};
 ghost use Rattle.sixel_encode.specs.Gaps.{IsApart, IsNext};
 
@@ -37,9 +37,7 @@ impl Gaps {
 
     /// Lists the gaps of all columns, if that pays. Columns whose group isn't in the mask are blank.
     pub(crate) fn find(&mut self, sixels: &[u8], groups: u64)
-        requires few { length sixels.now ≤ MOST_BYTES }
-        requires whole { length sixels.now % LANES ≡ 0 }
-        requires ink { IsInkIn groups sixels.now }
+        requires { AreColumns groups sixels.now }
         ensures { self.new.is_listed ≡ true
             → AreGapEnds (length sixels.now) sixels.now self.new.ends self.new.count }
     {
@@ -51,9 +49,7 @@ impl Gaps {
 
     /// Lists the gaps of all columns.
     fn list(&mut self, sixels: &[u8], groups: u64)
-        requires few { length sixels.now ≤ MOST_BYTES }
-        requires whole { length sixels.now % LANES ≡ 0 }
-        requires ink { IsInkIn groups sixels.now }
+        requires { AreColumns groups sixels.now }
         ensures { AreGapEnds (length sixels.now) sixels.now self.new.ends self.new.count }
     {
         self.count = 0;

@@ -1,7 +1,6 @@
 //! Which groups of columns of a band have pixels of a register.
 
 ghost use Rattle.std.specs.Prelude.{◌≡◌, ◌==◌, ◌+◌, ◌*◌, ◌<◌, ◌≤◌, ℕ, get_or, length, not};
-ghost use Rattle.sixel_model.specs.Geometry.{band_rows};
 ghost use Rattle.sixel_model.specs.Pictures.{IsAnyPicture, most_side};
 ghost use Rattle.sixel_encode.specs.Canon.{most_bands, occurs};
 ghost use Rattle.sixel_encode.specs.Columns.{AreGroupsMarked, HasBandGroups};

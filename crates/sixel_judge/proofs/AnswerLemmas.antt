@@ -26,17 +26,15 @@ verdict_everywhere n placed (Broken f) whole k = tt
 
 -- the same for each verdict on the events that a checker has seen
 pub stands_everywhere : (others registers : ℕ) (checker : CheckerValue) (first seen : List Placed) (v : Verdict)
-    → StandsAfter others checker first
-    → IsTrue (is_whole first) → StandsAfter registers checker seen → IsVerdict registers seen v
-    → IsShownEverywhere registers (events_of seen) v
+    → StandsAfter others checker first → IsTrue (is_whole first) → StandsAfter registers checker seen
+    → IsVerdict registers seen v → IsShownEverywhere registers (events_of seen) v
 stands_everywhere others registers checker first seen v f whole s k =
     verdict_everywhere registers seen v (stands_whole _ _ checker first seen f whole s) k
 
 -- a finding on the events that a checker has seen matters, unless its rule is conservative
 pub stands_truly : (others registers : ℕ) (checker : CheckerValue) (first seen : List Placed) (v : Verdict)
-    → StandsAfter others checker first
-    → IsTrue (is_whole first) → StandsAfter registers checker seen → IsVerdict registers seen v
-    → MattersUnlessConservative registers seen v
+    → StandsAfter others checker first → IsTrue (is_whole first) → StandsAfter registers checker seen
+    → IsVerdict registers seen v → MattersUnlessConservative registers seen v
 stands_truly others registers checker first seen v f whole s k =
     verdict_matters registers seen v (stands_whole _ _ checker first seen f whole s) k
 

@@ -13,6 +13,7 @@ use Rattle.std.proofs.lemmas.Iterator.Adapters.{position_from-zero}
 use Rattle.std.proofs.lemmas.List.Sums.{fails_before_first, passes_at_first}
 use Rattle.std.proofs.lemmas.Option.{slice_get-get_or}
 use Rattle.sixel_grammar.specs.declared.command.Event.{Event}
+use Rattle.sixel_judge.proofs.OptionLemmas.{none_is}
 use Rattle.sixel_model.specs.Events.{Attributes, is_in_box}
 use Rattle.sixel_model.specs.Pictures.{is_side, picture_of_parts, most_side}
 use Rattle.sixel_model.specs.Rules.{IsFirstPoint, StaysBlank, is_before, is_covered, palette_left, picture_left}
@@ -81,16 +82,12 @@ painted_there : (s : Grid) (before : List Event) (x y : ℕ) → Covers s before
     → is_none (get_or s.cells (y * s.width + x) None) ≡ not (is_covered before x y)
 painted_there s before x y d p q =
     let place : y * s.width + x < s.width * s.height = mul-add-lt y s.width x s.height q p in
-    ap is_none (sym (cell_at s x y (omega (arith, place, d.pixels)))) ∙ opposite (cell s x y)
+    ap is_none (sym (cell_at s x y (omega (arith, place, d.pixels)))) ∙ none_is (cell s x y)
     ∙ ap not (d.covered x y p q)
-  where
-    opposite : (o : Option ℕ) → is_none o ≡ not (is_some o)
-    opposite None = refl
-    opposite (Some r) = refl
 
-not_blank : (s : Grid) (before : List Event) (x y : ℕ) → Covers s before → x < s.width → y < s.height
+not_blank : {s : Grid} {before : List Event} (x y : ℕ) → Covers s before → x < s.width → y < s.height
     → is_none (get_or s.cells (y * s.width + x) None) ≡ false → is_covered before x y ≡ false → ⊥
-not_blank s before x y d p q has bare =
+not_blank {s} {before} x y d p q has bare =
     both_ways (is_covered before x y) bare (not-false _ (sym (painted_there s before x y d p q) ∙ has))
 
 -- a pixel that comes before another in row order has a lower index
@@ -113,14 +110,14 @@ no_blank_place : (s : Grid) (before : List Event) → Covers s before → positi
     → (x y : ℕ) → StaysBlank before (box_of s) x y → ⊥
 no_blank_place s before d none x y blank =
     let at = in_box_place (box_of s) x y blank.inside in
-    not_blank s before x y d at.0 at.1
+    not_blank x y d at.0 at.1
     (none_passes is_none 0 s.cells None none (y * s.width + x) (omega (arith, at.2, d.pixels))) blank.blank
 
 -- the first blank index is that of the first point of the box that no event paints
-blank_place : (s : Grid) (before : List Event) (i : ℕ) → Covers s before → position_from is_none 0 s.cells ≡ Some i
+blank_place : {s : Grid} {before : List Event} (i : ℕ) → Covers s before → position_from is_none 0 s.cells ≡ Some i
     → (i % s.width < s.width) × (i / s.width < s.height)
     × IsFirstPoint (StaysBlank before (box_of s)) (i % s.width) (i / s.width)
-blank_place s before i d found =
+blank_place {s} {before} i d found =
     let first = first_place is_none s.cells None i found in
     let at = placed s.width s.height i (omega (arith, first.0, d.pixels)) in
     let here : is_none (get_or s.cells (i / s.width * s.width + i % s.width) None) ≡ true =
@@ -135,8 +132,7 @@ blank_place s before i d found =
         none_before = λ u v earlier blank.
             let point = in_box_place (box_of s) u v blank.inside in
             let lower = place_before s.width u v (i % s.width) (i / s.width) point.0 earlier in
-            not_blank s before u v d point.0 point.1 (first.2 (v * s.width + u) (omega (arith, lower, at.2)))
-            blank.blank;
+            not_blank u v d point.0 point.1 (first.2 (v * s.width + u) (omega (arith, lower, at.2))) blank.blank;
       },
     )
 
@@ -145,16 +141,16 @@ small n h = let le : n ≤ most_side = leb-true n most_side
     (and_parts (nat_le 1 n) (nat_le n most_side) h).1 in omega arith
 
 -- the first blank pixel is the first point of the box that no event paints, if there is any
-pub first_blank_covered : (s : Grid) (before : List Event) → Covers s before
+pub first_blank_covered : {s : Grid} {before : List Event} → Covers s before
     → IsFirstIfAny (StaysBlank before (box_of s)) (first_blank s)
 unfolding first_blank
-first_blank_covered s before d = of_place (position_from is_none 0 s.cells) refl
+first_blank_covered {s} {before} d = of_place (position_from is_none 0 s.cells) refl
   where
     of_place : (o : Option ℕ) → position_from is_none 0 s.cells ≡ o
         → IsFirstIfAny (StaysBlank before (box_of s)) (option_map (λ i. (i % s.width, i / s.width)) o)
     of_place None e = no_blank_place s before d e
     of_place (Some i) e =
-        let found = blank_place s before i d e in
+        let found = blank_place i d e in
         let x_in : i % s.width < s.width = found.0 in
         let y_in : i / s.width < s.height = found.1 in
         let narrow : s.width < 18446744073709551615 = small s.width d.width in
@@ -164,49 +160,44 @@ first_blank_covered s before d = of_place (position_from is_none 0 s.cells) refl
         (i % s.width, i / s.width, found.2, ap₂ (λ (x y : ℕ). Some (x, y)) x_is y_is)
 
 -- the same for a grid that is drawn
-pub first_blank_drawn : {kept : ℕ → ℕ} (s : Grid) (before : List Event) → IsDrawn kept s before
+pub first_blank_drawn : {kept : ℕ → ℕ} {s : Grid} {before : List Event} → IsDrawn kept s before
     → IsFirstIfAny (StaysBlank before (box_of s)) (first_blank s)
-first_blank_drawn s before d =
-    first_blank_covered s before
-    (record { width = d.width; height = d.height; pixels = d.pixels; covered = d.covered })
+first_blank_drawn d =
+    first_blank_covered (record { width = d.width; height = d.height; pixels = d.pixels; covered = d.covered })
 
 -- ---- the registers of a grid without a blank pixel
 
-pub length_drawn : {kept : ℕ → ℕ} (s : Grid) (before : List Event) (xs : List ℕ) → IsDrawn kept s before
+pub length_drawn : {kept : ℕ → ℕ} {s : Grid} {before : List Event} (xs : List ℕ) → IsDrawn kept s before
     → map (λ r. Some r) xs ≡ s.cells → length xs ≡ s.width * s.height
-length_drawn s before xs d e = sym (length-map xs (λ r. Some r)) ∙ ap length e ∙ d.pixels
+length_drawn xs d e = sym (length-map xs (λ r. Some r)) ∙ ap length e ∙ d.pixels
 
 all_kept : (kept : ℕ → ℕ) → ((r : ℕ) → kept r ≡ r) → (o : Option ℕ) → option_map kept o ≡ o
 all_kept kept keeps None = refl
 all_kept kept keeps (Some r) = ap (λ n. Some n) (keeps r)
 
 -- if all registers are kept, each of these is the register that painted its pixel last
-pub register_there : {kept : ℕ → ℕ} (s : Grid) (before : List Event) (xs : List ℕ) (i : ℕ)
-    → ((r : ℕ) → kept r ≡ r) → IsDrawn kept s before → map (λ r. Some r) xs ≡ s.cells → i < length xs
+pub register_there : {kept : ℕ → ℕ} {s : Grid} {before : List Event} (xs : List ℕ) (i : ℕ) → ((r : ℕ) → kept r ≡ r)
+    → IsDrawn kept s before → map (λ r. Some r) xs ≡ s.cells → i < length xs
     → register_at before (i % s.width) (i / s.width) ≡ Some (get_or xs i 0)
-register_there {kept} s before xs i keeps d e lt =
-    let within : i < s.width * s.height = omega (arith, length_drawn s before xs d e) in
+register_there {kept} {s} {before} xs i keeps d e lt =
+    let within : i < s.width * s.height = omega (arith, length_drawn xs d e) in
     let at = placed s.width s.height i within in
     sym (all_kept kept keeps (register_at before (i % s.width) (i / s.width)))
     ∙ sym (d.registers (i % s.width) (i / s.width) at.0 at.1)
-    ∙ cell_at s (i % s.width) (i / s.width) (omega (arith, at.2, d.pixels))
-    ∙ ap (λ (n : ℕ). get_or s.cells n None) at.2
-    ∙ ap (λ (l : List (Option ℕ)). get_or l i None) (sym e)
-    ∙ get_or-map (λ r. Some r) xs i 0 None lt
+    ∙ cell_at s (i % s.width) (i / s.width) (omega (arith, at.2, d.pixels)) ∙ ap (λ (n : ℕ). get_or s.cells n None) at.2
+    ∙ ap (λ (l : List (Option ℕ)). get_or l i None) (sym e) ∙ get_or-map (λ r. Some r) xs i 0 None lt
 
-registers_drawn : {kept : ℕ → ℕ} (s : Grid) (before : List Event) (xs : List ℕ) → ((r : ℕ) → kept r ≡ r)
+registers_drawn : {kept : ℕ → ℕ} {s : Grid} {before : List Event} (xs : List ℕ) → ((r : ℕ) → kept r ≡ r)
     → IsDrawn kept s before → map (λ r. Some r) xs ≡ s.cells
     → xs ≡ row_by_row s.width s.height (λ x y. unwrap_or (register_at before x y) 0)
-registers_drawn s before xs keeps d e =
-    rows_from_index s.width s.height (λ x y. unwrap_or (register_at before x y) 0) xs 0 (length_drawn s before xs d e)
-    (λ i lt.
-    ap (λ (o : Option ℕ). unwrap_or o 0)
-    (sym (register_there s before xs i keeps d e (omega (arith, length_drawn s before xs d e)))))
+registers_drawn {s} {before} xs keeps d e =
+    rows_from_index s.width s.height (λ x y. unwrap_or (register_at before x y) 0) xs 0 (length_drawn xs d e)
+    (λ i lt. ap (λ (o : Option ℕ). unwrap_or o 0)
+    (sym (register_there xs i keeps d e (omega (arith, length_drawn xs d e)))))
 
 -- the picture that the events leave has the size of the grid and these registers
-pub picture_drawn : {kept : ℕ → ℕ} (registers : ℕ) (s : Grid) (before : List Event) (xs : List ℕ)
-    → ((r : ℕ) → kept r ≡ r) → IsDrawn kept s before
-    → map Some xs ≡ s.cells
+pub picture_drawn : {kept : ℕ → ℕ} (registers : ℕ) {s : Grid} {before : List Event} (xs : List ℕ)
+    → ((r : ℕ) → kept r ≡ r) → IsDrawn kept s before → map Some xs ≡ s.cells
     → picture_left registers before ≡ picture_of_parts s.width s.height (palette_left registers before) xs
 unfolding picture_left
-picture_drawn registers s before xs keeps d e = rw (d.box, registers_drawn s before xs keeps d e) refl
+picture_drawn registers xs keeps d e = rw (d.box, registers_drawn xs keeps d e) refl

@@ -73,8 +73,7 @@ whole_ends (Start eight parameters ∷ more) h = ends_longer (Start eight parame
 whole_ends _ h = absurd h
 
 -- a finish adds no raster attributes
-box_before : (before : List Event) (eight : Bool)
-    → raster_before (before ++ Finish eight ∷ []) ≡ raster_before before
+box_before : (before : List Event) (eight : Bool) → raster_before (before ++ Finish eight ∷ []) ≡ raster_before before
 box_before before eight = raster_push before (Finish eight) ∙ option_or_none (raster_before before)
 
 -- the finish of a list in which no rule is broken keeps each rule

@@ -23,8 +23,7 @@ use Rattle.sixel_model.specs.declared.rule.Rule.TheVariants.{Outside, Uncovered}
 use Rattle.sixel_judge.specs.declared.verdict.Verdict.{Verdict}
 use Rattle.sixel_judge.specs.declared.verdict.Verdict.TheVariants.{Portable, Broken}
 use Rattle.sixel_judge.specs.Verdicts.{IsPixel, IsVerdict, capped}
-use Rattle.sixel_judge.proofs.SearchLemmas.{Decided, LeastBelow, Searchable, decide_true, first_point}
-use Rattle.sixel_judge.proofs.SearchLemmas.{least_below}
+use Rattle.sixel_judge.proofs.SearchLemmas.{Decided, LeastBelow, Searchable, decide_true, first_point, least_below}
 
 -- ---- the two rules on points
 
@@ -72,8 +71,7 @@ FirstOf P o =
     × IsSomeAnd o (λ a. (x : ℕ) × (y : ℕ) × P a x y)
 
 unfoldable pub first_of : (P : Attributes → ℕ → ℕ → Type 0) (o : Option Attributes)
-    → ((a : Attributes) → Searchable (P a))
-    → FirstOf P o ⊎ ¬ IsSomeAnd o (λ a. (x : ℕ) × (y : ℕ) × P a x y)
+    → ((a : Attributes) → Searchable (P a)) → FirstOf P o ⊎ ¬ IsSomeAnd o (λ a. (x : ℕ) × (y : ℕ) × P a x y)
 first_of P None s = inr (λ none. none)
 first_of P (Some a) s = elim (first_point (P a) (s a)) [
   | inl f ↦ inl (f, (f.0, f.1, f.2.holds))
@@ -146,10 +144,10 @@ held_decided registers rule events i (Some e) is = elim (rule_decided registers 
 ]
 
 -- a broken rule is broken as the one at its place
-pub held_place : (registers : ℕ) (rule : Rule) (events : List Event) (i : ℕ)
+pub held_place : (registers : ℕ) (rule : Rule) {events : List Event} {i : ℕ}
     → HoldsAtPosition (Breaks registers rule) events i
     → HoldsAtPosition (Breaks registers (rule_at (number_of rule - 1))) events i
-held_place registers rule events i h =
+held_place registers rule {events} {i} h =
     subst (λ (r : Rule). HoldsAtPosition (Breaks registers r) events i) (sym (at_its_place rule)) h
 
 unfoldable pub position_decided : (registers : ℕ) (events : List Event) (i : ℕ)
@@ -159,7 +157,7 @@ position_decided registers events i =
     (λ k. held_decided registers (rule_at k) events i (slice_get events i) refl) 13) [
       | inl f ↦ inl f
       | inr none ↦ inr (λ rule h.
-          none (number_of rule - 1) (place_below rule) (held_place registers rule events i h))
+          none (number_of rule - 1) (place_below rule) (held_place registers rule h))
     ]
   where
     place_below : (rule : Rule) → number_of rule - 1 < 13
@@ -182,7 +180,7 @@ first_broken registers events f = record {
   none_smaller = λ m lt h.
       let low : number_of m < suc f.holds.number = rw (number_at f.holds.number f.holds.below) at lt in
       let some = at_least_one m in
-      f.holds.least (number_of m - 1) (omega (arith, low, some)) (held_place registers m events f.number h);
+      f.holds.least (number_of m - 1) (omega (arith, low, some)) (held_place registers m h);
 }
 
 pub place_of : (placed : List Placed) (i : ℕ) → i < length placed

@@ -107,12 +107,12 @@ covered_by i j events e x y lt here fell =
     (passes_there (λ earlier d. falls earlier d x y) (take i events) j e there ∙ rw prefix fell)
 
 -- on a terminal that keeps its ground, no event paints a pixel that stays unpainted
-none_painted : (registers i j x y : ℕ) (t : Display) (events : List Event) (e d : Event) (a : Attributes)
-    → AreWhole events → IsFirstBroken registers events Uncovered i → slice_get events i ≡ Some e
+none_painted : {registers i : ℕ} (j : ℕ) {x y : ℕ} {t : Display} {events : List Event} (e : Event) {d : Event}
+    {a : Attributes} → AreWhole events → IsFirstBroken registers events Uncovered i → slice_get events i ≡ Some e
     → is_finish e ≡ true → StaysBlank (take i events) a x y → slice_get events j ≡ Some d
     → IsTouch t (take j events) d x y → ⊥
 unfolding touches_on
-none_painted registers i j x y t events e d a whole f here ends blank there touch =
+none_painted {i} j {x} {y} {t} {events} e {d} whole f here ends blank there touch =
     let is_data : is_data_command d ≡ true = touches_data _ _ (take j events) d x y touch.touched in
     let last : length events ≡ suc i = finish_last events i e whole here ends in
     let below : j < length events = slice_get_within events j d there in
@@ -131,13 +131,12 @@ none_painted registers i j x y t events e d a whole f here ends blank there touc
     at_most : {k : ℕ} → k ≡ suc i → j < k → j ≤ i
     at_most is lt = omega (arith, is, lt)
 
-pub stays_on_each : (registers i x y : ℕ) (events : List Event) (e : Event) (a : Attributes) → AreWhole events
+pub stays_on_each : {registers i x y : ℕ} {events : List Event} (e : Event) {a : Attributes} → AreWhole events
     → IsFirstBroken registers events Uncovered i → slice_get events i ≡ Some e → is_finish e ≡ true
     → StaysBlank (take i events) a x y → StaysOnEach registers events x y
 unfolding IsPainted
-stays_on_each registers i x y events e a whole f here ends blank = λ t room ground.
-    unpainted t events _ _ (λ painted.
-    none_painted registers i painted.0 x y t events e (painted.1).item a whole f here ends blank (painted.1).here
+stays_on_each {x} {y} {events} e whole f here ends blank = λ t room ground.
+    unpainted t events _ _ (λ painted. none_painted painted.0 e whole f here ends blank (painted.1).here
     (touch_of t events (take painted.0 events) (painted.1).item x y ground (painted.1).holds))
 
 -- ---- a pixel outside the box
@@ -150,20 +149,18 @@ none_clipped : (t : Display) (before : List Event) (x y : ℕ) → t.choices.cli
 unfolding is_kept_on
 none_clipped t before x y clips = rw clips refl
 
-touched_there : (registers i x y : ℕ) (t : Display) (events : List Event) (e : Event) (a : Attributes)
-    → IsFirstBroken registers events Outside i → slice_get events i ≡ Some e
-    → raster_before (take i events) ≡ Some a → FallsOutside (take i events) e a x y
-    → touches_on t (take i events) e x y ≡ true
-touched_there registers i x y t events e a f here box out =
+touched_there : {registers i x y : ℕ} (t : Display) {events : List Event} {e : Event} {a : Attributes}
+    → IsFirstBroken registers events Outside i → slice_get events i ≡ Some e → raster_before (take i events) ≡ Some a
+    → FallsOutside (take i events) e a x y → touches_on t (take i events) e x y ≡ true
+touched_there {i} {x} {y} t {events} {e} f here box out =
     same_up_to t events i i e x y (plain_up_to f (lit≤ tt)) (omega arith) here (rw box refl) ∙ out.painted
 
 painted_there : (registers i x y : ℕ) (t : Display) (events : List Event) (e : Event) (a : Attributes)
-    → IsFirstBroken registers events Outside i → slice_get events i ≡ Some e
-    → raster_before (take i events) ≡ Some a → FallsOutside (take i events) e a x y → t.choices.clips ≡ false
-    → t.choices.eight_bit ≡ true
+    → IsFirstBroken registers events Outside i → slice_get events i ≡ Some e → raster_before (take i events) ≡ Some a
+    → FallsOutside (take i events) e a x y → t.choices.clips ≡ false → t.choices.eight_bit ≡ true
     → IsSome (paints_in t events (take i events) e (t.choices.origin_x + x) (t.choices.origin_y + y))
 painted_there registers i x y t events e a f here box out clips eight =
-    let touched = touched_there registers i x y t events e a f here box out in
+    let touched = touched_there t f here box out in
     rw (
       all_seen t events eight,
       at_origin t (take i events) e x y,
@@ -192,9 +189,8 @@ box_anywhere {registers} {i} {events} j d a f box there is_data (inl lt) =
 
 -- on a terminal that clips to the box, no event paints a point outside it
 none_outside : (registers i j x y : ℕ) (t : Display) (events : List Event) (d : Event) (a : Attributes)
-    → IsFirstBroken registers events Outside i → raster_before (take i events) ≡ Some a
-    → is_in_box a x y ≡ false → t.choices.clips ≡ true → slice_get events j ≡ Some d
-    → IsTouch t (take j events) d x y → ⊥
+    → IsFirstBroken registers events Outside i → raster_before (take i events) ≡ Some a → is_in_box a x y ≡ false
+    → t.choices.clips ≡ true → slice_get events j ≡ Some d → IsTouch t (take j events) d x y → ⊥
 unfolding touches_on is_kept_on
 none_outside registers i j x y t events d a f box out clips there touch =
     let is_data : is_data_command d ≡ true = touches_data _ _ (take j events) d x y touch.touched in
@@ -204,12 +200,11 @@ none_outside registers i j x y t events d a f box out clips there touch =
     kept_in_box t.choices.clips (raster_before (take j events)) b.0 x y clips b.1 touch.kept in
     both_ways (is_in_box a x y) out (rw (one_box i j events a b.0 box b.1) at inside)
 
-pub cut_off_by_some : (registers i x y : ℕ) (events : List Event) (e : Event) (a : Attributes)
-    → IsFirstBroken registers events Outside i → slice_get events i ≡ Some e
-    → raster_before (take i events) ≡ Some a → FallsOutside (take i events) e a x y
-    → IsPaintedUnlessClipped registers events i x y
+pub cut_off_by_some : {registers i x y : ℕ} {events : List Event} {e : Event} {a : Attributes}
+    → IsFirstBroken registers events Outside i → slice_get events i ≡ Some e → raster_before (take i events) ≡ Some a
+    → FallsOutside (take i events) e a x y → IsPaintedUnlessClipped registers events i x y
 unfolding IsPainted
-cut_off_by_some registers i x y events e a f here box out = record {
+cut_off_by_some {registers} {i} {x} {y} {events} {e} {a} f here box out = record {
   painted = λ t class clips eight. record {
     item = e;
     here = here;
@@ -253,11 +248,11 @@ shown_left registers x y t events a whole drawn seen enough box p q =
     let sides = size_left registers events a box in
     shows_left registers t events a x y whole drawn seen enough box (rw sides.0 at p) (rw sides.1 at q)
 
-pub unseen_by_some : (registers i : ℕ) (events : List Event) (e : Event) → AreWhole events
+pub unseen_by_some : {registers i : ℕ} {events : List Event} (e : Event) → AreWhole events
     → IsFirstBroken registers events EightBit i → slice_get events i ≡ Some e → is_eight_bit e ≡ true
     → IsUnseenWithoutEightBits registers events i
 unfolding IsPainted
-unseen_by_some registers i events e whole f here eight = record {
+unseen_by_some {registers} {i} {events} e whole f here eight = record {
   unpainted = λ t x y class bits painted.
       let none = none_seen t events i e here eight bits in
       let some = (painted.1).holds in
@@ -301,9 +296,8 @@ pub box_sides : {registers i : ℕ} {rule : Rule} {events : List Event} (a : Att
 box_sides {i = i} a f lt box = prefix_sides i a f lt (omega arith) box
 
 -- the box of a list whose last event breaks EightBit, its first broken rule, has sides in range
-pub box_of_prefix : (registers i : ℕ) (events : List Event) (a : Attributes)
-    → IsFirstBroken registers events EightBit i → length events ≡ suc i → raster_before events ≡ Some a
-    → has_sides a ≡ true
+pub box_of_prefix : (registers i : ℕ) (events : List Event) (a : Attributes) → IsFirstBroken registers events EightBit i
+    → length events ≡ suc i → raster_before events ≡ Some a → has_sides a ≡ true
 box_of_prefix registers i events a f last box =
     prefix_sides (suc i) a f (lit≤ tt) (omega arith) (rw (sym last) (rw (take-length events) box))
 
@@ -345,41 +339,37 @@ eight_there {registers} {i} {events} e f here =
     let same : f.broken.item ≡ e = same_value (slice_get events i) f.broken.item e f.broken.here here in
     rw same at f.broken.holds
 
-uncovered_differs : (registers i : ℕ) (events : List Event) (pixel : Option (ℕ × ℕ)) → AreWhole events
+uncovered_differs : {registers i : ℕ} {events : List Event} (pixel : Option (ℕ × ℕ)) → AreWhole events
     → IsFirstBroken registers events Uncovered i → HoldsAtPosition (IsPixel Uncovered pixel) events i
     → WhatTerminalsDo registers events Uncovered pixel i
-uncovered_differs registers i events pixel whole f at =
+uncovered_differs {i} {events} pixel whole f at =
     let x : ℕ = at.holds.0 in let y : ℕ = at.holds.1 in
     let a = and_some (raster_before (take i events)) _ (at.holds.2).holds in
     let blank : StaysBlank (take i events) a.0 x y = a.2 in
     let same = small_point a.0 x y blank.inside (box_sides a.0 f (lit≤ tt) a.1) in
-    rw (at.holds.3, same.0, same.1)
-    (stays_on_each registers i x y events at.item a.0 whole f at.here (ends_there at.item f at.here) blank)
+    rw (at.holds.3, same.0, same.1) (stays_on_each at.item whole f at.here (ends_there at.item f at.here) blank)
 
-outside_differs : (registers i : ℕ) (events : List Event) (pixel : Option (ℕ × ℕ))
+outside_differs : {registers i : ℕ} {events : List Event} (pixel : Option (ℕ × ℕ))
     → IsFirstBroken registers events Outside i → HoldsAtPosition (IsPixel Outside pixel) events i
     → WhatTerminalsDo registers events Outside pixel i
-outside_differs registers i events pixel f at =
+outside_differs {i} {events} pixel f at =
     let x : ℕ = at.holds.0 in let y : ℕ = at.holds.1 in
     let a = and_some (raster_before (take i events)) _ (at.holds.2).holds in
     rw at.holds.3
-    (λ low high. rw (not_stopped x low, not_stopped y high)
-    (cut_off_by_some registers i x y events at.item a.0 f at.here a.1 a.2))
+    (λ low high. rw (not_stopped x low, not_stopped y high) (cut_off_by_some f at.here a.1 a.2))
 
-difference_of : (registers i : ℕ) (events : List Event) (r : Rule) (pixel : Option (ℕ × ℕ)) → AreWhole events
+difference_of : {registers i : ℕ} {events : List Event} (r : Rule) (pixel : Option (ℕ × ℕ)) → AreWhole events
     → IsFirstBroken registers events r i → HoldsAtPosition (IsPixel r pixel) events i
     → WhatTerminalsDo registers events r pixel i
-difference_of registers i events Uncovered pixel whole f at = uncovered_differs registers i events pixel whole f at
-difference_of registers i events Outside pixel whole f at = outside_differs registers i events pixel f at
-difference_of registers i events EightBit pixel whole f at =
-    unseen_by_some registers i events at.item whole f at.here (eight_there at.item f at.here)
-difference_of registers i events _ pixel whole f at = tt
+difference_of Uncovered pixel whole f at = uncovered_differs pixel whole f at
+difference_of Outside pixel whole f at = outside_differs pixel f at
+difference_of EightBit pixel whole f at = unseen_by_some at.item whole f at.here (eight_there at.item f at.here)
+difference_of _ pixel whole f at = tt
 
 -- what terminals do at a finding on a whole list
 pub found_truly : (registers : ℕ) (placed : List Placed) (f : Finding) (i : ℕ) → AreWhole (events_of placed)
     → IsFinding registers placed f i → WhatTerminalsDo registers (events_of placed) f.rule f.pixel i
-found_truly registers placed f i whole found =
-    difference_of registers i (events_of placed) f.rule f.pixel whole found.first found.pixel
+found_truly registers placed f i whole found = difference_of f.rule f.pixel whole found.first found.pixel
 
 -- a finding in a verdict on a whole list matters, unless its rule is conservative
 pub verdict_matters : (registers : ℕ) (placed : List Placed) (v : Verdict) → AreWhole (events_of placed)

@@ -46,14 +46,13 @@ few_bits _ h = omega arith
 inside_alone : {kept : ℕ → ℕ} (s : Grid) (before : List Event) (e : Event) → IsDrawn kept s before → ¬ BreaksOutside before e
     → (x y : ℕ) → PaintsOutside (column 0 before) (columns_of 0 e) (band before) (bits_of e) s.width s.height x y → ⊥
 unfolding BreaksOutside falls touches
-inside_alone s before e d none x y p =
-    none (rw d.box (x, y, record { painted = p.painted; outside = p.outside }))
+inside_alone s before e d none x y p = none (rw d.box (x, y, record { painted = p.painted; outside = p.outside }))
 
 -- the plane can paint the run
-pub run_fits_in : (registers : ℕ) {kept : ℕ → ℕ} (n : Notes) (s : Grid) (before : List Event) (e : Event)
+pub run_fits_in : (registers : ℕ) {kept : ℕ → ℕ} {n : Notes} {s : Grid} {before : List Event} (e : Event)
     → IsNotesAfter n before → IsDrawn kept s before → BreaksNoRule registers before e → IsSpellable e
     → is_painting e ≡ true → RunFits n.column n.band (columns_of 0 e) (bits_of e) s.width s.height
-run_fits_in registers n s before e a d none spellable paints =
+run_fits_in registers {n} {s} {before} e a d none spellable paints =
     let k = keeps before e none in
     let real = run_fits (column 0 before) (band before) (columns_of 0 e) (bits_of e) s.width s.height
     (inside_alone s before e d k.outside) (has_columns e k.repeat_zero paints) (few_bits e spellable)
@@ -67,27 +66,26 @@ run_fits_in registers n s before e a d none spellable paints =
     rw (column_same, band_same) real
 
 -- the grid after a painting command
-pub drawn_paint : (registers : ℕ) {kept : ℕ → ℕ} (n : Notes) (s : Grid) (before : List Event) (e : Event) (r : ℕ)
+pub drawn_paint : (registers : ℕ) {kept : ℕ → ℕ} {n : Notes} {s : Grid} {before : List Event} (e : Event) (r : ℕ)
     → IsNotesAfter n before → IsDrawn kept s before → BreaksNoRule registers before e → IsSpellable e
     → is_painting e ≡ true → known_in n ≡ Some r
     → IsDrawn kept (painted_grid s n.column n.band (columns_of 0 e) (bits_of e) (kept r)) (before ++ e ∷ [])
-drawn_paint registers n s before e r a d none spellable paints is =
-    drawn_capped s before e r n.column n.band (sym (known_is n before a) ∙ is) a.column_is a.band_is
-    (run_fits_in registers n s before e a d none spellable paints) d
+drawn_paint registers e r a d none spellable paints is =
+    drawn_capped e r (sym (known_is a) ∙ is) a.column_is a.band_is (run_fits_in registers e a d none spellable paints) d
 
 -- the grid after an event that doesn't paint
-pub drawn_still : {kept : ℕ → ℕ} (s : Grid) (before : List Event) (e : Event) → is_painting e ≡ false → IsDrawn kept s before
-    → IsDrawn kept s (before ++ e ∷ [])
-drawn_still s before e still d = drawn_idle s before e (eqb-true _ _ (not-false _ still)) d
+pub drawn_still : {kept : ℕ → ℕ} {s : Grid} {before : List Event} (e : Event) → is_painting e ≡ false
+    → IsDrawn kept s before → IsDrawn kept s (before ++ e ∷ [])
+drawn_still e still d = drawn_idle e (eqb-true _ _ (not-false _ still)) d
 
 -- at a painting command a register is known
-pub knows : (registers : ℕ) (n : Notes) (before : List Event) (e : Event) → IsNotesAfter n before
+pub knows : (registers : ℕ) {n : Notes} {before : List Event} (e : Event) → IsNotesAfter n before
     → BreaksNoRule registers before e → is_painting e ≡ true → known_in n ≡ None → ⊥
 unfolding breaks_unselected
-knows registers n before e a none paints is =
+knows registers {before} e a none paints is =
     let k = keeps before e none in
     let unselected : is_painting e && is_none (known before) ≡ false = k.unselected in
-    let unknown : known before ≡ None = sym (known_is n before a) ∙ is in
+    let unknown : known before ≡ None = sym (known_is a) ∙ is in
     let broken : is_painting e && is_none (known before) ≡ true = rw (paints, unknown) refl in
     cc
 
@@ -148,9 +146,9 @@ falls_paints before e x y h = not_from_false _ (false_from_ne_true (bits_of e % 
     let no : true ≡ false = sym h ∙ idle_falls before e x y (eqb-true (bits_of e % 64) 0 is) in cc))
 
 -- a run that fits has a column and a band below 2^32
-pub narrow : (column band count bits width height : ℕ) → IsTrue (is_side width) → IsTrue (is_side height)
+pub narrow : {column band count bits width height : ℕ} → IsTrue (is_side width) → IsTrue (is_side height)
     → RunFits column band count bits width height → (column < 4294967296) × (band < 4294967296)
-narrow column band count bits width height w h fits =
+narrow {column} {band} {count} {width} {height} w h fits =
     let wide : width ≤ most_side = leb-true width most_side (and_parts (nat_le 1 width) (nat_le width most_side) w).1 in
     let high : height ≤ most_side = leb-true height most_side
     (and_parts (nat_le 1 height) (nat_le height most_side) h).1 in

@@ -45,8 +45,7 @@ undrawn_idle before e none idle u = record {
 -- after an event that is neither raster attributes nor a data command
 pub undrawn_push : (before : List Event) (e : Event) → raster_of e ≡ None → is_data_command e ≡ false → IsUndrawn before
     → IsUndrawn (before ++ e ∷ [])
-undrawn_push before e none no_data u =
-    undrawn_idle before e none (ap (λ (n : ℕ). n % 64) (no_data_bits e no_data)) u
+undrawn_push before e none no_data u = undrawn_idle before e none (ap (λ (n : ℕ). n % 64) (no_data_bits e no_data)) u
 
 -- ---- from the box on
 
@@ -74,9 +73,9 @@ box_stays : (before : List Event) (e : Event) (a : Attributes) → raster_before
 box_stays before e a is = raster_push before e ∙ ap (λ (o : Option Attributes). option_or o (raster_of e)) is
 
 -- an event without a set bit of the six leaves the grid unchanged
-pub drawn_idle : {kept : ℕ → ℕ} (s : Grid) (before : List Event) (e : Event) → bits_of e % 64 ≡ 0 → IsDrawn kept s before
-    → IsDrawn kept s (before ++ e ∷ [])
-drawn_idle {kept} s before e idle d = record {
+pub drawn_idle : {kept : ℕ → ℕ} {s : Grid} {before : List Event} (e : Event) → bits_of e % 64 ≡ 0
+    → IsDrawn kept s before → IsDrawn kept s (before ++ e ∷ [])
+drawn_idle {kept} {before} e idle d = record {
   box = box_stays before e _ d.box;
   width = d.width;
   height = d.height;
@@ -95,46 +94,45 @@ some_kept kept None = refl
 some_kept kept (Some r) = refl
 
 -- what is kept of the pixel's register after a command that paints in register r
-painted_register : {kept : ℕ → ℕ} (s : Grid) (before : List Event) (e : Event) (r x y : ℕ) → known before ≡ Some r → IsDrawn kept s before
-    → x < s.width → y < s.height
+painted_register : {kept : ℕ → ℕ} {s : Grid} {before : List Event} (e : Event) (r x y : ℕ) → known before ≡ Some r
+    → IsDrawn kept s before → x < s.width → y < s.height
     → cell (painted_grid s (column 0 before) (band before) (columns_of 0 e) (bits_of e) (kept r)) x y
     ≡ option_map kept (register_at (before ++ e ∷ []) x y)
 unfolding falls touches
-painted_register {kept} s before e r x y is d p q =
+painted_register {kept} {s} {before} e r x y is d p q =
     cell-painted_grid s (column 0 before) (band before) (columns_of 0 e) (bits_of e) (kept r) x y p q
     ∙ ap₂ (λ (o m : Option ℕ).
     if covers (column 0 before) (columns_of 0 e) (band before) 1 (bits_of e) x y then o else m)
     (ap (option_map kept) (sym is)) (d.registers x y p q)
     ∙ kept_either kept (covers (column 0 before) (columns_of 0 e) (band before) 1 (bits_of e) x y) (known before)
-    (register_at before x y)
-    ∙ ap (option_map kept) (sym (register_push before e x y))
+    (register_at before x y) ∙ ap (option_map kept) (sym (register_push before e x y))
 
 known_or : (b covered : Bool) (o q : Option ℕ) (r : ℕ) → q ≡ Some r → is_some o ≡ covered
     → is_some (if b then q else o) ≡ (b || covered)
 known_or true covered o q r is has = rw is refl
 known_or false covered o q r is has = has
 
-register_covered : {kept : ℕ → ℕ} (s : Grid) (before : List Event) (e : Event) (r x y : ℕ) → known before ≡ Some r → IsDrawn kept s before
-    → x < s.width → y < s.height → is_some (register_at (before ++ e ∷ []) x y) ≡ is_covered (before ++ e ∷ []) x y
-register_covered {kept} s before e r x y is d p q =
+register_covered : {kept : ℕ → ℕ} {s : Grid} {before : List Event} (e : Event) (r x y : ℕ) → known before ≡ Some r
+    → IsDrawn kept s before → x < s.width → y < s.height
+    → is_some (register_at (before ++ e ∷ []) x y) ≡ is_covered (before ++ e ∷ []) x y
+register_covered {kept} {before} e r x y is d p q =
     let had : is_some (register_at before x y) ≡ is_covered before x y =
     sym (some_kept kept (register_at before x y)) ∙ ap is_some (sym (d.registers x y p q)) ∙ d.covered x y p q in
     rw (register_push before e x y, covered_push before e x y)
     (known_or (falls before e x y) (is_covered before x y) (register_at before x y) (known before) r is had)
 
 -- the grid after a command that paints in the known register
-pub drawn_run : {kept : ℕ → ℕ} (s : Grid) (before : List Event) (e : Event) (r : ℕ) → known before ≡ Some r → IsDrawn kept s before
+pub drawn_run : {kept : ℕ → ℕ} {s : Grid} {before : List Event} (e : Event) (r : ℕ) → known before ≡ Some r
+    → IsDrawn kept s before
     → IsDrawn kept (painted_grid s (column 0 before) (band before) (columns_of 0 e) (bits_of e) (kept r))
     (before ++ e ∷ [])
 unfolding painted_grid
-drawn_run {kept} s before e r is d = record {
+drawn_run {kept} {s} {before} e r is d = record {
   box = box_stays before e _ d.box;
   width = d.width;
   height = d.height;
   pixels = length_rows s.width s.height _;
-  registers = λ x y p q. painted_register s before e r x y is d p q;
-  covered = λ x y p q.
-      ap is_some (painted_register s before e r x y is d p q)
-      ∙ some_kept kept (register_at (before ++ e ∷ []) x y)
-      ∙ register_covered s before e r x y is d p q;
+  registers = λ x y p q. painted_register e r x y is d p q;
+  covered = λ x y p q. ap is_some (painted_register e r x y is d p q)
+      ∙ some_kept kept (register_at (before ++ e ∷ []) x y) ∙ register_covered e r x y is d p q;
 }

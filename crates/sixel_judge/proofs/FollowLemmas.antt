@@ -154,28 +154,27 @@ stops_one old new p (Err s) grows = λ first seen h. record {
 
 -- ---- a checker with the registers of its profile
 
-followed_registers : (n : ℕ) (reader : Reader) (checker : CheckerValue) (bytes : List ℕ)
+followed_registers : (n : ℕ) {reader : Reader} {checker : CheckerValue} {bytes : List ℕ}
     → AreFollowed (StandsAfter n) reader checker bytes → count_of checker.profile ≡ n
-followed_registers n reader checker bytes a = registers_of n checker a.events a.taken
+followed_registers n {checker} a = registers_of n checker a.events a.taken
 
-had_first : (n : ℕ) (reader : Reader) (checker : CheckerValue) (bytes : List ℕ)
+had_first : (n : ℕ) {reader : Reader} {checker : CheckerValue} {bytes : List ℕ}
     → AreFollowed (StandsAfter n) reader checker bytes → AreFollowed (HasTaken checker) reader checker bytes
-had_first n reader checker bytes a =
-    subst (λ (k : ℕ). AreFollowed (StandsAfter k) reader checker bytes)
-    (sym (followed_registers n reader checker bytes a)) a
+had_first n {reader} {checker} {bytes} a =
+    subst (λ (k : ℕ). AreFollowed (StandsAfter k) reader checker bytes) (sym (followed_registers n a)) a
 
 -- the checker itself had this many registers
 pub followed_for : (n : ℕ) (reader : Reader) (checker : CheckerValue) (bytes : List ℕ)
     → AreFollowed (StandsAfter n) reader checker bytes
     → (first : CheckerValue) × AreFollowed (HasTaken first) reader checker bytes
-followed_for n reader checker bytes a = (checker, had_first n reader checker bytes a)
+followed_for n reader checker bytes a = (checker, had_first n a)
 
 pub follows_for : (n : ℕ) (reader r : Reader) (old new : CheckerValue) (prefix more : List ℕ)
     → FollowsBytes HasTaken reader old r new more → AreFollowed (StandsAfter n) reader old prefix
     → AreFollowed (StandsAfter n) r new (prefix ++ more)
 follows_for n reader r old new prefix more follows a =
-    subst (λ (k : ℕ). AreFollowed (StandsAfter k) r new (prefix ++ more)) (followed_registers n reader old prefix a)
-    (follows old prefix (had_first n reader old prefix a))
+    subst (λ (k : ℕ). AreFollowed (StandsAfter k) r new (prefix ++ more)) (followed_registers n a)
+    (follows old prefix (had_first n a))
 
 -- the checker stopped for want of memory
 pub grows_in : (n : ℕ) (bytes : List ℕ) → HoldsIn (MayGrowAmong n) bytes → MayGrowIn n bytes
@@ -193,7 +192,7 @@ pub refuses_for : (S : Type 0) (n : ℕ) (reader r : Reader) (old new : CheckerV
     → AreFollowed (StandsAfter n) reader old prefix
     → (fault_of r ≡ Some fault) × ((rest : List ℕ) → IsFaultOf ((prefix ++ more) ++ rest) fault)
 refuses_for S n reader r old new prefix more fault halts a =
-    let refused = halts old prefix (had_first n reader old prefix a) in
+    let refused = halts old prefix (had_first n a) in
     (refused.kept, always_refused (HasTaken old) r new (prefix ++ more) fault refused)
 
 pub stops_for : {S : Type 0} (n : ℕ) (reader r : Reader) (old new : CheckerValue) (prefix more : List ℕ) (stop : S)
@@ -201,8 +200,8 @@ pub stops_for : {S : Type 0} (n : ℕ) (reader r : Reader) (old new : CheckerVal
     → MayGrowIn n (prefix ++ more)
 stops_for n reader r old new prefix more stop halts a =
     grows_in n (prefix ++ more)
-    (subst (λ (k : ℕ). HoldsIn (MayGrowAmong k) (prefix ++ more)) (followed_registers n reader old prefix a)
-    (halts old prefix (had_first n reader old prefix a)))
+    (subst (λ (k : ℕ). HoldsIn (MayGrowAmong k) (prefix ++ more)) (followed_registers n a)
+    (halts old prefix (had_first n a)))
 
 -- the events of a document are whole
 pub whole_then : (events : List Placed) (bytes : List ℕ) → Document events bytes → IsTrue (is_whole events)
@@ -222,8 +221,7 @@ fresh_for n checker s = (checker, had_none n checker s)
 pub source_for : (n : ℕ) (old new : CheckerValue) (known : Option (List ℕ)) → FollowsSource HasTaken old new known
     → StandsAfter n old [] → IsFollowed (StandsAfter n) new known
 source_for n old new known follows s =
-    subst (λ (k : ℕ). IsFollowed (StandsAfter k) new known) (registers_of n old [] s)
-    (follows old (had_none n old s))
+    subst (λ (k : ℕ). IsFollowed (StandsAfter k) new known) (registers_of n old [] s) (follows old (had_none n old s))
 
 pub source_grows : {S : Type 0} (n : ℕ) (old new : CheckerValue) (stop : S) (bytes : List ℕ)
     → HaltsSource HasTaken MayStop old new (SourceStopped stop) bytes → StandsAfter n old [] → MayGrowIn n bytes

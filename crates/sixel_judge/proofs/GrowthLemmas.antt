@@ -32,10 +32,10 @@ no_box kept None before e h = h
 no_box kept (Some s) before e h = cc
 
 -- the judge may allocate at raster attributes that break no rule, if there is no grid yet
-pub judge_grows : {registers : ℕ} {kept : ℕ → ℕ} (notes : Notes) (grid : Option Grid) (before : List Event) (e : Event)
+pub judge_grows : {registers : ℕ} {kept : ℕ → ℕ} {notes : Notes} {grid : Option Grid} {before : List Event} (e : Event)
     → grid ≡ None → IsSome (raster_of e) → StandsUnbroken registers kept notes grid before
     → BreaksNoRule registers before e → MayGrow registers before e
-judge_grows {registers} {kept} notes grid before e is declares s none = record {
+judge_grows {registers} {kept} {grid} {before} e is declares s none = record {
   declares = declares;
   first = (no_box kept grid before is s.grid_is).no_box;
   unbroken = none_push registers last_rule before e s.unbroken (keeps before e none) (seven_bits _ before e none);

@@ -61,11 +61,11 @@ judge_broken {registers} seen p f found =
     )
 
 -- an event breaks the first rule
-pub judge_finds : {registers : ℕ} {kept : ℕ → ℕ} (notes : Notes) (grid : Option Grid) (seen : List Placed) (p : Placed)
-    (b : Violation)
-    → StandsUnbroken registers kept notes grid (events_of seen) → IsFirstHit registers (events_of seen) p.event b
+pub judge_finds : {registers : ℕ} {kept : ℕ → ℕ} {notes : Notes} {grid : Option Grid} (seen : List Placed) (p : Placed)
+    {b : Violation} → StandsUnbroken registers kept notes grid (events_of seen)
+    → IsFirstHit registers (events_of seen) p.event b
     → (i : ℕ) × IsFinding registers (seen ++ p ∷ []) (record { rule = b.rule; place = p.place; pixel = b.pixel }) i
-judge_finds {registers} notes grid seen p b s violation = (
+judge_finds {registers} seen p {b} s violation = (
   length (events_of seen),
   record {
     first = rw (events_push seen p)
@@ -90,10 +90,10 @@ not_some None = refl
 not_some (Some a) = refl
 
 -- the notes after an event that breaks no rule: it doesn't paint before the box
-pub notes_kept : (registers : ℕ) (n : Notes) (before : List Event) (e : Event) → IsNotesAfter n before
+pub notes_kept : (registers : ℕ) {n : Notes} {before : List Event} (e : Event) → IsNotesAfter n before
     → BreaksNoRule registers before e → IsNotesAfter (next_but_early n e) (before ++ e ∷ [])
 unfolding breaks_raster_first
-notes_kept registers n before e a none =
+notes_kept registers {n} {before} e a none =
     let k = keeps before e none in
     let late : is_early_with n e ≡ n.early =
     not_early n.early (is_painting e) n.declared (is_data_command e || is_return e || is_finish e)
@@ -106,13 +106,12 @@ notes_kept registers n before e a none =
     (notes_push n before e a)
 
 -- an event breaks no rule, and there was no finding
-pub judge_goes_on : {registers : ℕ} {kept : ℕ → ℕ} (notes next : Notes) (grid drawn : Option Grid) (seen : List Placed)
-    (p : Placed)
-    → StandsUnbroken registers kept notes grid (events_of seen) → BreaksNoRule registers (events_of seen) p.event
-    → IsNotesAfter next (events_of seen ++ p.event ∷ [])
+pub judge_goes_on : {registers : ℕ} {kept : ℕ → ℕ} {notes next : Notes} {grid : Option Grid} (drawn : Option Grid)
+    (seen : List Placed) (p : Placed) → StandsUnbroken registers kept notes grid (events_of seen)
+    → BreaksNoRule registers (events_of seen) p.event → IsNotesAfter next (events_of seen ++ p.event ∷ [])
     → IsGridAfter kept drawn (events_of seen ++ p.event ∷ [])
     → StandsUnbroken registers kept next drawn (events_of (seen ++ p ∷ []))
-judge_goes_on {registers} {kept} notes next grid drawn seen p s none a d =
+judge_goes_on {registers} {kept} {next} drawn seen p s none a d =
     subst (StandsUnbroken registers kept next drawn) (sym (events_push seen p))
     (record {
       unbroken =
@@ -137,8 +136,8 @@ pub unbroken_of : (kept : ℕ → ℕ) (profile : Profile) (o : Option Finding) 
 unbroken_of kept profile (Some f) notes grid seen e j = cc
 unbroken_of kept profile None notes grid seen e j = j
 
-pub judges_of : (kept : ℕ → ℕ) (profile : Profile) (o : Option Finding) (notes : Notes) (grid : Option Grid)
+pub judges_of : {kept : ℕ → ℕ} (profile : Profile) (o : Option Finding) {notes : Notes} {grid : Option Grid}
     (seen : List Placed) → is_some o ≡ false → StandsUnbroken (count_of profile) kept notes grid (events_of seen)
     → JudgesAfter kept profile o notes grid seen
-judges_of kept profile (Some f) notes grid seen e s = cc
-judges_of kept profile None notes grid seen e s = s
+judges_of profile (Some f) seen e s = cc
+judges_of profile None seen e s = s

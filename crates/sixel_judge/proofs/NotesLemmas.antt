@@ -4,6 +4,7 @@ use Rattle.std.proofs.Common.{Option, Some, None, List, [], ◌∷◌, ◌++◌,
 use Rattle.std.proofs.Common.{ap₂, ◌∙◌, arith}
 use Rattle.std.specs.Prelude.{is_none, is_some, nat_lt, if◌then◌else◌}
 use Rattle.std.specs.Option.{option_or}
+use Rattle.std.proofs.Math.Bool.{or_comm}
 use Rattle.std.proofs.lemmas.Bool.{eqb-false, eqb-true, ltb-false, ltb-true, ne_eqb}
 use Rattle.std.proofs.lemmas.List.{get_or-replicate, get_or-set_other, get_or-set_same, length-set}
 use Rattle.sixel_grammar.specs.declared.command.Command.TheVariants.{Define}
@@ -22,6 +23,7 @@ use Rattle.sixel_judge.specs.declared.notes.Notes.{Notes}
 use Rattle.sixel_judge.specs.Counting.{paints_early}
 use Rattle.sixel_judge.specs.Notes.{IsNotesAfter, is_declared_with, is_early_with, known_in, marked, next_band}
 use Rattle.sixel_judge.specs.Notes.{next_column, next_definitions, next_named, next_painted, next_selected, said_of}
+use Rattle.sixel_judge.proofs.OptionLemmas.{none_is}
 
 -- a column that is capped at each step is the capped column
 pub stopped : (b : Bool) (c w : ℕ) → cond b 0 (capped (capped c + w)) ≡ capped (cond b 0 (c + w))
@@ -65,9 +67,9 @@ notes_start = record {
 
 -- ---- the known register
 
-pub known_is : (n : Notes) (before : List Event) → IsNotesAfter n before → known_in n ≡ known before
+pub known_is : {n : Notes} {before : List Event} → IsNotesAfter n before → known_in n ≡ known before
 unfolding known
-known_is n before s = rw (s.selected_is, s.named_is) refl
+known_is s = rw (s.selected_is, s.named_is) refl
 
 -- ---- the registers that a command painted in
 
@@ -78,13 +80,12 @@ set_is true q r xs e lt =
     ap (λ (i : ℕ). get_or (set xs q true) i false) (sym same) ∙ get_or-set_same xs q true false lt
 set_is false q r xs e lt = get_or-set_other xs q r true false (λ d. eqb-false q r e (sym d))
 
-length_marked : (b : Bool) (o : Option ℕ) (xs : List Bool)
-    → length (if b then marked xs o else xs) ≡ length xs
-length_marked true (Some q) xs = by_low (nat_lt q 256)
-  where
-    by_low : (c : Bool) → length (if c then set xs q true else xs) ≡ length xs
-    by_low true = length-set xs q true
-    by_low false = refl
+length_if : {A : Type 0} (c : Bool) (xs : List A) (k : ℕ) (x : A) → length (if c then set xs k x else xs) ≡ length xs
+length_if true xs k x = length-set xs k x
+length_if false xs k x = refl
+
+length_marked : (b : Bool) (o : Option ℕ) (xs : List Bool) → length (if b then marked xs o else xs) ≡ length xs
+length_marked true (Some q) xs = length_if (nat_lt q 256) xs q true
 length_marked true None xs = refl
 length_marked false o xs = refl
 
@@ -106,22 +107,16 @@ marked_is false o r xs long lt = refl
 -- ---- the definitions
 
 length_defined : (ds : List (Option Stored)) (e : Event) → length (next_definitions ds e) ≡ length ds
-length_defined ds (Step (Define register system x y z)) = by_low (nat_lt register 256) _
-  where
-    by_low : (c : Bool) (d : Option Stored) → length (if c then set ds register d else ds) ≡ length ds
-    by_low true d = length-set ds register d
-    by_low false d = refl
+length_defined ds (Step (Define register system x y z)) = length_if (nat_lt register 256) ds register _
 length_defined ds _ = refl
 
 said_same : (ds : List (Option Stored)) (q : ℕ) (d : Stored) → q < length ds
-    → said_of (set ds q (Some d)) q
-    ≡ Some (record { system = d.system; x = d.x; y = d.y; z = d.z })
+    → said_of (set ds q (Some d)) q ≡ Some (record { system = d.system; x = d.x; y = d.y; z = d.z })
 said_same [] q d lt = absurd (omega arith)
 said_same (c ∷ cs) zero d lt = refl
 said_same (c ∷ cs) (suc q) d lt = said_same cs q d (omega arith)
 
-said_other : (ds : List (Option Stored)) (q r : ℕ) (d : Option Stored) → q ≢ r
-    → said_of (set ds q d) r ≡ said_of ds r
+said_other : (ds : List (Option Stored)) (q r : ℕ) (d : Option Stored) → q ≢ r → said_of (set ds q d) r ≡ said_of ds r
 said_other [] q r d n = refl
 said_other (c ∷ cs) zero zero d n = absurd (n refl)
 said_other (c ∷ cs) zero (suc r) d n = refl
@@ -160,28 +155,16 @@ some_or : (o p : Option Attributes) → is_some (option_or o p) ≡ (is_some o |
 some_or None p = refl
 some_or (Some a) p = refl
 
-none_is : (o : Option Attributes) → is_none o ≡ not (is_some o)
-none_is None = refl
-none_is (Some a) = refl
-
-turned : (a b : Bool) → (a || b) ≡ (b || a)
-turned true true = refl
-turned true false = refl
-turned false true = refl
-turned false false = refl
-
 pub early_push : (before : List Event) (e : Event)
     → paints_early (before ++ e ∷ []) ≡ ((is_painting e && is_none (raster_before before)) || paints_early before)
 unfolding paints_early
 early_push before e = any_at_push (λ earlier d. is_painting d && is_none (raster_before earlier)) before e
 
-early_is : (n : Notes) (before : List Event) (e : Event) → IsNotesAfter n before
+early_is : {n : Notes} {before : List Event} (e : Event) → IsNotesAfter n before
     → is_early_with n e ≡ paints_early (before ++ e ∷ [])
-early_is n before e s =
-    turned n.early (is_painting e && not n.declared)
-    ∙ ap₂ (λ (a b : Bool). (is_painting e && a) || b)
-    (ap not s.declared_is ∙ sym (none_is (raster_before before))) s.early_is
-    ∙ sym (early_push before e)
+early_is {n} {before} e s =
+    or_comm n.early (is_painting e && not n.declared) ∙ ap₂ (λ (a b : Bool). (is_painting e && a) || b)
+    (ap not s.declared_is ∙ sym (none_is (raster_before before))) s.early_is ∙ sym (early_push before e)
 
 -- ---- all notes
 
@@ -199,28 +182,22 @@ pub notes_push : (n : Notes) (before : List Event) (e : Event) → IsNotesAfter 
 notes_push n before e s = record {
   column_is =
       ap (λ m. cond (is_return e) 0 (capped (m + columns_of 0 e))) s.column_is
-      ∙ stopped (is_return e) (column 0 before) (columns_of 0 e)
-      ∙ ap capped (sym (column_push 0 before e));
+      ∙ stopped (is_return e) (column 0 before) (columns_of 0 e) ∙ ap capped (sym (column_push 0 before e));
   band_is =
-      ap (λ m. cond (is_next_line e) (capped (m + 1)) m) s.band_is
-      ∙ stopped_band (is_next_line e) (band before)
+      ap (λ m. cond (is_next_line e) (capped (m + 1)) m) s.band_is ∙ stopped_band (is_next_line e) (band before)
       ∙ ap capped (sym (band_push before e));
   selected_is = ap (option_or (select_of e)) s.selected_is ∙ sym (latest_push select_of before e);
   named_is = ap (option_or (named_by e)) s.named_is ∙ sym (latest_push named_by before e);
   marks = length_marked (is_painting e) (known_in n) n.painted ∙ s.marks;
-  painted_is = λ r lt.
-      marked_is (is_painting e) (known_in n) r n.painted s.marks lt
-      ∙ ap (λ (o : Option ℕ). (is_painting e && is_that r o) || get_or n.painted r false) (known_is n before s)
+  painted_is = λ r lt. marked_is (is_painting e) (known_in n) r n.painted s.marks lt
+      ∙ ap (λ (o : Option ℕ). (is_painting e && is_that r o) || get_or n.painted r false) (known_is s)
       ∙ ap (λ (b : Bool). (is_painting e && is_that r (known before)) || b) (s.painted_is r lt)
       ∙ sym (painted_in_push before e r);
   entries = length_defined n.definitions e ∙ s.entries;
-  definitions_are = λ r lt.
-      defined_is n.definitions e r s.entries lt
-      ∙ ap (option_or (definition_where (λ q. q == r) e)) (s.definitions_are r lt)
-      ∙ sym (definition_push before e r);
+  definitions_are = λ r lt. defined_is n.definitions e r s.entries lt
+      ∙ ap (option_or (definition_where (λ q. q == r) e)) (s.definitions_are r lt) ∙ sym (definition_push before e r);
   declared_is =
-      ap (λ (b : Bool). b || is_some (raster_of e)) s.declared_is
-      ∙ sym (some_or (raster_before before) (raster_of e))
+      ap (λ (b : Bool). b || is_some (raster_of e)) s.declared_is ∙ sym (some_or (raster_before before) (raster_of e))
       ∙ ap is_some (sym (raster_push before e));
-  early_is = early_is n before e s;
+  early_is = early_is e s;
 }

@@ -23,9 +23,9 @@ pub record Fits (left count row width height : ℕ) : Type 0 where
   pub within : left + count ≤ width
   pub above : row < height
 
-fits_row : (column band left line width height count k : ℕ) → IsCapped column band left line width height
+fits_row : {column band left line width height : ℕ} (count k : ℕ) → IsCapped column band left line width height
     → capped (6 * band + k) < height → column + count ≤ width → Fits left count (6 * line + k) width height
-fits_row column band left line width height count k c above within =
+fits_row {band} {height} count k c above within =
     let row : min (6 * band + k) 18446744073709551615 < height = above in
     record { within = omega arith; above = omega arith }
 
@@ -53,15 +53,16 @@ column_is left count row width height =
 pub record AllFit (n left count line bits width height : ℕ) : Type 0 where
   pub fits : (j : ℕ) → j < n → bit_at bits j ≡ 1 → Fits left count (6 * line + j) width height
 
-pub all_fit : (n column band left line width height count bits : ℕ) → IsCapped column band left line width height
+pub all_fit : (n : ℕ) {column band left line width height : ℕ} (count bits : ℕ)
+    → IsCapped column band left line width height
     → ((j : ℕ) → j < n → bit_at bits j ≡ 1 → first_column column count (capped (6 * band + j)) width height ≡ None)
     → AllFit n left count line bits width height
-all_fit n column band left line width height count bits c h = record {
+all_fit n {column} {band} {width} {height} count bits c h = record {
   fits = λ j lt set.
       let row : ℕ = capped (6 * band + j) in
       let none = subst (IsColumnOf column count row width height) (h j lt set)
       (column_is column count row width height) in
-      fits_row column band left line width height count j c none.0 none.1;
+      fits_row count j c none.0 none.1;
 }
 
 -- a run that lies in the box in all six rows of its band paints only inside it
@@ -102,10 +103,10 @@ pub record IsColumnBefore (left count row width height c : ℕ) : Type 0 where
   pub first : IsFirstColumn left count row width height x
   pub is : c ≡ capped x
 
-column_before : (column band left line width height count k c : ℕ) → IsCapped column band left line width height
-    → IsFirstColumn column count (capped (6 * band + k)) width height c
+column_before : {column band left line width height count : ℕ} (k : ℕ) {c : ℕ}
+    → IsCapped column band left line width height → IsFirstColumn column count (capped (6 * band + k)) width height c
     → IsColumnBefore left count (6 * line + k) width height c
-column_before column band left line width height count k c w h =
+column_before {column} {band} {left} {width} {height} {count} k {c} w h =
     elim h.is [
       | inl below ↦
           let row : height ≤ min (6 * band + k) 18446744073709551615 = below.0 in
@@ -122,14 +123,14 @@ column_before column band left line width height count k c w h =
           }
     ]
 
-same_row : (column band left line width height k : ℕ) → IsCapped column band left line width height
+same_row : {column band left line width height : ℕ} (k : ℕ) → IsCapped column band left line width height
     → capped (6 * band + k) ≡ capped (6 * line + k)
-same_row column band left line width height k w = omega arith
+same_row k w = omega arith
 
 -- the first column outside is one of the run's columns, and lies outside
-first_is_outside : (left count row width height x : ℕ) → IsFirstColumn left count row width height x → 0 < count
+first_is_outside : {left count row width height x : ℕ} → IsFirstColumn left count row width height x → 0 < count
     → (left ≤ x) × (x < left + count) × ((nat_lt x width && nat_lt row height) ≡ false)
-first_is_outside left count row width height x f some = elim f.is [
+first_is_outside {left} {count} {row} {width} {height} {x} f some = elim f.is [
   | inl below ↦
       let from : height ≤ row = below.0 in
       let same : x ≡ left = below.1 in
@@ -141,9 +142,9 @@ first_is_outside left count row width height x f some = elim f.is [
 ]
 
 -- no column of the run before it lies outside
-none_left_of : (left count row width height x u : ℕ) → IsFirstColumn left count row width height x → left ≤ u → u < x
-    → (nat_lt u width && nat_lt row height) ≡ false → ⊥
-none_left_of left count row width height x u f from before out = elim f.is [
+none_left_of : {left count row width height x : ℕ} (u : ℕ) → IsFirstColumn left count row width height x → left ≤ u
+    → u < x → (nat_lt u width && nat_lt row height) ≡ false → ⊥
+none_left_of {left} {row} {width} {height} {x} u f from before out = elim f.is [
   | inl below ↦ let same : x ≡ left = below.1 in omega arith
   | inr across ↦
       let above : row < height = across.0 in
@@ -158,7 +159,7 @@ first_point : (left count line bits width height k x : ℕ) → AllFit k left co
     → bit_at bits k ≡ 1 → 0 < count → IsFirstColumn left count (6 * line + k) width height x
     → IsFirstPoint (PaintsOutside left count line bits width height) x (6 * line + k)
 first_point left count line bits width height k x fit six set some f =
-    let here = first_is_outside left count (6 * line + k) width height x f some in
+    let here = first_is_outside f some in
     record {
       holds = record {
         painted = covers_under left count line bits x (6 * line + k)
@@ -179,20 +180,20 @@ first_point left count line bits width height k x fit six set some f =
                 let parts = and_parts (v == 6 * line + k) (nat_lt u x) beside in
                 let same : v ≡ 6 * line + k = eqb-true v (6 * line + k) parts.0 in
                 let earlier : u < x = ltb-true u x parts.1 in
-                none_left_of left count (6 * line + k) width height x u f under.from earlier (rw same at out)
+                none_left_of u f under.from earlier (rw same at out)
           ];
     }
 
 -- the first point of a run from a capped column on, in a capped band
-pub first_outside : (column band left line width height count bits k c : ℕ)
+pub first_outside : {column band left line width height count bits k : ℕ} (c : ℕ)
     → IsCapped column band left line width height → AllFit k left count line bits width height → k < 6
     → bit_at bits k ≡ 1 → 0 < count → first_column column count (capped (6 * band + k)) width height ≡ Some c
     → IsFirstIfAny (PaintsOutside left count line bits width height) (Some (c, capped (6 * band + k)))
-first_outside column band left line width height count bits k c w fit six set some h =
-    let found = column_before column band left line width height count k c w
+first_outside {column} {band} {left} {line} {width} {height} {count} {bits} {k} c w fit six set some h =
+    let found = column_before k w
     (subst (IsColumnOf column count (capped (6 * band + k)) width height) h
     (column_is column count (capped (6 * band + k)) width height)) in
-    let row : capped (6 * band + k) ≡ capped (6 * line + k) = same_row column band left line width height k w in (
+    let row : capped (6 * band + k) ≡ capped (6 * line + k) = same_row k w in (
       found.x,
       6 * line + k,
       first_point left count line bits width height k found.x fit six set some found.first,
@@ -200,9 +201,9 @@ first_outside column band left line width height count bits k c w fit six set so
     )
 
 -- a run of no columns paints nothing
-pub no_columns_outside : (left count line bits width height x y : ℕ) → count ≡ 0
+pub no_columns_outside : {left count line bits width height x y : ℕ} → count ≡ 0
     → PaintsOutside left count line bits width height x y → ⊥
-no_columns_outside left count line bits width height x y none p =
+no_columns_outside {left} {count} {line} {bits} {x} {y} none p =
     let u = lies_under left count line bits x y p.painted in
     let from : left ≤ x = u.from in
     let to : x < left + count = u.to in

@@ -1,7 +1,6 @@
 -- Sixels that are pushed one by one, and in stretches.
-use Rattle.std.proofs.Common.{◌≡◌, ℕ, true, false, not, IsTrue, List, [], ◌∷◌, ◌++◌, Bool, ◌&&◌}
-use Rattle.std.proofs.Common.{sym, ◌∙◌, ap, subst, refl, append_assoc, arith, length, ◌+◌, ◌-◌, ◌<◌, ◌≤◌}
-use Rattle.std.proofs.Common.{drop, take, get_or, zero, suc}
+use Rattle.std.proofs.Common.{◌≡◌, ℕ, true, false, not, IsTrue, List, [], ◌∷◌, ◌++◌, Bool, ◌&&◌, sym, ◌∙◌, ap, subst}
+use Rattle.std.proofs.Common.{refl, append_assoc, arith, length, ◌+◌, ◌-◌, ◌<◌, ◌≤◌, drop, take, get_or, zero, suc}
 use Rattle.std.proofs.lemmas.Bool.{and_parts, not-true}
 use Rattle.std.proofs.lemmas.List.{get_or-drop, get_or-take, length-take, take_rest}
 use Rattle.sixel_grammar.specs.Bytes.{is_data}
@@ -69,8 +68,7 @@ sixels_split seen place (suc n) (b ∷ more) some room =
     ∙ ap (λ (t : List ℕ). seen ++ p ∷ sixels_from (place + 1) (take (suc n - 1) t)) (rest_of b more)
     ∙ ap (λ (m : ℕ). seen ++ p ∷ sixels_from (place + 1) (take m more)) less
 
-pub data_after_first : (bytes : List ℕ) (count : ℕ)
-    → ((k : ℕ) → k < count → is_data (get_or bytes k 0) ≡ true)
+pub data_after_first : (bytes : List ℕ) (count : ℕ) → ((k : ℕ) → k < count → is_data (get_or bytes k 0) ≡ true)
     → (k : ℕ) → k < count - 1 → is_data (get_or (take (length bytes - 1) (drop 1 bytes)) k 0) ≡ true
 data_after_first bytes count each k lt =
     let under : 1 + k < count = omega (arith, lt) in

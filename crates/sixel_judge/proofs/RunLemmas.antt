@@ -93,15 +93,15 @@ uncapped n m is lt =
     omega arith
 
 -- the grid after a command whose run is painted from a capped column on, in a capped band
-pub drawn_capped : {kept : ℕ → ℕ} (s : Grid) (before : List Event) (e : Event) (r left line : ℕ) → known before ≡ Some r
-    → left ≡ capped (column 0 before) → line ≡ capped (band before)
+pub drawn_capped : {kept : ℕ → ℕ} {s : Grid} {before : List Event} (e : Event) (r : ℕ) {left line : ℕ}
+    → known before ≡ Some r → left ≡ capped (column 0 before) → line ≡ capped (band before)
     → RunFits left line (columns_of 0 e) (bits_of e) s.width s.height → IsDrawn kept s before
     → IsDrawn kept (painted_grid s left line (columns_of 0 e) (bits_of e) (kept r)) (before ++ e ∷ [])
-drawn_capped s before e r left line is column_is band_is fits d =
+drawn_capped {s} {before} e r {left} {line} is column_is band_is fits d =
     let columns : left + columns_of 0 e ≤ s.width = fits.columns in
     let rows : line < s.height = fits.low in
     let narrow : s.width < 18446744073709551615 = small s.width d.width in
     let low : s.height < 18446744073709551615 = small s.height d.height in
     let across : left ≡ column 0 before = uncapped left (column 0 before) column_is (omega arith) in
     let down : line ≡ band before = uncapped line (band before) band_is (omega arith) in
-    rw (across, down) (drawn_run s before e r is d)
+    rw (across, down) (drawn_run e r is d)

@@ -1,7 +1,7 @@
 -- What terminals show, if no rule is broken: the picture that the events leave.
 use Rattle.std.proofs.Common.{◌≡◌, ◌<◌, ◌≤◌, ◌+◌, ◌*◌, ℕ, suc, Bool, true, false, cond, Option, Some, None, List, []}
 use Rattle.std.proofs.Common.{◌∷◌, length, take, refl, sym, ap, ◌∙◌, arith}
-use Rattle.std.specs.Prelude.{if◌then◌else◌, slice_get, slice_index_or, unwrap_or, IsFalse, IsSome}
+use Rattle.std.specs.Prelude.{if◌then◌else◌, slice_get, slice_index_or, unwrap_or, IsFalse, IsSome, is_some}
 use Rattle.std.specs.List.{list_any}
 use Rattle.std.specs.Option.{option_flatten, option_map}
 use Rattle.std.proofs.lemmas.Bool.{and_from, lt-ltb}
@@ -16,15 +16,16 @@ use Rattle.sixel_model.specs.Colours.{palette_at}
 use Rattle.sixel_model.specs.Events.{Attributes, is_data_command, is_eight_bit, is_in_box, raster_of}
 use Rattle.sixel_model.specs.Geometry.{falls}
 use Rattle.sixel_model.specs.Pictures.{register_of}
-use Rattle.sixel_model.specs.Positions.{any_at, at_position, last_at, last_below, passes_at}
+use Rattle.sixel_model.specs.Positions.{HoldsAtPosition, any_at, at_position, last_at, last_below, passes_at}
 use Rattle.sixel_model.specs.Rules.{BreaksNone, breaks_unselected, is_covered, known, picture_left, raster_before}
 use Rattle.sixel_model.specs.Rules.{last_rule, register_at}
+use Rattle.sixel_model.proofs.CoverLemmas.{any_below_at}
 use Rattle.sixel_model.proofs.LastLemmas.{IsLast, at_there, is_last, item_there, last_is, passes_there, some_last}
 use Rattle.sixel_model.proofs.RuleLemmas.{Keeps, keeps_at, none_drawn, seven_bits_at}
 use Rattle.sixel_model.proofs.GridLemmas.{get_rows}
 use Rattle.sixel_terminal.specs.Displays.{Display, registers_of}
 use Rattle.sixel_terminal.specs.Drawing.{inked_on, is_kept_on, is_seen_on, map_on, paint_at, paints_in, paints_on}
-use Rattle.sixel_terminal.specs.Drawing.{selected_on, shown_on, touches_on}
+use Rattle.sixel_terminal.specs.Drawing.{selected_on, shown_on, stood_on, touches_on}
 use Rattle.sixel_terminal.proofs.ClipLemmas.{at_origin}
 use Rattle.sixel_terminal.proofs.PaintLemmas.{none_filled}
 use Rattle.sixel_terminal.proofs.PlainLemmas.{same_points_on_each}
@@ -34,7 +35,7 @@ use Rattle.sixel_judge.specs.Portable.{IsPortable}
 use Rattle.sixel_judge.proofs.ColourLemmas.{known_in_range}
 use Rattle.sixel_judge.proofs.CoverLemmas.{all_covered, box_at_data, box_later, box_there, filled_first}
 use Rattle.sixel_judge.proofs.DrawLemmas.{falls_paints}
-use Rattle.sixel_judge.proofs.OptionLemmas.{some_from, some_value}
+use Rattle.sixel_judge.proofs.OptionLemmas.{map_some, some_from, some_value, unwrap_same}
 use Rattle.sixel_judge.proofs.SteadyLemmas.{painted_colour_is_left}
 use Rattle.sixel_judge.proofs.WithinLemmas.{data_kept, none_painted_outside, plain, touches_data}
 
@@ -97,8 +98,7 @@ unfolding register_at last_at
 register_painting events x y r found = last_painting events x y (Some r) (flat_some _ r found)
 
 -- a covered pixel has a register
-has_register : (n : ℕ) (events : List Event) (x y : ℕ) → BreaksNone n Uncovered events
-    → is_covered events x y ≡ true
+has_register : (n : ℕ) (events : List Event) (x y : ℕ) → BreaksNone n Uncovered events → is_covered events x y ≡ true
     → IsSome (register_at events x y)
 unfolding is_covered any_at register_at last_at
 has_register n events x y none covered =
@@ -126,46 +126,42 @@ unfolding falls
 falls_data before e x y h = touches_data 0 1 before e x y h
 
 -- there is a box before the last event that paints the point
-box_at_painting : (n : ℕ) (events : List Event) (x y r : ℕ) → BreaksNone n Uncovered events
-    → (p : IsLastPainting events x y (Some r))
-    → IsSome (raster_before (take p.at events))
-box_at_painting n events x y r none p =
+box_at_painting : (n : ℕ) {events : List Event} {x y : ℕ} (r : ℕ) → BreaksNone n Uncovered events
+    → (p : IsLastPainting events x y (Some r)) → IsSome (raster_before (take p.at events))
+box_at_painting n {events} {x} {y} r none p =
     box_at_data n (take p.at events) p.event (keeps_at n events none p.at p.event p.here)
     (falls_data (take p.at events) p.event x y p.fell)
 
 -- on a terminal, the last painting of a pixel is in the known register
-paint_last : (n : ℕ) (t : Display) (events : List Event) (x y r : ℕ) → BreaksNone n Uncovered events
-    → n ≤ registers_of t
-    → (p : IsLastPainting events x y (Some r)) → paint_at t (take p.at events) p.event x y ≡ Some r
-paint_last n t events x y r none enough p =
+paint_last : (n : ℕ) (t : Display) {events : List Event} {x y : ℕ} (r : ℕ) → BreaksNone n Uncovered events
+    → n ≤ registers_of t → (p : IsLastPainting events x y (Some r)) → paint_at t (take p.at events) p.event x y ≡ Some r
+paint_last n t {events} {x} {y} r none enough p =
     let same : touches_on t (take p.at events) p.event x y ≡ true
     = same_points_on_each t events p.at p.event x y (plain n events none) p.here
-    (box_at_painting n events x y r none p) ∙ p.fell in
+    (box_at_painting n r none p) ∙ p.fell in
     let low : r < n = known_in_range n r p.at events none p.register in
     let selected : selected_on t (take p.at events) ≡ r
     = known_is_selected t (take p.at events) r p.register (omega arith) in
-    let kept : is_kept_on t (take p.at events) x y ≡ true
-    = data_kept n t t events p.at p.event x y none p.here same in
+    let kept : is_kept_on t (take p.at events) x y ≡ true = data_kept n t t events p.at p.event x y none p.here same in
     rw (same, kept, selected) refl
 
 -- and no event after it paints the pixel
-paint_after : (n : ℕ) (t : Display) (events : List Event) (x y r : ℕ) → BreaksNone n Uncovered events
+paint_after : (n : ℕ) (t : Display) {events : List Event} {x y : ℕ} (r : ℕ) → BreaksNone n Uncovered events
     → (p : IsLastPainting events x y (Some r)) (j : ℕ) (e : Event) → p.at < j → slice_get events j ≡ Some e
     → paint_at t (take j events) e x y ≡ None
-paint_after n t events x y r none p j e lt here =
+paint_after n t {events} {x} {y} r none p j e lt here =
     let still : IsSome (raster_before (take j events))
-    = box_later p.at j events (omega arith) (box_at_painting n events x y r none p) in
+    = box_later p.at j events (omega arith) (box_at_painting n r none p) in
     let same : touches_on t (take j events) e x y ≡ false
     = same_points_on_each t events j e x y (plain n events none) here still ∙ p.after j e lt here in
-    let no_raster : raster_of e ≡ None
-    = filled_first n events p.at j p.event e none lt p.here
+    let no_raster : raster_of e ≡ None = filled_first n events p.at j p.event e none lt p.here
     (falls_data (take p.at events) p.event x y p.fell) here in
     rw (same, none_filled t.choices.ground e x y no_raster) refl
 
-colour_either : (n : ℕ) (t : Display) (events : List Event) (i r : ℕ) (b : Bool) → HasColourLeft n t events i r
+colour_either : {n : ℕ} {t : Display} {events : List Event} {i r : ℕ} (b : Bool) → HasColourLeft n t events i r
     → palette_at (picture_left n events).palette r ≡ Some (map_on t (if b then events else take i events) r)
-colour_either n t events i r true h = h.at_showing
-colour_either n t events i r false h = h.at_painting
+colour_either true h = h.at_showing
+colour_either false h = h.at_painting
 
 -- if the terminal sees the string, each event paints what it says
 in_seen : (t : Display) (events before : List Event) (e : Event) (x y : ℕ) → is_seen_on t events ≡ true
@@ -173,12 +169,12 @@ in_seen : (t : Display) (events before : List Event) (e : Event) (x y : ℕ) →
 in_seen t events before e x y seen = rw seen refl
 
 -- the ink of the pixel at the last painting, and after it
-inked_at : (n : ℕ) (t : Display) (events : List Event) (x y r : ℕ) → BreaksNone n Uncovered events
+inked_at : (n : ℕ) (t : Display) {events : List Event} {x y : ℕ} (r : ℕ) → BreaksNone n Uncovered events
     → is_seen_on t events ≡ true → n ≤ registers_of t
     → (p : IsLastPainting events x y (Some r))
     → IsLast (at_position (inked_on t events (t.choices.origin_x + x) (t.choices.origin_y + y)) events) (length events)
     (map_on t (if t.choices.binds_at_showing then events else take p.at events) r)
-inked_at n t events x y r none seen enough p =
+inked_at n t {events} {x} {y} r none seen enough p =
     let f = inked_on t events (t.choices.origin_x + x) (t.choices.origin_y + y) in
     record {
       at = p.at;
@@ -186,13 +182,13 @@ inked_at n t events x y r none seen enough p =
       gives = at_there f events p.at p.event p.here
           ∙ ap (option_map (map_on t (if t.choices.binds_at_showing then events else take p.at events)))
           (in_seen t events (take p.at events) p.event _ _ seen
-          ∙ at_origin t (take p.at events) p.event x y ∙ paint_last n t events x y r none enough p);
+          ∙ at_origin t (take p.at events) p.event x y ∙ paint_last n t r none enough p);
       after = λ j lt le.
           let e : (e : Event) × (slice_get events j ≡ Some e) = item_there events j le in
           at_there f events j (e.0) (e.1)
           ∙ ap (option_map (map_on t (if t.choices.binds_at_showing then events else take j events)))
           (in_seen t events (take j events) (e.0) _ _ seen
-          ∙ at_origin t (take j events) (e.0) x y ∙ paint_after n t events x y r none p j (e.0) lt (e.1));
+          ∙ at_origin t (take j events) (e.0) x y ∙ paint_after n t r none p j (e.0) lt (e.1));
     }
 
 -- a terminal that sees the string shows the colour of the register that painted the pixel last
@@ -204,11 +200,10 @@ shown_is : (n : ℕ) (t : Display) (events : List Event) (x y r : ℕ) → Break
 unfolding shown_on last_at
 shown_is n t events x y r none seen enough found =
     let p : IsLastPainting events x y (Some r) = register_painting events x y r found in
-    let colours : HasColourLeft n t events p.at r
-    = painted_colour_is_left n t events p.at p.event r enough none p.here
+    let colours : HasColourLeft n t events p.at r = painted_colour_is_left n t events p.at p.event r enough none p.here
     (falls_paints (take p.at events) p.event x y p.fell) p.register in
-    let last = is_last (length events) _ _ (inked_at n t events x y r none seen enough p) in
-    colour_either n t events p.at r t.choices.binds_at_showing colours
+    let last = is_last (length events) _ _ (inked_at n t r none seen enough p) in
+    colour_either t.choices.binds_at_showing colours
     ∙ sym (ap (λ (o : Option Parts). Some (unwrap_or o (slice_index_or t.screen
     ((t.choices.origin_y + y) * t.choices.screen_width + (t.choices.origin_x + x)) (Rgb 0 0 0)))) last)
 
@@ -271,3 +266,24 @@ left_is_portable n events whole none =
     let a : (a : Attributes) × (raster_before events ≡ Some a)
     = some_value (raster_before events) (box_there n events whole (none_drawn n events none)) in
     box_is_portable n events (a.0) whole none (a.1)
+
+-- ---- a pixel on two terminals on which the events paint the same
+
+last_some : {X A : Type 0} (g : List X → X → Option A) (xs : List X) (j : ℕ) (x : X) → slice_get xs j ≡ Some x
+    → IsSome (g (take j xs) x) → IsSome (last_at g xs)
+unfolding last_at
+last_some g xs j x here h =
+    some_last (length xs) (λ i. is_some (at_position g xs i)) (at_position g xs) (λ i lt p. p)
+    (any_below_at (length xs) j (λ i. is_some (at_position g xs i)) (slice_get_within xs j x here)
+    (rw (at_there g xs j x here) h))
+
+-- one that an event paints shows the same, whatever the screens showed before
+pub painted_shows : (t u : Display) (events : List Event) (x y j : ℕ)
+    → last_at (inked_on t events x y) events ≡ last_at (inked_on u events x y) events
+    → HoldsAtPosition (λ before e. IsSome (paints_in t events before e x y)) events j
+    → shown_on t events x y ≡ shown_on u events x y
+unfolding shown_on
+painted_shows t u events x y j same at =
+    unwrap_same (last_at (inked_on t events x y) events) (stood_on t x y) (stood_on u x y)
+    (last_some (inked_on t events x y) events j at.item at.here (map_some _ _ at.holds))
+    ∙ ap (λ (o : Option Parts). unwrap_or o (stood_on u x y)) same

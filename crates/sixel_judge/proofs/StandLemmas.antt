@@ -118,8 +118,7 @@ whole_of (q ∷ qs) = whole_two (is_whole (q ∷ qs))
 
 pub whole_push : (seen : List Placed) (p : Placed) → is_whole seen ≡ false
     → is_whole (seen ++ p ∷ []) ≡ is_finish p.event
-whole_push seen p h =
-    list_any-append (λ q. is_finish q.event) seen (p ∷ []) ∙ rw h (or-false (is_finish p.event))
+whole_push seen p h = list_any-append (λ q. is_finish q.event) seen (p ∷ []) ∙ rw h (or-false (is_finish p.event))
 
 pub progress_push : (seen : List Placed) (p : Placed) → IsTrue (expects seen p.event)
     → progress_of (seen ++ p ∷ []) ≡ progress_with p.event

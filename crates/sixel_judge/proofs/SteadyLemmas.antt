@@ -45,8 +45,7 @@ same_definition d e h =
 
 redefine_step : (before : List Event) (q r s x y z : ℕ) (d : Definition) (b : Bool) → (b ≡ true → q ≡ r)
     → IsFalse (breaks_redefined before (Step (Define q s x y z))) → definition_of before r ≡ Some d
-    → is_painted_in before r ≡ true
-    → option_or (cond b (Some (made s x y z)) None) (definition_of before r) ≡ Some d
+    → is_painted_in before r ≡ true → option_or (cond b (Some (made s x y z)) None) (definition_of before r) ≡ Some d
 unfolding breaks_redefined
 redefine_step before q r s x y z d false same kept defined painted = defined
 redefine_step before q r s x y z d true same kept defined painted =
@@ -57,45 +56,44 @@ redefine_step before q r s x y z d true same kept defined painted =
     ap Some (same_definition d (made s x y z) (not-false _ alike))
 
 -- one more event doesn't change the definition of a register that a command painted in
-steady_step : (n r : ℕ) (before : List Event) (x : Event) (d : Definition) → Keeps n before x
+steady_step : {n : ℕ} (r : ℕ) {before : List Event} (x : Event) (d : Definition) → Keeps n before x
     → definition_of before r ≡ Some d → is_painted_in before r ≡ true
     → option_or (definition_where (λ q. q == r) x) (definition_of before r) ≡ Some d
-steady_step n r before (Step (Define q s x y z)) d k defined painted =
+steady_step r {before} (Step (Define q s x y z)) d k defined painted =
     redefine_step before q r s x y z d (q == r) (eqb-true q r) k.redefined defined painted
-steady_step n r before _ d k defined painted = defined
+steady_step r _ d k defined painted = defined
 
 -- a command painted in the register, and this is its last definition
 pub record IsSteady (r : ℕ) (d : Definition) (before : List Event) : Type 0 where
   pub defined : definition_of before r ≡ Some d
   pub painted : is_painted_in before r ≡ true
 
-steady_push : (n r : ℕ) (before : List Event) (x : Event) (d : Definition) → Keeps n before x → IsSteady r d before
+steady_push : {n r : ℕ} {before : List Event} {x : Event} {d : Definition} → Keeps n before x → IsSteady r d before
     → IsSteady r d (before ++ x ∷ [])
-steady_push n r before x d k s = record {
-  defined = definition_push before x r ∙ steady_step n r before x d k s.defined s.painted;
+steady_push {r} {before} {x} {d} k s = record {
+  defined = definition_push before x r ∙ steady_step r x d k s.defined s.painted;
   painted = painted_in_push before x r ∙ or_right (is_painting x && is_that r (known before)) _ s.painted;
 }
 
 -- the same up to any later position
-steady_on : (n r : ℕ) (events : List Event) (d : Definition) → BreaksNone n Uncovered events → (i k : ℕ)
-    → i + k ≤ length events
-    → IsSteady r d (take i events) → IsSteady r d (take (i + k) events)
-steady_on n r events d none i zero le s = rw (add-zero i) s
-steady_on n r events d none i (suc k) le s =
+steady_on : (n : ℕ) {r : ℕ} (events : List Event) {d : Definition} → BreaksNone n Uncovered events → (i k : ℕ)
+    → i + k ≤ length events → IsSteady r d (take i events) → IsSteady r d (take (i + k) events)
+steady_on n events none i zero le s = rw (add-zero i) s
+steady_on n {r} events {d} none i (suc k) le s =
     let lt : i + k < length events = omega arith in
     let x : (x : Event) × (slice_get events (i + k) ≡ Some x) = item_there events (i + k) lt in
     let here : slice_get events (i + k) ≡ Some (x.0) = x.1 in
-    let before : IsSteady r d (take (i + k) events) = steady_on n r events d none i k (omega arith) s in
+    let before : IsSteady r d (take (i + k) events) = steady_on n events none i k (omega arith) s in
     rw (add-suc i k, take_one_more events (i + k) (x.0) here)
-    (steady_push n r (take (i + k) events) (x.0) d (keeps_at n events none (i + k) (x.0) here) before)
+    (steady_push (keeps_at n events none (i + k) (x.0) here) before)
 
 -- ---- from a painting on
 
 -- the register that a command paints in has a definition
-pub defined_there : (n r : ℕ) (before : List Event) (e : Event) → Keeps n before e → is_painting e ≡ true
+pub defined_there : {n : ℕ} (r : ℕ) {before : List Event} {e : Event} → Keeps n before e → is_painting e ≡ true
     → known before ≡ Some r → IsSome (definition_of before r)
 unfolding breaks_undefined
-defined_there n r before e k p h = some_from (definition_of before r) (rw (p, h) at k.undefined)
+defined_there r {before} k p h = some_from (definition_of before r) (rw (p, h) at k.undefined)
 
 -- a painting command defines nothing
 painting_defines : (p : ℕ → Bool) (e : Event) → is_painting e ≡ true → definition_where p e ≡ None
@@ -120,7 +118,7 @@ steady_end n r i events e d none here p k defined =
     = rw (take_one_more events i e here) (steady_start r (take i events) e d p k defined) in
     let fit : suc i + (length events - suc i) ≡ length events = omega arith in
     let on : IsSteady r d (take (suc i + (length events - suc i)) events)
-    = steady_on n r events d none (suc i) (length events - suc i) (omega arith) start in
+    = steady_on n events none (suc i) (length events - suc i) (omega arith) start in
     rw (fit, take-length events) at on
 
 -- ---- the law
@@ -138,8 +136,7 @@ pub painted_colour_is_left : (n : ℕ) → PaintedColourIsLeft n
 painted_colour_is_left n t events i e r enough none here p k =
     let keeps : Keeps n (take i events) e = keeps_at n events none i e here in
     let low : r < n = known_in_range n r i events none k in
-    let d : (d : Definition) × (definition_of (take i events) r ≡ Some d)
-    = some_value _ (defined_there n r (take i events) e keeps p k) in
+    let d : (d : Definition) × (definition_of (take i events) r ≡ Some d) = some_value _ (defined_there r keeps p k) in
     let last : IsSteady r (d.0) events = steady_end n r i events e (d.0) none here p k (d.1) in
     let sound : AllByRecursion (IsSound n) events = each_sound n events none in
     let now : colour_of (take i events) r ≡ Some (map_on t (take i events) r)

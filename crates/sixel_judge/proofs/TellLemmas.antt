@@ -8,8 +8,7 @@ use Rattle.std.proofs.lemmas.Bool.{and_from, and_parts, le-leb, lt-ltb, ltb-fals
 use Rattle.sixel_grammar.specs.declared.command.Command.TheVariants.{Sixel, Repeat, Define}
 use Rattle.sixel_grammar.specs.declared.command.Event.{Event}
 use Rattle.sixel_grammar.specs.declared.command.Event.TheVariants.{Step}
-use Rattle.sixel_model.specs.Events.{Attributes, has_sides, is_data_command, is_painting}
-use Rattle.sixel_model.specs.Events.{named_by, raster_of}
+use Rattle.sixel_model.specs.Events.{Attributes, has_sides, is_data_command, is_painting, named_by, raster_of}
 use Rattle.sixel_model.specs.Positions.{any_at, earliest, passes_at}
 use Rattle.sixel_model.specs.Rules.{Breaks, BreaksNone, BreaksOutside, BreaksUncovered, breaks_box_size}
 use Rattle.sixel_model.specs.Rules.{breaks_raster_first, breaks_redefined, breaks_register, breaks_undefined}
@@ -40,8 +39,7 @@ earliest_gives f (x ∷ xs) a h = earliest_step f x xs a (f x) refl (earliest_gi
 
 -- in a list that breaks no rule, no item breaks one
 not_before : (registers : ℕ) (rule : Rule) (before : List Event) (g : ℕ) (e : Event)
-    → BreaksNone registers last_rule before → slice_get before g ≡ Some e
-    → ¬ Breaks registers rule (take g before) e
+    → BreaksNone registers last_rule before → slice_get before g ≡ Some e → ¬ Breaks registers rule (take g before) e
 not_before registers rule before g e none here broken =
     nowhere registers rule g before none (record { item = e; here = here; holds = broken })
 

@@ -1,6 +1,5 @@
 -- What holds of events that break no rule.
-use Rattle.std.proofs.Common.{◌≡◌, ◌<◌, ◌&&◌, ℕ, true, IsFalse, Option, Some, None, List, length, take, ap}
-use Rattle.std.proofs.Common.{◌∙◌}
+use Rattle.std.proofs.Common.{◌≡◌, ◌<◌, ◌&&◌, ℕ, true, IsFalse, Option, Some, None, List, length, take, ap, ◌∙◌}
 use Rattle.std.specs.Prelude.{IsSome, is_some, slice_get}
 use Rattle.std.proofs.Math.Seq.{take-length}
 use Rattle.std.proofs.lemmas.Bool.{and_parts, eqb-true}
@@ -41,7 +40,7 @@ pub defined_after : (registers r i : ℕ) (events : List Event) (e : Event) → 
 defined_after registers r i events e none here paints is =
     let drawn = none_drawn registers events none in
     let d : (d : Definition) × (definition_of (take i events) r ≡ Some d) =
-    some_value _ (defined_there registers r (take i events) e (keeps_at registers events drawn i e here) paints is) in
+    some_value _ (defined_there r (keeps_at registers events drawn i e here) paints is) in
     ap is_some (steady_end registers r i events e d.0 drawn here paints is d.1).defined
 
 that_is : (r : ℕ) (o : Option ℕ) → is_that r o ≡ true → o ≡ Some r

@@ -25,8 +25,8 @@ comes_before u v x y (inl above) = or_left (nat_lt v y) _ (lt-ltb v y above)
 comes_before u v x y (inr beside) =
     or_right (nat_lt v y) _ (and_from (v == y) (nat_lt u x) (eq-eqb v y beside.0) (lt-ltb u x beside.1))
 
-first_once : (P : ℕ → ℕ → Type 0) (x y u v : ℕ) → IsFirstPoint P x y → IsFirstPoint P u v → (x ≡ u) × (y ≡ v)
-first_once P x y u v f g =
+first_once : (P : ℕ → ℕ → Type 0) {x y u v : ℕ} → IsFirstPoint P x y → IsFirstPoint P u v → (x ≡ u) × (y ≡ v)
+first_once P {x} {y} {u} {v} f g =
     let not_above : ¬ (v < y) = λ lt. f.none_before u v (comes_before u v x y (inl lt)) g.holds in
     let not_below : ¬ (y < v) = λ lt. g.none_before x y (comes_before x y u v (inl lt)) f.holds in
     let row : y ≡ v = omega (arith, not_above, not_below) in
@@ -36,7 +36,7 @@ first_once P x y u v f g =
 
 first_pixel_once : (P : ℕ → ℕ → Type 0) (p q : Option (ℕ × ℕ)) → IsFirstPixel P p → IsFirstPixel P q → p ≡ q
 first_pixel_once P p q f g =
-    let same = first_once P f.0 f.1 g.0 g.1 f.2 g.2 in
+    let same = first_once P f.2 g.2 in
     f.3 ∙ ap (λ (x : ℕ). Some (capped x, capped f.1)) same.0
     ∙ ap (λ (y : ℕ). Some (capped g.0, capped y)) same.1 ∙ sym g.3
 
@@ -60,10 +60,10 @@ pixel_at r p q events i f g =
 make : Rule → ℕ → Option (ℕ × ℕ) → Finding
 make r place pixel = record { rule = r; place = place; pixel = pixel }
 
-found_once : (registers : ℕ) (placed : List Placed) (f g : Finding) (i : ℕ) → IsFinding registers placed f i
+found_once : {registers : ℕ} {placed : List Placed} {f g : Finding} {i : ℕ} → IsFinding registers placed f i
     → IsFinding registers placed g i → f ≡ g
 unfolding make
-found_once registers placed f g i a b =
+found_once {placed} {f} {g} {i} a b =
     let n : ℕ = number_of f.rule in let m : ℕ = number_of g.rule in
     let not_less : ¬ (n < m) = λ lt. b.first.none_smaller f.rule lt a.first.broken in
     let not_more : ¬ (m < n) = λ lt. a.first.none_smaller g.rule lt b.first.broken in
@@ -75,13 +75,13 @@ found_once registers placed f g i a b =
     let whole : make f.rule f.place f.pixel ≡ make g.rule g.place g.pixel = cc (rule, place, pixel) in
     whole
 
-finding_once : (registers : ℕ) (placed : List Placed) (f g : Finding) (i j : ℕ) → IsFinding registers placed f i
+finding_once : {registers : ℕ} {placed : List Placed} {f g : Finding} {i j : ℕ} → IsFinding registers placed f i
     → IsFinding registers placed g j → f ≡ g
-finding_once registers placed f g i j a b =
+finding_once {registers} {placed} {f} {g} {i} {j} a b =
     let not_less : ¬ (i < j) = λ lt. b.first.none_earlier f.rule i lt a.first.broken in
     let not_more : ¬ (j < i) = λ lt. a.first.none_earlier g.rule j lt b.first.broken in
     let same : i ≡ j = omega (arith, not_less, not_more) in
-    found_once registers placed f g j (subst (IsFinding registers placed f) same a) b
+    found_once (subst (IsFinding registers placed f) same a) b
 
 -- ---- one verdict
 
@@ -92,5 +92,4 @@ verdict_once registers placed (Portable p) (Broken g) a b =
     absurd (nowhere registers g.rule b.0 (events_of placed) a.0 (b.1).first.broken)
 verdict_once registers placed (Broken f) (Portable q) a b =
     absurd (nowhere registers f.rule a.0 (events_of placed) b.0 (a.1).first.broken)
-verdict_once registers placed (Broken f) (Broken g) a b =
-    ap (λ h. Broken h) (finding_once registers placed f g a.0 b.0 a.1 b.1)
+verdict_once registers placed (Broken f) (Broken g) a b = ap (λ h. Broken h) (finding_once a.1 b.1)

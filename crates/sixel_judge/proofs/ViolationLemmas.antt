@@ -53,10 +53,10 @@ found_or registers n before e rule true o is h none more =
 found_or registers n before e rule false o is h none more = more (next_passes registers n before e rule is none h)
 
 -- the first of the rules before `Outside`
-pub first_before_outside : (registers : ℕ) (n : Notes) (before : List Event) (e : Event) → registers ≤ 256
+pub first_before_outside : (registers : ℕ) {n : Notes} {before : List Event} (e : Event) → registers ≤ 256
     → IsNotesAfter n before
     → IsFirstUpTo registers 10 before e (without_pixel (find (counts_in registers n e) before_outside))
-first_before_outside registers n before e few s =
+first_before_outside registers {n} {before} e few s =
     let hit = λ (r : Rule) (p : r ≢ Outside) (q : r ≢ Uncovered). notes_hit registers n before e r few s p q in
     found_or registers 0 before e RasterFirst _ _ refl (hit RasterFirst (λ i. cc) (λ i. cc)) (none_yet _ before e) (λ f.
     found_or registers 1 before e RasterTwice _ _ refl (hit RasterTwice (λ i. cc) (λ i. cc)) f (λ f.
@@ -100,17 +100,17 @@ grid_covers kept (Some s) before d = record {
 }
 
 -- there is a grid exactly if there is a box
-pub grid_declared : {P : Type 0} (kept : ℕ → ℕ) (f : P → Grid) (o : Option P) (n : Notes) (before : List Event)
+pub grid_declared : {P : Type 0} (kept : ℕ → ℕ) (f : P → Grid) (o : Option P) {n : Notes} {before : List Event}
     → IsNotesAfter n before → IsGridAfter kept (option_map f o) before → is_some o ≡ n.declared
-grid_declared kept f None n before s u = sym (s.declared_is ∙ ap is_some u.no_box)
-grid_declared kept f (Some p) n before s d = sym (s.declared_is ∙ ap is_some d.box)
+grid_declared kept f None s u = sym (s.declared_is ∙ ap is_some u.no_box)
+grid_declared kept f (Some p) s d = sym (s.declared_is ∙ ap is_some d.box)
 
 -- what the notes find is the first of the ten rules before `Outside` that count
-pub found_first : {P : Type 0} (registers : ℕ) (kept : ℕ → ℕ) (f : P → Grid) (plane : Option P) (n : Notes)
-    (before : List Event) (e : Event) (box : Bool) (o : Option Rule) → registers ≤ 256 → IsNotesAfter n before
+pub found_first : {P : Type 0} (registers : ℕ) (kept : ℕ → ℕ) (f : P → Grid) (plane : Option P) {n : Notes}
+    {before : List Event} (e : Event) (box : Bool) (o : Option Rule) → registers ≤ 256 → IsNotesAfter n before
     → IsGridAfter kept (option_map f plane) before → box ≡ is_some plane
     → (box ≡ n.declared → o ≡ find (counts_in registers n e) before_outside)
     → IsFirstUpTo registers 10 before e (without_pixel o)
-found_first registers kept f plane n before e box o few s d is found =
-    let declared : box ≡ n.declared = is ∙ grid_declared kept f plane n before s d in
-    rw (found declared) (first_before_outside registers n before e few s)
+found_first registers kept f plane {n} e box o few s d is found =
+    let declared : box ≡ n.declared = is ∙ grid_declared kept f plane s d in
+    rw (found declared) (first_before_outside registers e few s)

@@ -29,9 +29,9 @@ use Rattle.sixel_judge.proofs.UnbrokenLemmas.{defined_after}
 
 -- ---- no pixel is blank
 
-pub full_grid : {kept : ℕ → ℕ} (registers : ℕ) (s : Grid) (events : List Event) → AreWhole events
+pub full_grid : {kept : ℕ → ℕ} (registers : ℕ) {s : Grid} {events : List Event} → AreWhole events
     → BreaksNone registers last_rule events → IsDrawn kept s events → IsFull s
-full_grid registers s events whole none d = split (first_blank s) (first_blank_drawn s events d)
+full_grid registers {s} {events} whole none d = split (first_blank s) (first_blank_drawn d)
   where
     split : (o : Option (ℕ × ℕ)) → IsFirstIfAny (StaysBlank events (box_of s)) o → o ≡ None
     split None first = refl
@@ -57,13 +57,13 @@ register_painted registers events x y r none is =
     )
 
 -- the register of each pixel is one of the palette's, and has a definition
-register_good : (registers : ℕ) {kept : ℕ → ℕ} (s : Grid) (events : List Event) (xs : List ℕ) (i : ℕ)
+register_good : (registers : ℕ) {kept : ℕ → ℕ} {s : Grid} {events : List Event} (xs : List ℕ) (i : ℕ)
     → ((r : ℕ) → kept r ≡ r) → IsDrawn kept s events → BreaksNone registers last_rule events
     → map (λ r. Some r) xs ≡ s.cells → i < length xs
     → (get_or xs i 0 < registers) × IsSome (definition_of events (get_or xs i 0))
-register_good registers s events xs i keeps d none e lt =
+register_good registers {s} {events} xs i keeps d none e lt =
     register_painted registers events (i % s.width) (i / s.width) (get_or xs i 0) none
-    (register_there s events xs i keeps d e lt)
+    (register_there xs i keeps d e lt)
 
 coloured : (o : Option Definition) → IfSome o (λ d. gives_colour d ≡ true) → IsSome o
     → is_some (option_and_then colour_by o) ≡ true
@@ -83,20 +83,20 @@ no_fault : (registers : ℕ) (w h : ℕ) (palette : List (Option Parts)) (xs : L
 no_fault registers w h palette xs sides long low coloured = rw (sides, long, low, coloured) refl
 
 -- the parts of the picture that the events leave make a picture
-pub picture_fits : (registers : ℕ) {kept : ℕ → ℕ} (s : Grid) (events : List Event) (xs : List ℕ)
+pub picture_fits : (registers : ℕ) {kept : ℕ → ℕ} {s : Grid} {events : List Event} (xs : List ℕ)
     → ((r : ℕ) → kept r ≡ r) → IsDrawn kept s events → BreaksNone registers last_rule events
     → map (λ r. Some r) xs ≡ s.cells
     → picture_fault registers s.width s.height (palette_left registers events) xs ≡ None
-picture_fits registers s events xs keeps d none e =
+picture_fits registers {s} {events} xs keeps d none e =
     no_fault _ s.width s.height (palette_left registers events) xs (and_from _ _ d.width d.height)
-    (eq-eqb _ _ (length_drawn s events xs d e))
-    (each_passes (λ r. nat_lt r registers) xs (λ i lt. lt-ltb _ _ (register_good registers s events xs i keeps d none e lt).0))
+    (eq-eqb _ _ (length_drawn xs d e))
+    (each_passes (λ r. nat_lt r registers) xs (λ i lt. lt-ltb _ _ (register_good registers xs i keeps d none e lt).0))
     (each_passes (λ r. is_some (palette_at (palette_left registers events) r)) xs (λ i lt.
-    let good = register_good registers s events xs i keeps d none e lt in
+    let good = register_good registers xs i keeps d none e lt in
     register_coloured registers events (get_or xs i 0) none good.0 good.1))
 
 -- the picture that the events leave has the size of the grid
-pub left_size : {kept : ℕ → ℕ} (registers : ℕ) (s : Grid) (events : List Event) → IsDrawn kept s events
+pub left_size : {kept : ℕ → ℕ} (registers : ℕ) {s : Grid} {events : List Event} → IsDrawn kept s events
     → ((picture_left registers events).width ≡ s.width) × ((picture_left registers events).height ≡ s.height)
 unfolding picture_left
-left_size registers s events d = rw d.box (refl, refl)
+left_size registers d = rw d.box (refl, refl)

@@ -11,6 +11,7 @@ use Rattle.sixel_model.specs.Rules.{Breaks, BreaksNone, is_covered, last_rule, r
 use Rattle.sixel_model.specs.Grids.{Grid, cell}
 use Rattle.sixel_model.specs.declared.profile.Profile.{Profile}
 use Rattle.sixel_model.specs.declared.rule.Rule.{Rule}
+use Rattle.sixel_judge.specs.declared.judge.Judge.{Judge}
 use Rattle.sixel_judge.specs.declared.notes.Notes.{Notes}
 use Rattle.sixel_judge.specs.declared.verdict.Finding.{Finding}
 use Rattle.sixel_judge.specs.Notes.{IsNotesAfter}
@@ -57,3 +58,8 @@ abbrev pub JudgesAfter : (ℕ → ℕ) → Profile → Option Finding → Notes 
 JudgesAfter kept profile None notes grid placed = StandsUnbroken (count_of profile) kept notes grid (events_of placed)
 JudgesAfter kept profile (Some finding) notes grid placed =
     (i : ℕ) × IsFinding (count_of profile) placed finding i
+
+-- the same of a judge, whose plane has this grid
+abbrev pub HasJudged : {P : Type 0} → (ℕ → ℕ) → (P → Grid) → Judge P → List Placed → Type 0
+HasJudged kept grid judge placed =
+    JudgesAfter kept judge.profile judge.finding judge.notes (option_map grid judge.plane) placed

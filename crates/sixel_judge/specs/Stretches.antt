@@ -1,6 +1,6 @@
 -- Stretches of sixels that break no rule.
 use Rattle.std.specs.Prelude.{◌≡◌, ◌+◌, ◌*◌, ◌<◌, ◌≤◌, ◌⊎◌, ℕ, true, false, Option, Some, IsTrue, List}
-use Rattle.std.specs.Prelude.{slice_index, slice_index_or}
+use Rattle.std.specs.Prelude.{◌++◌, slice_index, slice_index_or}
 use Rattle.sixel_grammar.specs.declared.command.Command.{Command}
 use Rattle.sixel_grammar.specs.declared.command.Event.TheVariants.{Step}
 use Rattle.sixel_grammar.specs.declared.command.Placed.{Placed}
@@ -9,12 +9,21 @@ use Rattle.sixel_model.specs.Grids.{Grid}
 use Rattle.sixel_plane.specs.Stretches.{sixel_of, stretched_grid}
 use Rattle.sixel_judge.specs.declared.notes.Notes.{Notes}
 use Rattle.sixel_judge.specs.Notes.{known_in}
-use Rattle.sixel_judge.specs.Standing.{expects}
+use Rattle.sixel_judge.specs.Standing.{CheckerValue, StandsAfter, expects}
 use Rattle.sixel_judge.specs.Verdicts.{capped}
 
 -- any command may come next
 abbrev pub MayStep : List Placed → Type 0
 MayStep seen = (command : Command) → IsTrue (expects seen (Step command))
+
+-- the checker stands where any command may come next
+abbrev pub MayTakeSixels : CheckerValue → Type 0
+MayTakeSixels checker = (registers : ℕ) × (seen : List Placed) × StandsAfter registers checker seen × MayStep seen
+
+-- a checker where any command may come next has taken these sixels
+abbrev pub TakesSixels : CheckerValue → CheckerValue → List Placed → Type 0
+TakesSixels old new sixels = (registers : ℕ) (seen : List Placed) → StandsAfter registers old seen → MayStep seen
+    → StandsAfter registers new (seen ++ sixels)
 
 -- the register is known, and a command painted in it
 pub record IsPaintedIn (notes : Notes) (register : ℕ) : Type 0 where

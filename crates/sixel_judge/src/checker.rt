@@ -4,7 +4,7 @@ ghost use Rattle.std.specs.Prelude.{◌≡◌, ◌<◌, ◌≤◌, ◌++◌, ◌
 ghost use Rattle.std.specs.Prelude.{length, slice_index, take, true};
 ghost use Rattle.sixel_grammar.specs.Bytes.{is_data};
 ghost use Rattle.sixel_grammar.specs.Stretches.{sixels_from};
-ghost use Rattle.sixel_judge.specs.Stretches.{MayStep};
+ghost use Rattle.sixel_judge.specs.Stretches.{MayStep, MayTakeSixels};
 ghost use Rattle.sixel_grammar.specs.Document.{events_of};
 ghost use Rattle.sixel_grammar.specs.declared.command.Placed.{Placed as PlacedValue};
 ghost use Rattle.sixel_grammar.specs.Spelling.{IsSpellable};
@@ -104,8 +104,7 @@ impl<P: Cover> Checker<P> {
     /// checker is unchanged, and the caller pushes the sixels one by one.
     #[inline(always)]
     pub fn try_push_stretch(&mut self, bytes: &[u8], count: usize) -> bool
-        requires expected { (registers : ℕ) × (seen : List PlacedValue) × StandsAfter registers self.old seen
-            × MayStep seen }
+        requires expected { MayTakeSixels self.old }
         requires sixels { (k : ℕ) → k < count → IsTrue (is_data (slice_index bytes.now k)) }
         requires bytes { count ≤ length bytes.now }
         ensures pushed { result ≡ true → (registers place : ℕ) (seen : List PlacedValue)

@@ -11,7 +11,7 @@ ghost use Rattle.sixel_grammar.specs.Document.{AreWhole, events_of};
 ghost use Rattle.sixel_grammar.specs.Spelling.{IsSpellable};
 ghost use Rattle.sixel_model.specs.Profiles.{count_of};
 ghost use Rattle.sixel_judge.specs.Growth.{MayGrow};
-ghost use Rattle.sixel_judge.specs.Judging.{JudgesAfter};
+ghost use Rattle.sixel_judge.specs.Judging.{HasJudged};
 ghost use Rattle.sixel_judge.specs.Verdicts.{IsVerdict, outcome_of};
 ghost use Rattle.sixel_judge.specs.declared.verdict.Verdict.{Verdict as VerdictValue};
 
@@ -39,8 +39,7 @@ impl<P: Cover> Judge<P> {
     /// The state before any event.
     pub(crate) fn new(profile: Profile) -> Judge<P>
         ensures profile { result.profile ≡ profile }
-        ensures none { JudgesAfter (kept_by P.keeps) result.profile result.finding result.notes
-            (option_map P.grid result.plane) [] }
+        ensures none { HasJudged (kept_by P.keeps) P.grid result [] }
     {
         Judge {
             profile,
@@ -55,21 +54,13 @@ impl<P: Cover> Judge<P> {
     /// Its callees are inlined too: a caller that knows the kind of the event keeps only the code for that kind.
     #[inline(always)]
     pub(crate) fn step(&mut self, alloc: Global, placed: &Placed) -> Result<(), AllocError>
-        requires stands { (seen : List PlacedValue)
-            × JudgesAfter (kept_by P.keeps) self.old.profile self.old.finding self.old.notes
-            (option_map P.grid self.old.plane) seen }
+        requires stands { (seen : List PlacedValue) × HasJudged (kept_by P.keeps) P.grid self.old seen }
         requires spellable { IsSpellable placed.now.event }
-        ensures ok { OnOk result ((seen : List PlacedValue)
-            → JudgesAfter (kept_by P.keeps) self.old.profile self.old.finding self.old.notes
-            (option_map P.grid self.old.plane) seen
-            → JudgesAfter (kept_by P.keeps) self.new.profile self.new.finding self.new.notes
-            (option_map P.grid self.new.plane)
-            (seen ++ placed.now ∷ [])) }
+        ensures ok { OnOk result ((seen : List PlacedValue) → HasJudged (kept_by P.keeps) P.grid self.old seen
+            → HasJudged (kept_by P.keeps) P.grid self.new (seen ++ placed.now ∷ [])) }
         ensures profile { self.new.profile ≡ self.old.profile }
         ensures err { OnErr result (self.new ≡ self.old) }
-        ensures grows { OnErr result ((seen : List PlacedValue)
-            → JudgesAfter (kept_by P.keeps) self.old.profile self.old.finding self.old.notes
-            (option_map P.grid self.old.plane) seen
+        ensures grows { OnErr result ((seen : List PlacedValue) → HasJudged (kept_by P.keeps) P.grid self.old seen
             → MayGrow (count_of self.old.profile) (events_of seen) placed.now.event) }
     {
         if self.finding.is_some() {
@@ -96,9 +87,7 @@ impl<P: Cover> Judge<P> {
     /// nothing has changed.
     #[inline(always)]
     pub(crate) fn try_take_stretch(&mut self, bytes: &[u8], count: usize) -> bool
-        requires stands { (seen : List PlacedValue)
-            × JudgesAfter (kept_by P.keeps) self.old.profile self.old.finding self.old.notes
-            (option_map P.grid self.old.plane) seen }
+        requires stands { (seen : List PlacedValue) × HasJudged (kept_by P.keeps) P.grid self.old seen }
         requires sixels { (k : ℕ) → k < count → IsTrue (is_data (slice_index bytes.now k)) }
         requires bytes { count ≤ length bytes.now }
         ensures profile { self.new.profile ≡ self.old.profile }
@@ -119,13 +108,9 @@ impl<P: Cover> Judge<P> {
 
     /// The verdict on a whole list, without the picture.
     pub(crate) fn outcome(self) -> Outcome
-        requires { (seen : List PlacedValue)
-            × JudgesAfter (kept_by P.keeps) self.profile self.finding self.notes
-            (option_map P.grid self.plane) seen
+        requires { (seen : List PlacedValue) × HasJudged (kept_by P.keeps) P.grid self seen
             × AreWhole (events_of seen) }
-        ensures { (seen : List PlacedValue)
-            → JudgesAfter (kept_by P.keeps) self.profile self.finding self.notes
-            (option_map P.grid self.plane) seen
+        ensures { (seen : List PlacedValue) → HasJudged (kept_by P.keeps) P.grid self seen
             → (verdict : VerdictValue) × IsVerdict (count_of self.profile) seen verdict
             × (result ≡ outcome_of verdict) }
     {
@@ -144,13 +129,9 @@ impl<P: Cover> Judge<P> {
 impl<P: Plane> Judge<P> {
     /// The verdict on a whole list.
     pub(crate) fn verdict(self) -> Verdict
-        requires { (seen : List PlacedValue)
-            × JudgesAfter (kept_by P.keeps) self.profile self.finding self.notes
-            (option_map P.grid self.plane) seen
+        requires { (seen : List PlacedValue) × HasJudged (kept_by P.keeps) P.grid self seen
             × AreWhole (events_of seen) }
-        ensures { (seen : List PlacedValue)
-            → JudgesAfter (kept_by P.keeps) self.profile self.finding self.notes
-            (option_map P.grid self.plane) seen
+        ensures { (seen : List PlacedValue) → HasJudged (kept_by P.keeps) P.grid self seen
             → IsVerdict (count_of self.profile) seen result }
     {
         let Judge {

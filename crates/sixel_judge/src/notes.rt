@@ -1,6 +1,6 @@
 //! What the rules need to know of the events, except the pixels.
 
-ghost use Rattle.std.specs.Prelude.{◌≡◌, ◌<◌, ◌++◌, ◌∷◌, ◌||◌, [], ℕ, List, false, not, slice_index_or};
+ghost use Rattle.std.specs.Prelude.{◌≡◌, ◌<◌, ◌++◌, ◌∷◌, ◌||◌, [], List, false, not, slice_index_or};
 ghost use Rattle.std.specs.Option.{option_map};
 ghost use Rattle.sixel_grammar.specs.declared.command.Event.{Event as EventValue};
 ghost use Rattle.sixel_judge.specs.Notes.{next_definitions, next_painted, said, said_of};

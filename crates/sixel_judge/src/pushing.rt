@@ -1,12 +1,10 @@
 //! Pushing stretches of sixels.
 
-ghost use Rattle.std.specs.Prelude.{◌<◌, ◌+◌, ◌≤◌, ◌++◌, ℕ, List, IsOk, IsTrue, length, slice_index, take};
+ghost use Rattle.std.specs.Prelude.{◌<◌, ◌+◌, ◌≤◌, ℕ, IsOk, IsTrue, length, slice_index, take};
 ghost use Rattle.sixel_grammar.specs.Bytes.{is_data};
 ghost use Rattle.sixel_grammar.specs.Document.{most_bytes};
 ghost use Rattle.sixel_grammar.specs.Stretches.{sixels_from};
-ghost use Rattle.sixel_grammar.specs.declared.command.Placed.{Placed as PlacedValue};
-ghost use Rattle.sixel_judge.specs.Standing.{StandsAfter};
-ghost use Rattle.sixel_judge.specs.Stretches.{MayStep};
+ghost use Rattle.sixel_judge.specs.Stretches.{MayTakeSixels, TakesSixels};
 
 use crate::checker::Checker;
 use sixel_grammar::{Command, Event, Placed};
@@ -22,13 +20,11 @@ pub(crate) fn push_stretch<P: Cover>(
     bytes: &[u8],
     count: usize,
 ) -> Result<(), AllocError>
-    requires stands { (registers : ℕ) × (seen : List PlacedValue) × StandsAfter registers checker.old seen
-        × MayStep seen }
+    requires stands { MayTakeSixels checker.old }
     requires sixels { (k : ℕ) → k < count → IsTrue (is_data (slice_index bytes.now k)) }
     requires bytes { (0 < count) × (count ≤ length bytes.now) }
     requires place { place + count ≤ most_bytes }
-    ensures kept { (registers : ℕ) (seen : List PlacedValue) → StandsAfter registers checker.old seen → MayStep seen
-        → StandsAfter registers checker.new (seen ++ sixels_from place (take count bytes.now)) }
+    ensures kept { TakesSixels checker.old checker.new (sixels_from place (take count bytes.now)) }
     ensures always { IsOk result }
 {
     if checker.try_push_stretch(bytes, count) {
@@ -46,13 +42,11 @@ fn push_after_first<P: Cover>(
     bytes: &[u8],
     count: usize,
 ) -> Result<(), AllocError>
-    requires stands { (registers : ℕ) × (seen : List PlacedValue) × StandsAfter registers checker.old seen
-        × MayStep seen }
+    requires stands { MayTakeSixels checker.old }
     requires sixels { (k : ℕ) → k < count → IsTrue (is_data (slice_index bytes.now k)) }
     requires bytes { (0 < count) × (count ≤ length bytes.now) }
     requires place { place + count ≤ most_bytes }
-    ensures kept { (registers : ℕ) (seen : List PlacedValue) → StandsAfter registers checker.old seen → MayStep seen
-        → StandsAfter registers checker.new (seen ++ sixels_from place (take count bytes.now)) }
+    ensures kept { TakesSixels checker.old checker.new (sixels_from place (take count bytes.now)) }
     ensures always { IsOk result }
 {
     push_each(checker, place, &bytes[..1])?;
@@ -71,12 +65,10 @@ fn push_at_end<P: Cover>(
     place: u64,
     stretch: &[u8],
 ) -> Result<(), AllocError>
-    requires stands { (registers : ℕ) × (seen : List PlacedValue) × StandsAfter registers checker.old seen
-        × MayStep seen }
+    requires stands { MayTakeSixels checker.old }
     requires sixels { (k : ℕ) → k < length stretch.now → IsTrue (is_data (slice_index stretch.now k)) }
     requires place { place + length stretch.now ≤ most_bytes }
-    ensures kept { (registers : ℕ) (seen : List PlacedValue) → StandsAfter registers checker.old seen → MayStep seen
-        → StandsAfter registers checker.new (seen ++ sixels_from place stretch.now) }
+    ensures kept { TakesSixels checker.old checker.new (sixels_from place stretch.now) }
     ensures always { IsOk result }
 {
     if stretch.len() <= LANES {
@@ -96,12 +88,10 @@ fn push_each<P: Cover>(
     place: u64,
     stretch: &[u8],
 ) -> Result<(), AllocError>
-    requires stands { (registers : ℕ) × (seen : List PlacedValue) × StandsAfter registers checker.old seen
-        × MayStep seen }
+    requires stands { MayTakeSixels checker.old }
     requires sixels { (k : ℕ) → k < length stretch.now → IsTrue (is_data (slice_index stretch.now k)) }
     requires place { place + length stretch.now ≤ most_bytes }
-    ensures kept { (registers : ℕ) (seen : List PlacedValue) → StandsAfter registers checker.old seen → MayStep seen
-        → StandsAfter registers checker.new (seen ++ sixels_from place stretch.now) }
+    ensures kept { TakesSixels checker.old checker.new (sixels_from place stretch.now) }
     ensures always { IsOk result }
 {
     for (index, byte) in stretch.iter().enumerate() {

@@ -41,22 +41,6 @@ fn violation_of_eight_bit(event: &Event) -> Option<Violation>
     }
 }
 
-/// A violation of `Uncovered` or `EightBit`, the first of them that counts.
-#[inline(always)]
-fn violation_of_end<P: Cover>(notes: &Notes, plane: &P, event: &Event) -> Option<Violation>
-    ensures { (registers : ℕ) (before : List EventValue) → IsNotesAfter notes.now before
-        → IsCoverOf (P.grid plane.now) before → IsFirstUpTo registers 11 before event.now None
-        → IsFirstUpTo registers RULE_COUNT before event.now result }
-{
-    match uncovered_at(notes, plane, event) {
-        Some(pixel) => Some(Violation {
-            rule: Rule::Uncovered,
-            pixel: Some(pixel),
-        }),
-        None => violation_of_eight_bit(event),
-    }
-}
-
 /// A violation of `Outside`, `Uncovered` or `EightBit`, the first of them that counts.
 #[inline(always)]
 fn violation_of_pixels<P: Cover>(notes: &Notes, plane: &P, event: &Event) -> Option<Violation>
@@ -69,7 +53,13 @@ fn violation_of_pixels<P: Cover>(notes: &Notes, plane: &P, event: &Event) -> Opt
             rule: Rule::Outside,
             pixel: Some(pixel),
         }),
-        None => violation_of_end(notes, plane, event),
+        None => match uncovered_at(notes, plane, event) {
+            Some(pixel) => Some(Violation {
+                rule: Rule::Uncovered,
+                pixel: Some(pixel),
+            }),
+            None => violation_of_eight_bit(event),
+        },
     }
 }
 

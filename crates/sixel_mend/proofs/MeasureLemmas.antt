@@ -1,8 +1,7 @@
 -- What an extent stores, event by event.
 use Rattle.std.proofs.Common.{◌≡◌, ◌==◌, ℕ, suc, ◌+◌, ◌-◌, ◌*◌, ◌<◌, ◌≤◌, Bool, true, false, cond, max, min, Option}
 use Rattle.std.proofs.Common.{None, List, [], ◌∷◌, ◌++◌, length, refl, sym, ap, ap₂, subst, ◌∙◌, append_assoc}
-use Rattle.std.proofs.Common.{append-nil}
-use Rattle.std.proofs.Common.{arith}
+use Rattle.std.proofs.Common.{append-nil, arith}
 use Rattle.std.specs.Prelude.{if◌then◌else◌, slice_index}
 use Rattle.std.specs.Option.{option_map, option_or}
 use Rattle.sixel_grammar.specs.declared.command.Command.{Command}
@@ -25,8 +24,7 @@ use Rattle.sixel_mend.specs.declared.extent.Extent.{Extent}
 use Rattle.sixel_mend.specs.declared.extent.Sides.{Sides}
 use Rattle.sixel_mend.specs.Extents.{depth, next_height, next_width, reached}
 use Rattle.sixel_mend.specs.Measures.{Measures, most, next_band, next_column, next_declared, reached_column}
-use Rattle.sixel_mend.specs.Measures.{reached_row}
-use Rattle.sixel_mend.specs.Measures.{sides_of}
+use Rattle.sixel_mend.specs.Measures.{reached_row, sides_of}
 use Rattle.sixel_mend.specs.Screens.{mending_terminal}
 use Rattle.sixel_mend.proofs.ExtentLemmas.{extent_none, extent_push}
 

@@ -1,7 +1,6 @@
 -- The size of a string, judged; and the picture of what a terminal shows of it.
-use Rattle.std.proofs.Common.{◌≡◌, ◌==◌, ◌≤◌, ◌<◌, ◌&&◌, ◌||◌, ◌*◌, ℕ, Bool, true, false, Option, Some, None, List}
-use Rattle.std.proofs.Common.{Ok, Err, max}
-use Rattle.std.proofs.Common.{IfOk, IfErr, length, min, nat_lt, refl, sym, ap, subst, ◌∙◌, arith}
+use Rattle.std.proofs.Common.{◌≡◌, ◌==◌, ◌≤◌, ◌<◌, ◌&&◌, ◌||◌, ◌*◌, ℕ, Bool, true, false, Option, Some, None, List, Ok}
+use Rattle.std.proofs.Common.{Err, max, IfOk, IfErr, length, min, nat_lt, refl, sym, ap, subst, ◌∙◌, arith}
 use Rattle.std.specs.Prelude.{Result, if◌then◌else◌}
 use Rattle.std.specs.Option.{option_map, option_map_or}
 use Rattle.std.proofs.lemmas.Bool.{le-ltb, lt-ltb}

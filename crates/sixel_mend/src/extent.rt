@@ -62,6 +62,14 @@ fn greatest(bytes: &[u8]) -> u8
     greatest
 }
 
+/// The greater of a side and a declared one.
+fn greater(side: u32, declared: u16) -> u32
+    ensures value { result ≡ max side declared }
+    ensures small { declared ≤ most }
+{
+    side.max(u32::from(declared))
+}
+
 impl Extent {
     /// The extent before any event.
     pub(crate) fn new() -> Extent
@@ -167,9 +175,7 @@ impl Extent {
         let rows = depth(greatest(bytes) - b'?');
         u64::from(BAND_ROWS) * u64::from(self.band) + u64::from(rows) <= u64::from(self.height)
     }
-}
 
-impl Extent {
     /// Follows the sixels of these data bytes one by one.
     fn follow_each(&mut self, bytes: &[u8])
         requires { (k : ℕ) → k < length bytes.now → IsTrue (is_data (slice_index bytes.now k)) }
@@ -193,17 +199,7 @@ impl Extent {
             self.follow_each(bytes);
         }
     }
-}
 
-/// The greater of a side and a declared one.
-fn greater(side: u32, declared: u16) -> u32
-    ensures value { result ≡ max side declared }
-    ensures small { declared ≤ most }
-{
-    side.max(u32::from(declared))
-}
-
-impl Extent {
     /// The width and the height of the picture, in pixels.
     pub(crate) fn size(self) -> (u32, u32)
         ensures { (mending : AMending) (events : List AnEvent) → Measures self events

@@ -1,7 +1,6 @@
 //! Makes a portable picture of a string.
 
 ghost use Rattle.std.specs.Prelude.{◌≡◌, ◌&&◌, ℕ, Err, IfErr, IfOk, IsTrue, List};
-ghost use Rattle.sixel_grammar.specs.declared.command.Event.{Event as AnEvent};
 ghost use Rattle.sixel_grammar.specs.declared.command.Placed.{Placed as Place};
 ghost use Rattle.sixel_grammar.specs.Document.{Document, events_of};
 ghost use Rattle.sixel_model.specs.Pictures.{is_side};

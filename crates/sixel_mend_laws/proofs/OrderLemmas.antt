@@ -69,14 +69,12 @@ first_stays colours x i c first = (
 -- the first of a colour, and of a longer list
 first_in_more : (colours : List Parts) (x : Parts) (i j : ℕ) (c : Parts) → IsFirstAt colours i c
     → IsFirstAt (colours ++ x ∷ []) j c → i ≡ j
-first_in_more colours x i j c first other =
-    first_same (colours ++ x ∷ []) i j c (first_stays colours x i c first) other
+first_in_more colours x i j c first other = first_same (colours ++ x ∷ []) i j c (first_stays colours x i c first) other
 
 -- ---- the colours that were seen
 
 -- it is the first, or one of the others
-there_in_one : (y x : Parts) (seen : List Parts) (b : Bool) → is_same x y ≡ b
-    → (b || list_any (is_same x) seen) ≡ true
+there_in_one : (y x : Parts) (seen : List Parts) (b : Bool) → is_same x y ≡ b → (b || list_any (is_same x) seen) ≡ true
     → (list_any (is_same x) seen ≡ true → (r : ℕ) × (slice_get seen r ≡ Some x))
     → (r : ℕ) × (slice_get (y ∷ seen) r ≡ Some x)
 there_in_one y x seen true same any rest = (0, ap (λ (c : Parts). Some c) (sym (same_is x y same)))
@@ -89,8 +87,7 @@ there_from_any : (seen : List Parts) (x : Parts) → list_any (is_same x) seen �
 there_from_any [] x any = let no : false ≡ true = any in cc
 there_from_any (y ∷ seen) x any = there_in_one y x seen (is_same x y) refl any (there_from_any seen x)
 
-any_from_there : (seen : List Parts) (x : Parts) (r : ℕ) → slice_get seen r ≡ Some x
-    → list_any (is_same x) seen ≡ true
+any_from_there : (seen : List Parts) (x : Parts) (r : ℕ) → slice_get seen r ≡ Some x → list_any (is_same x) seen ≡ true
 any_from_there seen x r there = any_passes_from_place (is_same x) seen r x there (same_as_itself x)
 
 -- the colours in the order in which they are first seen

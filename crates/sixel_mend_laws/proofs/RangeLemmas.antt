@@ -26,8 +26,7 @@ then_each : {A B : Type 0} (P : B → Type 0) (f : A → Option B) (o : Option A
 then_each P f None h = tt
 then_each P f (Some a) h = h a
 
-map_each : {A B : Type 0} (P : B → Type 0) (f : A → B) (o : Option A) → ((a : A) → P (f a))
-    → IfSome (option_map f o) P
+map_each : {A B : Type 0} (P : B → Type 0) (f : A → B) (o : Option A) → ((a : A) → P (f a)) → IfSome (option_map f o) P
 map_each P f None h = tt
 map_each P f (Some a) h = h a
 
@@ -120,8 +119,7 @@ map_in_range m w h before register =
     (each_item (λ e. IfSome (defined_on t register e) IsColour) before (defined_in_range m w h register)))
     (start_in_range register)
 
-stood_in_range : (m : Mending) (w h x y : ℕ) → IsColour m.background
-    → IsColour (stood_on (mending_terminal m w h) x y)
+stood_in_range : (m : Mending) (w h x y : ℕ) → IsColour m.background → IsColour (stood_on (mending_terminal m w h) x y)
 stood_in_range m w h x y good =
     get_in_range (replicate (w * h) m.background) (y * w + x) (each_replicated IsColour (w * h) m.background good)
 

@@ -105,8 +105,7 @@ size_of_box m events a w h box wide high bounds =
 
 -- each colour shown is an entry of the palette
 all_entries : (m : Mending) (events : List Event) (w h : ℕ) (palette : List (Option Parts)) → 0 < w
-    → ((x y : ℕ) → x < w → y < h
-    → list_any (is_entry (shown_on (mending_terminal m w h) events x y)) palette ≡ true)
+    → ((x y : ℕ) → x < w → y < h → list_any (is_entry (shown_on (mending_terminal m w h) events x y)) palette ≡ true)
     → AllByRecursion (λ c. list_any (is_entry c) palette ≡ true) (mended_colours m events w h)
 unfolding screen_on
 all_entries m events w h palette wide each =

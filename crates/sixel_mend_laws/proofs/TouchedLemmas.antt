@@ -1,16 +1,13 @@
 -- Points that a data command touches.
-use Rattle.std.proofs.Common.{◌≡◌, ◌+◌, ℕ, Option, Some, None, List, length, take, true, refl, ap, arith, ◌∙◌}
-use Rattle.std.specs.Prelude.{is_some, slice_get, unwrap_or, IsSome}
-use Rattle.std.specs.Option.{option_map}
-use Rattle.std.proofs.lemmas.Option.{slice_get_within}
+use Rattle.std.proofs.Common.{◌≡◌, ◌+◌, ℕ, List, take, true, refl, arith}
+use Rattle.std.specs.Prelude.{IsSome}
 use Rattle.sixel_grammar.specs.declared.command.Event.{Event}
 use Rattle.sixel_model.specs.declared.colour.Parts.{Parts}
-use Rattle.sixel_model.specs.Positions.{at_position, last_at}
-use Rattle.sixel_model.proofs.CoverLemmas.{any_below_at}
-use Rattle.sixel_model.proofs.LastLemmas.{at_there, some_last}
+use Rattle.sixel_model.specs.Positions.{last_at}
 use Rattle.sixel_terminal.specs.Drawing.{IsPainted, height_of, inked_on, is_kept_on, is_seen_on, map_on, paint_at}
-use Rattle.sixel_terminal.specs.Drawing.{paints_in, paints_on, selected_on, shown_on, stood_on, touches_on}
+use Rattle.sixel_terminal.specs.Drawing.{paints_in, paints_on, selected_on, shown_on, touches_on}
 use Rattle.sixel_terminal.proofs.ClipLemmas.{at_origin}
+use Rattle.sixel_judge.proofs.ShownLemmas.{painted_shows}
 use Rattle.sixel_mend.specs.declared.mending.Mending.{Mending}
 use Rattle.sixel_mend.specs.Screens.{mending_terminal}
 use Rattle.sixel_mend.specs.Sizes.{IsTouched}
@@ -42,22 +39,6 @@ touched_is_painted m w h events x y touched = (
   },
 )
 
-last_some : {X A : Type 0} (g : List X → X → Option A) (xs : List X) (j : ℕ) (x : X) → slice_get xs j ≡ Some x
-    → IsSome (g (take j xs) x) → IsSome (last_at g xs)
-unfolding last_at
-last_some g xs j x here h =
-    some_last (length xs) (λ i. is_some (at_position g xs i)) (at_position g xs) (λ i lt p. p)
-    (any_below_at (length xs) j (λ i. is_some (at_position g xs i)) (slice_get_within xs j x here)
-    (rw (at_there g xs j x here) h))
-
-unwrap_same : {A : Type 0} (o : Option A) (a b : A) → IsSome o → unwrap_or o a ≡ unwrap_or o b
-unwrap_same None a b h = cc
-unwrap_same (Some c) a b h = refl
-
-map_some : {A B : Type 0} (f : A → B) (o : Option A) → IsSome o → IsSome (option_map f o)
-map_some f None h = cc
-map_some f (Some a) h = refl
-
 -- the events paint the same on each screen, whatever the background
 same_ink : (m : Mending) (background : Parts) (w h v u : ℕ) (events : List Event) (x y : ℕ)
     → last_at (inked_on (mending_terminal m w h) events x y) events
@@ -70,11 +51,7 @@ pub touched_shows : (m : Mending) (background : Parts) (w h v u : ℕ) (events :
     → IsTouched (mending_terminal m w h) events x y
     → shown_on (mending_terminal m w h) events x y
     ≡ shown_on (mending_terminal (with_background background m) v u) events x y
-unfolding shown_on
+unfolding IsPainted
 touched_shows m background w h v u events x y touched =
-    let t = mending_terminal m w h in
-    let other = mending_terminal (with_background background m) v u in
-    unwrap_same (last_at (inked_on t events x y) events) (stood_on t x y) (stood_on other x y)
-    (last_some (inked_on t events x y) events touched.0 (touched.1).item (touched.1).here
-    (map_some _ _ (touched_paints m w h events (take touched.0 events) (touched.1).item x y (touched.1).holds)))
-    ∙ ap (λ (o : Option Parts). unwrap_or o (stood_on other x y)) (same_ink m background w h v u events x y)
+    let p = touched_is_painted m w h events x y touched in
+    painted_shows _ _ events x y p.0 (same_ink m background w h v u events x y) p.1

@@ -1,8 +1,7 @@
 -- A check of a string.
-use Rattle.std.specs.Prelude.{Err, IfSome, Result}
+use Rattle.std.specs.Prelude.{Err, IfSome, Result, slice_get}
 use Rattle.std.proofs.Common.{◌≡◌, ◌∙◌, ℕ, zero, suc, ◌+◌, ◌≤◌, inl, inr, Option, Some, None, Ok}
 use Rattle.std.proofs.Common.{List, [], ◌∷◌, ◌++◌, length, sym, ap, refl, subst, append_assoc, arith}
-use Rattle.std.specs.Prelude.{slice_get}
 use Rattle.std.specs.Option.{option_map}
 use Rattle.std.proofs.lemmas.List.{append-nil, length-append}
 use Rattle.sixel_grammar.specs.Document.{Document, Piece, bytes_of, joined, placed_from}

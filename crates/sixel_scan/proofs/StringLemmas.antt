@@ -7,8 +7,7 @@ use Rattle.sixel_scan.specs.Strings.{AreStrings, AreStringsFrom, HasNoOpening, I
 use Rattle.sixel_scan.specs.Strings.{StringAt}
 use Rattle.sixel_scan.proofs.EndLemmas.{end_once, ending_of}
 use Rattle.sixel_scan.proofs.ListLemmas.{no_less}
-use Rattle.sixel_scan.proofs.OpeningLemmas.{nothing_opens, opening_once, opening_or_none}
-use Rattle.sixel_scan.proofs.OpeningLemmas.{opening_some}
+use Rattle.sixel_scan.proofs.OpeningLemmas.{nothing_opens, opening_once, opening_or_none, opening_some}
 
 -- ---- past a byte at which no opening begins
 

@@ -1,11 +1,10 @@
 //! Finds the strings of a stream, and checks each.
 
 ghost use Rattle.std.specs.Prelude.{◌≡◌, ◌+◌, ◌<◌, ◌≤◌, ◌^◌, ◌++◌, ◌∷◌, [], ℕ, List, IfOk, OnErr, OnOk, length, take};
+ghost use Rattle.std.specs.Prelude.{◌-◌, false, true, Some};
 ghost use Rattle.std.specs.Option.{option_to_list};
-ghost use Rattle.std.specs.Prelude.{◌-◌};
 ghost use Rattle.sixel_judge.specs.Growth.{MayGrowIn};
 ghost use Rattle.sixel_model.specs.Profiles.{count_of};
-ghost use Rattle.std.specs.Prelude.{false, true, Some};
 ghost use Rattle.sixel_scan.specs.declared.opening.Opening.{Opening as Held};
 ghost use Rattle.sixel_scan.specs.Openings.{is_introduced, is_longer};
 ghost use Rattle.sixel_scan.specs.Strings.{StringAt};

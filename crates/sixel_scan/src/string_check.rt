@@ -1,6 +1,6 @@
 //! The check of one string.
 
-ghost use Rattle.std.specs.Prelude.{◌+◌, ◌<◌, ◌^◌, ◌++◌, ◌∷◌, ◌≡◌, [], ℕ, List, OnErr, OnOk, Result, length};
+ghost use Rattle.std.specs.Prelude.{◌+◌, ◌<◌, ◌^◌, ◌++◌, ◌∷◌, ◌≡◌, [], ℕ, List, OnErr, OnOk, Result};
 ghost use Rattle.sixel_model.specs.Profiles.{count_of};
 ghost use Rattle.sixel_grammar.specs.declared.fault.Fault.{Fault};
 ghost use Rattle.sixel_judge.specs.declared.verdict.Verdict.{Verdict};

@@ -11,8 +11,7 @@ use Rattle.std.proofs.lemmas.Bool.{agree_below_at, leb-true}
 use Rattle.std.proofs.lemmas.Nat.Bits.{bit_at-lt, bit_at-zero, bit_at_and, bit_at_ones, bit_at_ones_above}
 use Rattle.std.proofs.lemmas.Bool.{and_from, and_parts, false_from_ne_true, not-false, not-true, or_parts}
 use Rattle.std.proofs.lemmas.List.Sums.{length-filter}
-use Rattle.std.proofs.lemmas.Nat.{div-add-mod', div-mul-add, mod-mul-add, mod_below, mul-lt}
-use Rattle.std.proofs.lemmas.Nat.{row_fits}
+use Rattle.std.proofs.lemmas.Nat.{div-add-mod', div-mul-add, mod-mul-add, mod_below, mul-lt, row_fits}
 use Rattle.std.proofs.lemmas.Option.{slice_get_within}
 use Rattle.sixel_grammar.specs.declared.command.Command.TheVariants.{Raster}
 use Rattle.sixel_grammar.specs.declared.command.Event.{Event}
@@ -29,6 +28,7 @@ use Rattle.sixel_model.proofs.GridLemmas.{cell-blank_grid, cell-painted_grid, le
 use Rattle.sixel_model.proofs.LastLemmas.{passes_there}
 use Rattle.sixel_model.proofs.RunLemmas.{same_test}
 use Rattle.sixel_model.proofs.StepLemmas.{covered_push, raster_push}
+use Rattle.sixel_model.proofs.PositionLemmas.{option_or_none}
 use Rattle.sixel_plane.proofs.PaintedLemmas.{none_from_map, none_passes, row_below}
 use Rattle.sixel_judge.specs.Verdicts.{capped}
 use Rattle.sixel_judge.proofs.BlankLemmas.{some_width}
@@ -40,6 +40,7 @@ use Rattle.sixel_survey.specs.Covering.{AreCells, IsCoveredBy, blank_cells, blan
 use Rattle.sixel_judge.proofs.NotesLemmas.{early_push}
 use Rattle.sixel_survey.proofs.TallyLemmas.{kept_last, range_agree}
 use Rattle.sixel_judge.proofs.TellLemmas.{Passes, passes_somewhere}
+use Rattle.sixel_judge.proofs.OptionLemmas.{none_is}
 
 -- ---- before the box is declared
 
@@ -84,8 +85,7 @@ no_bits e a is = of_event e is
     of_event _ h = cc
 
 -- a command that paints early stays one
-late_before : (before : List Event) (e : Event) → paints_early (before ++ e ∷ []) ≡ false
-    → paints_early before ≡ false
+late_before : (before : List Event) (e : Event) → paints_early (before ++ e ∷ []) ≡ false → paints_early before ≡ false
 late_before before e late =
     (or_parts (is_painting e && is_none (raster_before before)) (paints_early before)
     (sym (early_push before e) ∙ late)).1
@@ -142,8 +142,7 @@ wrong_sides e broken = of_raster (raster_of e) broken
     of_raster None h = cc
     of_raster (Some a) h = not-true (has_sides a) h
 
-pub right_sides : (e : Event) (a : Attributes) → raster_of e ≡ Some a → breaks_box_size e ≡ false
-    → has_sides a ≡ true
+pub right_sides : (e : Event) (a : Attributes) → raster_of e ≡ Some a → breaks_box_size e ≡ false → has_sides a ≡ true
 unfolding breaks_box_size
 right_sides e a is fine = not-false (has_sides a) (rw is at fine)
 
@@ -170,20 +169,19 @@ declares_sides e w h is fine = of_raster (raster_of e) refl is
       in_range = right_sides e a at fine;
     }
 
-pub declared_in_range : (e : Event) (w h : ℕ) → DeclaresSides e w h → IsTrue (is_side w) × IsTrue (is_side h)
-declared_in_range e w h d =
+pub declared_in_range : {e : Event} {w h : ℕ} → DeclaresSides e w h → IsTrue (is_side w) × IsTrue (is_side h)
+declared_in_range d =
     let parts = and_parts (is_side d.box.width) (is_side d.box.height) d.in_range in (
       subst (λ (n : ℕ). IsTrue (is_side n)) d.width_is parts.0,
       subst (λ (n : ℕ). IsTrue (is_side n)) d.height_is parts.1,
     )
 
-pub sides_told : (e : Event) (w h : ℕ) → DeclaresSides e w h
-    → IsSomeAnd (raster_of e) (λ a. IsTrue (has_sides a))
-sides_told e w h d = rw d.is d.in_range
+pub sides_told : {e : Event} {w h : ℕ} → DeclaresSides e w h → IsSomeAnd (raster_of e) (λ a. IsTrue (has_sides a))
+sides_told d = rw d.is d.in_range
 
-pub cover_declared : (before : List Event) (e : Event) (w h : ℕ) → raster_before before ≡ None → DeclaresSides e w h
+pub cover_declared : (before : List Event) {e : Event} {w h : ℕ} → raster_before before ≡ None → DeclaresSides e w h
     → IsCoverOf (blank_grid w h) (before ++ e ∷ [])
-cover_declared before e w h none d =
+cover_declared before {e} {h} none d =
     subst (λ (n : ℕ). IsCoverOf (blank_grid n h) (before ++ e ∷ [])) d.width_is
     (subst (λ (n : ℕ). IsCoverOf (blank_grid d.box.width n) (before ++ e ∷ [])) d.height_is
     (cover_first before e d.box none d.is d.in_range))
@@ -198,20 +196,15 @@ pub no_raster_stays : (before : List Event) (e : Event) → is_some (raster_of e
 no_raster_stays before e other none =
     ap (λ (o : Option Attributes). option_map_or has_sides o false)
     (raster_push before e ∙ ap (option_or (raster_before before)) (none_declared (raster_of e) other)
-    ∙ or_none (raster_before before))
+    ∙ option_or_none (raster_before before))
     ∙ none
-  where
-    or_none : (o : Option Attributes) → option_or o None ≡ o
-    or_none None = refl
-    or_none (Some a) = refl
 
 -- ---- a run
 
 -- the lowest bits of a band
 pub few_lowest : (rows : ℕ) → rows ≤ 6 → 2 ^ rows - 1 ≤ 63
 few_lowest rows le =
-    leb-true (2 ^ rows - 1) 63
-    (agree_below_at (λ r. nat_le (2 ^ r - 1) 63) (λ r. true) 7 rows refl (omega (arith, le)))
+    leb-true (2 ^ rows - 1) 63 (agree_below_at (λ r. nat_le (2 ^ r - 1) 63) (λ r. true) 7 rows refl (omega (arith, le)))
 
 pub low_bit : (bits rows k : ℕ) → k < rows → bit_at (bit_and bits (2 ^ rows - 1)) k ≡ bit_at bits k
 low_bit bits rows k lt =
@@ -229,10 +222,10 @@ pub record IsRun (column band left line : ℕ) : Type 0 where
   pub band_is : band ≡ capped line
 
 -- a run that begins right of the grid or below it covers none of its points
-pub outside_covers : (left line count bits column band width height x y : ℕ) → IsRun column band left line
-    → width < 4294967296 → height < 4294967296 → (width ≤ column) ⊎ (height ≤ band) → x < width → y < height
-    → covers left count line 1 bits x y ≡ false
-outside_covers left line count bits column band width height x y r narrow low out p q =
+pub outside_covers : {left line : ℕ} (count bits : ℕ) {column band : ℕ} (width height x y : ℕ)
+    → IsRun column band left line → width < 4294967296 → height < 4294967296 → (width ≤ column) ⊎ (height ≤ band)
+    → x < width → y < height → covers left count line 1 bits x y ≡ false
+outside_covers {left} {line} count bits {column} {band} width height x y r narrow low out p q =
     false_from_ne_true (covers left count line 1 bits x y) (λ is.
     let u = lies_under left count line bits x y is in
     let row : y ≡ 6 * line + u.bit = u.row in
@@ -245,13 +238,12 @@ outside_covers left line count bits column band width height x y r narrow low ou
     ])
 
 -- a run that begins in the grid covers the same points of it as the part of it that lies in the grid
-pub inside_covers : (left line count bits column band width height part x y : ℕ) → IsRun column band left line
-    → width < 4294967296 → height < 4294967296 → column < width → band < height
+pub inside_covers : {left line : ℕ} (count bits : ℕ) {column band : ℕ} (width height part x y : ℕ)
+    → IsRun column band left line → width < 4294967296 → height < 4294967296 → column < width → band < height
     → ((k : ℕ) → k < 6 → 6 * band + k < height → bit_at part k ≡ bit_at bits k)
-    → ((k : ℕ) → k < 6 → height ≤ 6 * band + k → bit_at part k ≡ 0)
-    → x < width → y < height
+    → ((k : ℕ) → k < 6 → height ≤ 6 * band + k → bit_at part k ≡ 0) → x < width → y < height
     → covers column (min count (width - column)) band 1 part x y ≡ covers left count line 1 bits x y
-inside_covers left line count bits column band width height part x y r narrow low in_x in_y kept left_out p q =
+inside_covers {left} {line} count bits {column} {band} width height part x y r narrow low in_x in_y kept left_out p q =
     let column_is : column ≡ min left 18446744073709551615 = r.column_is in
     let band_is : band ≡ min line 18446744073709551615 = r.band_is in
     let across : column ≡ left = omega (arith, column_is, in_x, narrow) in
@@ -330,10 +322,10 @@ covered_part s left count line bits column band part_count part r same = record 
     some_if false o = refl
 
 -- the covered pixels after a run of an event
-pub cover_run : (s t : Grid) (before : List Event) (e : Event) → IsCoverOf s before
+pub cover_run : {s t : Grid} {before : List Event} (e : Event) → IsCoverOf s before
     → IsCoveredBy s (column 0 before) (columns_of 0 e) (band before) (bits_of e) t → IsCoverOf t (before ++ e ∷ [])
 unfolding falls touches
-cover_run s t before e c b = record {
+cover_run {s} {before} e c b = record {
   box = c.box;
   box_is = raster_push before e ∙ ap (λ (o : Option Attributes). option_or o (raster_of e)) c.box_is;
   width_is = c.width_is ∙ sym b.same_width;
@@ -455,25 +447,21 @@ no_pixel None h = refl
 no_pixel (Some p) h = cc
 
 -- the number of blank pixels is the number of points of the box that no event covers
-pub blanks_are : (s : Grid) (events : List Event) (c : IsCoverOf s events) → paints_early events ≡ false
+pub blanks_are : {s : Grid} {events : List Event} (c : IsCoverOf s events) → paints_early events ≡ false
     → blank_cells s ≡ blanks events c.box
 unfolding blanks row_by_row
-blanks_are s events c late =
+blanks_are {s} {events} c late =
     let pixels : ℕ = s.width * s.height in
     let of_cells : ℕ → Bool = λ i. is_none (cell s (i % s.width) (i / s.width)) in
     let of_points : ℕ → Bool = λ i. not (is_covered events (i % s.width) (i / s.width)) in
     let agree = range_agree of_cells of_points 0 pixels (λ i low high.
     let lt : i < s.width * s.height = omega (arith, high) in
     let some : 0 < s.width = some_width s.width s.height i lt in
-    none_some (cell s (i % s.width) (i / s.width))
+    none_is (cell s (i % s.width) (i / s.width))
     ∙ ap not (c.covered late (i % s.width) (i / s.width) (mod_below i s.width some)
     (row_below i s.width s.height some lt))) in
     sym (length-filter of_cells (range_with_len 0 pixels)) ∙ ap length agree ∙ by_points c.box c.width_is c.height_is
   where
-    none_some : (o : Option ℕ) → is_none o ≡ not (is_some o)
-    none_some None = refl
-    none_some (Some r) = refl
-
     by_points : (a : Attributes) → a.width ≡ s.width → a.height ≡ s.height
         → length (filter (λ i. not (is_covered events (i % s.width) (i / s.width)))
         (range_with_len 0 (s.width * s.height)))

@@ -77,9 +77,9 @@ pub entry_kept : (f : Rule → Option Entry) (rule : Rule) (e : Entry) → f rul
     → Contains (filter_map f all_rules) e
 entry_kept f rule e is = kept_at f all_rules (number_of rule - 1) rule e (rule_there rule) is
 
-counts_broken : (registers : ℕ) (rule : Rule) (events : List Event) (i : ℕ)
+counts_broken : (registers : ℕ) (rule : Rule) {events : List Event} {i : ℕ}
     → HoldsAtPosition (Counts registers rule) events i → HoldsAtPosition (Breaks registers rule) events i
-counts_broken registers rule events i h = record { item = h.item; here = h.here; holds = h.holds.broken }
+counts_broken registers rule h = record { item = h.item; here = h.here; holds = h.holds.broken }
 
 -- an entry and its position
 record Listed (registers : ℕ) (placed : List Placed) (f : Rule → Option Entry) (e : Entry) : Type 0 where
@@ -96,9 +96,9 @@ listed_as registers placed f rule e (Some d) is same h =
     (record { at = h.1; is_entry = h.2; is_listed = ap f h.0 ∙ is })
 
 -- each of the entries is one
-listed : (registers : ℕ) (placed : List Placed) (entries : List Entry) (s : AreEntries registers placed entries)
+listed : {registers : ℕ} {placed : List Placed} {entries : List Entry} (s : AreEntries registers placed entries)
     (e : Entry) → Contains entries e → Listed registers placed s.entry_of e
-listed registers placed entries s e h =
+listed {registers} {placed} s e h =
     let result = All-contains (IsResult s.entry_of) (filter_map s.entry_of all_rules) e
     (All-from_recursion (IsResult s.entry_of) (filter_map s.entry_of all_rules) (results s.entry_of all_rules))
     (subst (λ (l : List Entry). Contains l e) s.entries_are h) in
@@ -107,10 +107,10 @@ listed registers placed entries s e h =
 -- ---- the entry of the first broken rule
 
 -- no rule is broken before the first broken one
-unbroken_before : (registers : ℕ) (rule : Rule) (i : ℕ) (events : List Event) → IsFirstBroken registers events rule i
+unbroken_before : {registers : ℕ} {rule : Rule} {i : ℕ} {events : List Event} → IsFirstBroken registers events rule i
     → BreaksNone registers last_rule (take i events)
 unfolding BreaksNone
-unbroken_before registers rule i events f m le j h =
+unbroken_before {registers} {i} {events} f m le j h =
     let there = taken_there i j events h.item h.here in
     let low : j < i = there.0 in
     f.none_earlier m j low (record {
@@ -120,14 +120,14 @@ unbroken_before registers rule i events f m le j h =
     })
 
 -- the first broken rule counts
-first_counts : (registers : ℕ) (rule : Rule) (i : ℕ) (events : List Event) → IsFirstBroken registers events rule i
+first_counts : {registers : ℕ} {rule : Rule} {i : ℕ} {events : List Event} → IsFirstBroken registers events rule i
     → HoldsAtPosition (Counts registers rule) events i
-first_counts registers rule i events f =
+first_counts {registers} {rule} {i} {events} f =
     let h = f.broken in
     record {
       item = h.item;
       here = h.here;
-      holds = least_counts registers rule (take i events) h.item (unbroken_before registers rule i events f)
+      holds = least_counts registers rule (take i events) h.item (unbroken_before f)
           (λ m lt b. f.none_smaller m lt (record { item = h.item; here = h.here; holds = b })) h.holds;
     }
 
@@ -135,10 +135,10 @@ make : Rule → ℕ → Option (ℕ × ℕ) → Finding
 make rule place pixel = record { rule = rule; place = place; pixel = pixel }
 
 -- it has its place and its pixel
-same_finding : (registers : ℕ) (placed : List Placed) (f : Finding) (e : Entry) (i : ℕ) → IsFinding registers placed f i
+same_finding : {registers : ℕ} {placed : List Placed} {f : Finding} {e : Entry} {i : ℕ} → IsFinding registers placed f i
     → IsEntryAt registers placed e i → e.rule ≡ f.rule → finding_of e ≡ f
 unfolding make
-same_finding registers placed f e i is at rule =
+same_finding {placed} {f} {e} {i} is at rule =
     let place : e.place ≡ f.place = same_value (place_at placed i) e.place f.place at.place is.place in
     let pixel : e.pixel ≡ f.pixel =
     pixel_at f.rule e.pixel f.pixel (events_of placed) i
@@ -154,20 +154,17 @@ record Found (registers : ℕ) (placed : List Placed) (f : Finding) (i : ℕ) (o
   is_entry : IsEntryAt registers placed entry i
   finding_is : finding_of entry ≡ f
 
-finding_entry : (registers : ℕ) (placed : List Placed) (f : Finding) (i : ℕ) (o : Option Entry)
+finding_entry : {registers : ℕ} {placed : List Placed} {f : Finding} {i : ℕ} (o : Option Entry)
     → IsFinding registers placed f i → IsEntryOf registers placed f.rule o → Found registers placed f i o
-finding_entry registers placed f i None is none =
-    absurd (none i (first_counts registers f.rule i (events_of placed) is.first))
-finding_entry registers placed f i (Some e) is h =
+finding_entry {i} None is none = absurd (none i (first_counts is.first))
+finding_entry {registers} {placed} {i} (Some e) is h =
     let events : List Event = events_of placed in
     let j : ℕ = h.1 in
     let at : IsEntryAt registers placed e h.1 = h.2 in
     let here : HoldsAtPosition (Counts registers e.rule) events i =
-    subst (λ (r : Rule). HoldsAtPosition (Counts registers r) events i) (sym h.0)
-    (first_counts registers f.rule i events is.first) in
+    subst (λ (r : Rule). HoldsAtPosition (Counts registers r) events i) (sym h.0) (first_counts is.first) in
     let not_before : ¬ (i < j) = λ lt. at.none_earlier i lt here in
-    let not_after : ¬ (j < i) = λ lt.
-    is.first.none_earlier e.rule j lt (counts_broken registers e.rule events j at.counts) in
+    let not_after : ¬ (j < i) = λ lt. is.first.none_earlier e.rule j lt (counts_broken registers e.rule at.counts) in
     let same : j ≡ i = omega (arith, not_before, not_after) in
     let there : IsEntryAt registers placed e i = subst (IsEntryAt registers placed e) same at in
     record {
@@ -175,34 +172,32 @@ finding_entry registers placed f i (Some e) is h =
       is_entry_of = refl;
       rule_is = h.0;
       is_entry = there;
-      finding_is = same_finding registers placed f e i is there h.0;
+      finding_is = same_finding is there h.0;
     }
 
 -- ---- no other entry comes before it
 
 -- an entry doesn't count before the first broken rule
-not_earlier : (registers : ℕ) (placed : List Placed) (f : Finding) (d : Entry) (i j : ℕ)
+not_earlier : {registers : ℕ} {placed : List Placed} {f : Finding} {d : Entry} {i j : ℕ}
     → IsFinding registers placed f i → IsEntryAt registers placed d j → ¬ (j < i)
-not_earlier registers placed f d i j is at lt =
-    is.first.none_earlier d.rule j lt (counts_broken registers d.rule (events_of placed) j at.counts)
+not_earlier {registers} {d} {j} is at lt = is.first.none_earlier d.rule j lt (counts_broken registers d.rule at.counts)
 
 -- nor, at its event, has it a smaller number
-not_smaller : (registers : ℕ) (placed : List Placed) (f : Finding) (d : Entry) (i j : ℕ) → j ≡ i
+not_smaller : {registers : ℕ} {placed : List Placed} {f : Finding} {d : Entry} {i j : ℕ} → j ≡ i
     → IsFinding registers placed f i → IsEntryAt registers placed d j → number_of f.rule ≤ number_of d.rule
-not_smaller registers placed f d i j same is at =
-    let none : ¬ (number_of d.rule < number_of f.rule) = λ lt.
-    is.first.none_smaller d.rule lt
-    (counts_broken registers d.rule (events_of placed) i
+not_smaller {registers} {placed} {f} {d} same is at =
+    let none : ¬ (number_of d.rule < number_of f.rule) = λ lt. is.first.none_smaller d.rule lt
+    (counts_broken registers d.rule
     (subst (HoldsAtPosition (Counts registers d.rule) (events_of placed)) same at.counts)) in
     omega (arith, none)
 
 -- two entries of a document, the second no earlier than the first
-place_order : (registers : ℕ) (placed : List Placed) (bytes : List ℕ) (e d : Entry) (i j : ℕ) → Document placed bytes
+place_order : {registers : ℕ} {placed : List Placed} {bytes : List ℕ} {e d : Entry} {i j : ℕ} → Document placed bytes
     → IsEntryAt registers placed e i → IsEntryAt registers placed d j → ¬ (j < i)
     → (e.place ≤ d.place) × (d.place ≡ e.place → j ≡ i)
-place_order registers placed bytes e d i j document at other late =
+place_order {placed} {e} {d} {i} {j} document at other late =
     let later : i < j → e.place < d.place = λ lt.
-    later_place placed bytes document i j e.place d.place lt at.place other.place in
+    later_place document i j e.place d.place lt at.place other.place in
     let together : i ≡ j → e.place ≡ d.place = λ same.
     same_value (place_at placed j) e.place d.place (subst (λ (k : ℕ). place_at placed k ≡ Some e.place) same at.place)
     other.place in
@@ -224,8 +219,8 @@ first_entry : (registers : ℕ) (placed : List Placed) (bytes : List ℕ) (entri
     → IsFirstEntry entries e.entry
 first_entry registers placed bytes entries s f i document is e =
     let order = λ (d : Entry) (l : Listed registers placed s.entry_of d).
-    place_order registers placed bytes e.entry d i l.at document e.is_entry l.is_entry
-    (not_earlier registers placed f d i l.at is l.is_entry) in
+    place_order document e.is_entry l.is_entry
+    (not_earlier is l.is_entry) in
     record {
       among = subst (λ (l : List Entry). Contains l e.entry) (sym s.entries_are)
           (entry_kept s.entry_of f.rule e.entry e.is_entry_of);
@@ -233,13 +228,13 @@ first_entry registers placed bytes entries s f i document is e =
       least_number = each (λ d. d.place ≡ e.entry.place → number_of e.entry.rule ≤ number_of d.rule)
           (λ d l same.
           subst (λ (r : Rule). number_of r ≤ number_of d.rule) (sym e.rule_is)
-          (not_smaller registers placed f d i l.at ((order d l).1 same) is l.is_entry));
+          (not_smaller ((order d l).1 same) is l.is_entry));
     }
   where
     each : (P : Entry → Type 0) → ((d : Entry) → Listed registers placed s.entry_of d → P d)
         → All P entries
     each P h = All-weaker (Contains entries) P
-        (λ d among. h d (listed registers placed entries s d among)) entries
+        (λ d among. h d (listed s d among)) entries
         (All-contains_itself entries)
 
 -- ---- the laws
@@ -249,14 +244,12 @@ counts_none : (registers : ℕ) (placed : List Placed) (rule : Rule) (o : Option
 counts_none registers placed rule None none h = refl
 counts_none registers placed rule (Some e) none h =
     let at : IsEntryAt registers placed e h.1 = h.2 in
-    absurd (nowhere registers e.rule h.1 (events_of placed) none
-    (counts_broken registers e.rule (events_of placed) h.1 at.counts))
+    absurd (nowhere registers e.rule h.1 (events_of placed) none (counts_broken registers e.rule at.counts))
 
-no_entries : (registers : ℕ) (placed : List Placed) (entries : List Entry) → AreEntries registers placed entries
+no_entries : {registers : ℕ} {placed : List Placed} {entries : List Entry} → AreEntries registers placed entries
     → BreaksNone registers last_rule (events_of placed) → entries ≡ []
-no_entries registers placed entries s none =
-    s.entries_are
-    ∙ none_kept s.entry_of all_rules
+no_entries {registers} {placed} s none =
+    s.entries_are ∙ none_kept s.entry_of all_rules
     (λ rule. counts_none registers placed rule (s.entry_of rule) none (s.each rule))
 
 not_among_none : (entries : List Entry) (e : Entry) → entries ≡ [] → ¬ Contains entries e
@@ -266,17 +259,16 @@ not_among_none entries e none h =
     omega arith
 
 -- if a rule is broken, there is an entry for the first
-entry_of_first : (registers : ℕ) (placed : List Placed) (entries : List Entry) (s : AreEntries registers placed entries)
-    (f : Finding) (i : ℕ) → IsFinding registers placed f i → Found registers placed f i (s.entry_of f.rule)
-entry_of_first registers placed entries s f i is =
-    finding_entry registers placed f i (s.entry_of f.rule) is (s.each f.rule)
+entry_of_first : {registers : ℕ} {placed : List Placed} {entries : List Entry} (s : AreEntries registers placed entries)
+    {f : Finding} {i : ℕ} → IsFinding registers placed f i → Found registers placed f i (s.entry_of f.rule)
+entry_of_first s {f} is = finding_entry (s.entry_of f.rule) is (s.each f.rule)
 
-pub none_if_empty : (registers : ℕ) (placed : List Placed) (entries : List Entry)
+pub none_if_empty : {registers : ℕ} {placed : List Placed} {entries : List Entry}
     (s : AreEntries registers placed entries) (v : Verdict) → entries ≡ [] → IsVerdict registers placed v
     → BreaksNone registers last_rule (events_of placed)
-none_if_empty registers placed entries s (Portable p) none is = is.0
-none_if_empty registers placed entries s (Broken f) none is =
-    let e = entry_of_first registers placed entries s f is.0 is.1 in
+none_if_empty s (Portable p) none is = is.0
+none_if_empty {entries} s (Broken f) none is =
+    let e = entry_of_first s is.1 in
     absurd (not_among_none entries e.entry none
     (subst (λ (l : List Entry). Contains l e.entry) (sym s.entries_are)
     (entry_kept s.entry_of f.rule e.entry e.is_entry_of)))
@@ -284,27 +276,26 @@ none_if_empty registers placed entries s (Broken f) none is =
 pub empty_if_none : (registers : ℕ) → EmptyIfNone registers
 empty_if_none registers events survey s =
     let v = verdict_exists registers events in (
-      λ none. none_if_empty registers events survey.entries.items s.entries v.0 none v.1,
-      λ none. no_entries registers events survey.entries.items s.entries none,
+      λ none. none_if_empty s.entries v.0 none v.1,
+      λ none. no_entries s.entries none,
     )
 
-some_of : (registers : ℕ) (events : List Placed) (bytes : List ℕ) (entries : List Entry) (v : Verdict)
-    → Document events bytes → AreEntries registers events entries → entries ≢ []
-    → IsVerdict registers events v → (entry : Entry) × IsFirstEntry entries entry
-some_of registers events bytes entries (Portable p) document s some is =
-    absurd (some (no_entries registers events entries s is.0))
-some_of registers events bytes entries (Broken f) document s some is =
-    let e = entry_of_first registers events entries s f is.0 is.1 in
+some_of : {registers : ℕ} {events : List Placed} {bytes : List ℕ} {entries : List Entry} (v : Verdict)
+    → Document events bytes → AreEntries registers events entries → entries ≢ [] → IsVerdict registers events v
+    → (entry : Entry) × IsFirstEntry entries entry
+some_of (Portable p) document s some is = absurd (some (no_entries s is.0))
+some_of {registers} {events} {bytes} {entries} (Broken f) document s some is =
+    let e = entry_of_first s is.1 in
     (e.entry, first_entry registers events bytes entries s f is.0 document is.1 e)
 
 pub some_first : (registers : ℕ) → SomeFirst registers
 some_first registers events bytes survey document s some =
     let v = verdict_exists registers events in
-    some_of registers events bytes survey.entries.items v.0 document s.entries some v.1
+    some_of v.0 document s.entries some v.1
 
 -- two first entries have the same rule
-first_rules : (entries : List Entry) (e d : Entry) → IsFirstEntry entries e → IsFirstEntry entries d → e.rule ≡ d.rule
-first_rules entries e d f g =
+first_rules : {entries : List Entry} {e d : Entry} → IsFirstEntry entries e → IsFirstEntry entries d → e.rule ≡ d.rule
+first_rules {entries} {e} {d} f g =
     let above : e.place ≤ d.place = All-contains (λ (x : Entry). e.place ≤ x.place) entries d f.least_place g.among in
     let below : d.place ≤ e.place = All-contains (λ (x : Entry). d.place ≤ x.place) entries e g.least_place f.among in
     let place : d.place ≡ e.place = omega arith in
@@ -316,16 +307,16 @@ first_rules entries e d f g =
     f.among (sym place) in
     same_rule e.rule d.rule (omega (arith, fewer, more))
 
-verdict_of : (registers : ℕ) (events : List Placed) (bytes : List ℕ) (entries : List Entry) (entry : Entry)
+verdict_of : {registers : ℕ} {events : List Placed} {bytes : List ℕ} {entries : List Entry} {entry : Entry}
     (v : Verdict) → Document events bytes → AreEntries registers events entries → IsFirstEntry entries entry
     → IsVerdict registers events v → IsVerdict registers events (Broken (finding_of entry))
-verdict_of registers events bytes entries entry (Portable p) document s first is =
-    absurd (not_among_none entries entry (no_entries registers events entries s is.0) first.among)
-verdict_of registers events bytes entries entry (Broken f) document s first is =
-    let e = entry_of_first registers events entries s f is.0 is.1 in
+verdict_of {entries} {entry} (Portable p) document s first is =
+    absurd (not_among_none entries entry (no_entries s is.0) first.among)
+verdict_of {registers} {events} {bytes} {entries} {entry} (Broken f) document s first is =
+    let e = entry_of_first s is.1 in
     let other = first_entry registers events bytes entries s f is.0 document is.1 e in
-    let rule : entry.rule ≡ f.rule = first_rules entries entry e.entry first other ∙ e.rule_is in
-    let l = listed registers events entries s entry first.among in
+    let rule : entry.rule ≡ f.rule = first_rules first other ∙ e.rule_is in
+    let l = listed s entry first.among in
     let same : entry ≡ e.entry =
     same_value (s.entry_of f.rule) entry e.entry
     (subst (λ (r : Rule). s.entry_of r ≡ Some entry) rule l.is_listed) e.is_entry_of in
@@ -334,4 +325,4 @@ verdict_of registers events bytes entries entry (Broken f) document s first is =
 pub first_is_verdict : (registers : ℕ) → FirstIsVerdict registers
 first_is_verdict registers events bytes survey entry document s first =
     let v = verdict_exists registers events in
-    verdict_of registers events bytes survey.entries.items entry v.0 document s.entries first v.1
+    verdict_of v.0 document s.entries first v.1

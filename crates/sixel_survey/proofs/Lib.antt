@@ -5,6 +5,7 @@ pub mod TallyLemmas
 pub mod CoverLemmas
 pub mod DeclareLemmas
 mod FollowLemmas
+pub mod ReadsLemmas
 pub mod TallyingLemmas
 pub mod StretchLemmas
 pub mod SurveyorLemmas

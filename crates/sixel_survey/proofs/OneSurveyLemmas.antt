@@ -35,13 +35,12 @@ same_test P true false f g = sym (g.1 (f.0 refl))
 same_test P false true f g = f.1 (g.0 refl)
 same_test P false false f g = refl
 
-holds_once : {X : Type 0} (P : List X → X → Type 0) (xs : List X) (n m : ℕ) → HoldsOften P xs n → HoldsOften P xs m
+holds_once : {X : Type 0} (P : List X → X → Type 0) {xs : List X} {n m : ℕ} → HoldsOften P xs n → HoldsOften P xs m
     → n ≡ m
-holds_once P xs n m f g =
+holds_once P {xs} f g =
     f.often_is
     ∙ ap length (filter_agree f.holds g.holds (λ i. same_test _ (f.holds i) (g.holds i) (f.decides i) (g.decides i))
-    (range_with_len 0 (length xs)))
-    ∙ sym g.often_is
+    (range_with_len 0 (length xs))) ∙ sym g.often_is
 
 number_once : (o : Option Attributes) (f : Attributes → ℕ) (n m : ℕ) → IsSomeAnd o (λ a. n ≡ f a)
     → IsSomeAnd o (λ a. m ≡ f a) → n ≡ m
@@ -51,15 +50,15 @@ number_once (Some a) f n m h k = h ∙ sym k
 often_once : (registers : ℕ) (rule : Rule) (events : List Event) (n m : ℕ) → IsHowOften registers rule events n
     → IsHowOften registers rule events m → n ≡ m
 often_once registers Uncovered events n m f g = number_once (raster_before events) (blanks events) n m f g
-often_once registers rule events n m f g = holds_once (Counts registers rule) events n m f g
+often_once registers rule events n m f g = holds_once (Counts registers rule) f g
 
 make : Rule → ℕ → ℕ → Option (ℕ × ℕ) → Entry
 make rule count place pixel = record { rule = rule; count = count; place = place; pixel = pixel }
 
-entry_at_once : (registers : ℕ) (placed : List Placed) (e d : Entry) (i j : ℕ) → e.rule ≡ d.rule
+entry_at_once : {registers : ℕ} {placed : List Placed} {e d : Entry} {i j : ℕ} → e.rule ≡ d.rule
     → IsEntryAt registers placed e i → IsEntryAt registers placed d j → e ≡ d
 unfolding make
-entry_at_once registers placed e d i j rule at other =
+entry_at_once {registers} {placed} {e} {d} {i} {j} rule at other =
     let events : List Event = events_of placed in
     let first : IsEntryAt registers placed (make d.rule e.count e.place e.pixel) i =
     subst (λ (r : Rule). IsEntryAt registers placed (make r e.count e.place e.pixel) i) rule at in
@@ -85,20 +84,18 @@ entry_once registers placed rule (Some e) None h k =
     let at : IsEntryAt registers placed e h.1 = h.2 in
     absurd (k h.1 (subst (λ (r : Rule). HoldsAtPosition (Counts registers r) (events_of placed) h.1) h.0 at.counts))
 entry_once registers placed rule (Some e) (Some d) h k =
-    ap (λ (x : Entry). Some x) (entry_at_once registers placed e d h.1 k.1 (h.0 ∙ sym k.0) h.2 k.2)
+    ap (λ (x : Entry). Some x) (entry_at_once (h.0 ∙ sym k.0) h.2 k.2)
 
 kept_same : {X Y : Type 0} (f g : X → Option Y) (xs : List X) → ((x : X) → f x ≡ g x)
     → filter_map f xs ≡ filter_map g xs
 kept_same f g [] same = refl
 kept_same f g (x ∷ xs) same = rw (same x, kept_same f g xs same) refl
 
-entries_once : (registers : ℕ) (placed : List Placed) (s t : List Entry) → AreEntries registers placed s
+entries_once : {registers : ℕ} {placed : List Placed} {s t : List Entry} → AreEntries registers placed s
     → AreEntries registers placed t → s ≡ t
-entries_once registers placed s t is other =
-    is.entries_are
-    ∙ kept_same is.entry_of other.entry_of all_rules
-    (λ rule. entry_once registers placed rule (is.entry_of rule) (other.entry_of rule) (is.each rule)
-    (other.each rule))
+entries_once {registers} {placed} is other =
+    is.entries_are ∙ kept_same is.entry_of other.entry_of all_rules
+    (λ rule. entry_once registers placed rule (is.entry_of rule) (other.entry_of rule) (is.each rule) (other.each rule))
     ∙ sym other.entries_are
 
 of_parts : List Entry → Option (ℕ × ℕ) → Survey
@@ -108,10 +105,9 @@ pub survey_once : (registers : ℕ) → OneSurvey registers
 unfolding of_parts
 survey_once registers placed s t is other =
     let entries : s.entries.items ≡ t.entries.items =
-    entries_once registers placed s.entries.items t.entries.items is.entries other.entries in
+    entries_once is.entries other.entries in
     let size : s.size ≡ t.size =
-    is.size
-    ∙ ap (λ (l : List Entry). size_if_none l (picture_left registers (events_of placed))) entries
+    is.size ∙ ap (λ (l : List Entry). size_if_none l (picture_left registers (events_of placed))) entries
     ∙ sym other.size in
     let whole : of_parts s.entries.items s.size ≡ of_parts t.entries.items t.size = cc (entries, size) in
     whole
@@ -161,13 +157,13 @@ in_box : (o : Option Attributes) (a : Attributes) (f : Attributes → ℕ) → o
 in_box o a f is = rw is refl
 
 -- how often a rule counts that counts somewhere
-often_of : (registers : ℕ) (rule : Rule) (events : List Event) (i : ℕ)
+often_of : (registers : ℕ) (rule : Rule) {events : List Event} {i : ℕ}
     → HoldsAtPosition (Counts registers rule) events i → (n : ℕ) × IsHowOften registers rule events n
 unfolding Breaks BreaksUncovered
-often_of registers Uncovered events i h =
+often_of registers Uncovered {events} {i} h =
     let box = box_of_all i events (raster_before (take i events)) _ refl h.holds.broken.1 in
     (blanks events box.0, in_box (raster_before events) box.0 (blanks events) box.1)
-often_of registers rule events i h = (
+often_of registers rule {events} h = (
   length (filter (λ j. yes (counts_at registers rule events j)) (range_with_len 0 (length events))),
   record {
     holds = λ j. yes (counts_at registers rule events j);
@@ -182,7 +178,7 @@ first_entry : (registers : ℕ) (placed : List Placed) (rule : Rule) (i : ℕ) �
     → (o : Option Entry) × IsEntryOf registers placed rule o
 first_entry registers placed rule i lt h least =
     let events : List Event = events_of placed in
-    let often = often_of registers rule events i h in
+    let often = often_of registers rule h in
     let pixel = pixel_of registers rule (take i events) h.item h.holds.broken in
     let place = place_of placed i lt in (
       Some (record { rule = rule; count = often.0; place = place.0; pixel = pixel.0 }),

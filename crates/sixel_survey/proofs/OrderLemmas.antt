@@ -43,9 +43,9 @@ first_alone e = record {
       (λ same. omega arith);
 }
 
-first_new : (entries : List Entry) (e b : Entry) → IsFirstEntry entries b → comes_before e b ≡ true
+first_new : {entries : List Entry} (e : Entry) {b : Entry} → IsFirstEntry entries b → comes_before e b ≡ true
     → IsFirstEntry (entries ++ e ∷ []) e
-first_new entries e b f h =
+first_new {entries} e {b} f h =
     let order = earlier_parts e b h in
     let at_most : e.place ≤ b.place =
     elim order [ inl lt ↦ omega (arith, lt) | inr beside ↦ omega (arith, beside.0) ] in
@@ -64,9 +64,9 @@ first_new entries e b f h =
           omega (arith, number, below together)) (λ same. omega arith);
     }
 
-first_stays : (entries : List Entry) (e b : Entry) → IsFirstEntry entries b → comes_before e b ≡ false
+first_stays : {entries : List Entry} (e : Entry) {b : Entry} → IsFirstEntry entries b → comes_before e b ≡ false
     → IsFirstEntry (entries ++ e ∷ []) b
-first_stays entries e b f h =
+first_stays {entries} e {b} f h =
     let order = no_earlier e b h in
     record {
       among = Contains-append_left entries (e ∷ []) b f.among;
@@ -81,8 +81,8 @@ first_push : (entries : List Entry) (e : Entry) (o : Option Entry) (b : Bool)
 first_push entries e None true h none =
     subst (λ (l : List Entry). IsFirstEntry (l ++ e ∷ []) e) (sym none) (first_alone e)
 first_push entries e None false h none = cc
-first_push entries e (Some b) true h f = first_new entries e b f h
-first_push entries e (Some b) false h f = first_stays entries e b f h
+first_push entries e (Some b) true h f = first_new e f h
+first_push entries e (Some b) false h f = first_stays e f h
 
 -- the first of one more entry
 pub first_more : (entries : List Entry) (k j : ℕ) (d : Entry) (o : Option Entry) (b : Bool) → k < length entries

@@ -35,9 +35,9 @@ places_rise n (p ∷ ps) each (suc i) (suc j) a b lt f g =
     places_rise (n + length (bytes_of p)) ps each.1 i j a b (omega arith) f g
 
 -- of two events of a document, the later one has the greater offset
-pub later_place : (events : List Placed) (bytes : List ℕ) → Document events bytes → (i j a b : ℕ) → i < j
+pub later_place : {events : List Placed} {bytes : List ℕ} → Document events bytes → (i j a b : ℕ) → i < j
     → place_at events i ≡ Some a → place_at events j ≡ Some b → a < b
-later_place events bytes d i j a b lt f g =
+later_place {events} d i j a b lt f g =
     let at : (k c : ℕ) → place_at events k ≡ Some c → place_at (placed_from 0 d.pieces) k ≡ Some c =
     λ k c h. subst (λ (l : List Placed). place_at l k ≡ Some c) d.events_are h in
     places_rise 0 d.pieces d.parses.each i j a b lt (at i a f) (at j b g)

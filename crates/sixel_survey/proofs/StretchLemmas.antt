@@ -2,11 +2,11 @@
 use Rattle.std.proofs.Common.{◌≡◌, ◌≢◌, ◌<◌, ◌≤◌, ◌+◌, ◌-◌, ◌*◌, ◌&&◌, ◌||◌, ℕ, zero, suc, Bool, true, false, not}
 use Rattle.std.proofs.Common.{Option, Some, None, List, [], ◌∷◌, ◌++◌, length, set, take, refl, sym, ap, ap₂}
 use Rattle.std.proofs.Common.{subst, ◌∙◌, arith}
-use Rattle.std.specs.Prelude.{is_none, is_some, nat_eq, nat_lt, slice_index, if◌then◌else◌}
-use Rattle.std.specs.Option.{option_map_or, option_or}
-use Rattle.std.proofs.Math.Bool.{and-false, and-true, or-false, or-true}
+use Rattle.std.specs.Prelude.{is_some, nat_eq, nat_lt, slice_index, if◌then◌else◌}
+use Rattle.std.specs.Option.{option_map_or}
+use Rattle.std.proofs.Math.Bool.{or-false, or-true}
 use Rattle.std.proofs.lemmas.Bool.{cond-true, eqb-false, eqb-true, lt-ltb}
-use Rattle.std.proofs.lemmas.List.{append-nil, get_or-take, length-take-le}
+use Rattle.std.proofs.lemmas.List.{append-nil, get_or-take, length-take-le, set-set}
 use Rattle.sixel_grammar.specs.declared.command.Event.{Event}
 use Rattle.sixel_grammar.specs.declared.command.Placed.{Placed}
 use Rattle.sixel_grammar.specs.Document.{events_of}
@@ -17,6 +17,7 @@ use Rattle.sixel_model.specs.Geometry.{band, column}
 use Rattle.sixel_model.specs.Grids.{Grid, cell, painted_grid}
 use Rattle.sixel_model.specs.Rules.{raster_before}
 use Rattle.sixel_model.proofs.StepLemmas.{raster_push}
+use Rattle.sixel_model.proofs.PositionLemmas.{option_or_none}
 use Rattle.sixel_plane.specs.Stretches.{sixel_of, stretched_grid}
 use Rattle.sixel_plane.proofs.PlaneStretchLemmas.{stretched_height, stretched_length, stretched_more, stretched_none}
 use Rattle.sixel_plane.proofs.PlaneStretchLemmas.{stretched_width}
@@ -27,24 +28,23 @@ use Rattle.sixel_judge.specs.Verdicts.{capped}
 use Rattle.sixel_judge.proofs.JudgeLemmas.{events_push}
 use Rattle.sixel_judge.proofs.OutsideLemmas.{IsCapped, inside_fits, none_outside}
 use Rattle.sixel_judge.proofs.RunLemmas.{falls_first}
-use Rattle.sixel_judge.proofs.StretchLemmas.{sixels_then}
+use Rattle.sixel_judge.proofs.StretchLemmas.{side, sixels_then}
 use Rattle.sixel_survey.specs.declared.entry.Entry.{Entry}
 use Rattle.sixel_judge.specs.declared.notes.Notes.{Notes}
 use Rattle.sixel_judge.specs.declared.hits.Hit.{Hit}
-use Rattle.sixel_judge.specs.Counting.{has_box}
+use Rattle.sixel_judge.specs.Counting.{has_box, IsHit, at_pixel}
 use Rattle.sixel_judge.specs.Covering.{IsCoverOf}
 use Rattle.sixel_survey.specs.Covering.{IsCoveredBy}
-use Rattle.sixel_judge.specs.Notes.{IsNotesAfter, counts_in, known_in, lacks_definition_in, marked}
+use Rattle.sixel_judge.specs.Notes.{IsNotesAfter, counts_in, known_in, marked}
 use Rattle.sixel_judge.specs.Stretches.{Fits}
-use Rattle.sixel_survey.specs.Stretches.{CountsAtEach, any_paints, passed, sixel_at, with_sixels}
+use Rattle.sixel_survey.specs.Stretches.{CountsIf, any_paints, passed, sixel_at, with_sixels}
 use Rattle.sixel_survey.specs.Surveying.{AreTallies}
-use Rattle.sixel_judge.specs.Counting.{IsHit, at_pixel}
 use Rattle.sixel_survey.specs.Tallies.{AreTalliedFor, IsTallyOf, next_tally, tally_in}
 use Rattle.sixel_survey.proofs.CoverLemmas.{cover_run, covered_part}
 use Rattle.sixel_judge.proofs.HitLemmas.{box_told, hit_if, notes_hit, outside_in, outside_none}
 use Rattle.sixel_judge.proofs.NotesLemmas.{notes_push}
 use Rattle.sixel_survey.proofs.TallyLemmas.{tally_push}
-use Rattle.sixel_survey.proofs.TallyingLemmas.{never, side, sixel_only, tallied_rest}
+use Rattle.sixel_survey.proofs.TallyingLemmas.{never, sixel_only, tallied_rest}
 
 -- ---- one sixel after another
 
@@ -70,18 +70,13 @@ over_all Q seen place stretch k le h =
 
 -- ---- the notes
 
-set_twice : (xs : List Bool) (k : ℕ) → set (set xs k true) k true ≡ set xs k true
-set_twice [] k = refl
-set_twice (x ∷ xs) zero = refl
-set_twice (x ∷ xs) (suc k) = ap (λ (l : List Bool). x ∷ l) (set_twice xs k)
-
 marked_twice : (xs : List Bool) (o : Option ℕ) → marked (marked xs o) o ≡ marked xs o
 marked_twice xs None = refl
 marked_twice xs (Some r) = by_low (nat_lt r 256)
   where
     by_low : (b : Bool) → (if b then set (if b then set xs r true else xs) r true else (if b then set xs r true else xs))
         ≡ (if b then set xs r true else xs)
-    by_low true = set_twice xs r
+    by_low true = set-set xs r true true
     by_low false = refl
 
 marked_more : (b a : Bool) (xs : List Bool) (o : Option ℕ)
@@ -98,16 +93,15 @@ early_more false true true false = refl
 early_more false true false late = refl
 early_more false false a late = or-false (a && late)
 
-notes_none : (n : Notes) (events : List Event) (stretch : List ℕ) → IsNotesAfter n events
+notes_none : {n : Notes} {events : List Event} (stretch : List ℕ) → IsNotesAfter n events
     → IsNotesAfter (passed n stretch 0) events
-notes_none n events stretch s =
+notes_none {n} {events} stretch s =
     let is = s.column_is in
     let column : n.column ≡ capped (n.column + 0) = omega (arith, is) in
     subst (λ (c : ℕ). IsNotesAfter (record n { column = c; early = n.early || false }) events) column
     (subst (λ (b : Bool). IsNotesAfter (record n { early = b }) events) (sym (or-false n.early)) s)
 
-notes_one : (n : Notes) (events : List Event) (stretch : List ℕ) (k : ℕ)
-    → IsNotesAfter (passed n stretch k) events
+notes_one : (n : Notes) (events : List Event) (stretch : List ℕ) (k : ℕ) → IsNotesAfter (passed n stretch k) events
     → IsNotesAfter (passed n stretch (suc k)) (events ++ sixel_at stretch k ∷ [])
 notes_one n events stretch k s =
     let e : Event = sixel_at stretch k in
@@ -122,13 +116,10 @@ notes_one n events stretch k s =
 
 -- the notes after the first k sixels
 pub notes_passed : (n : Notes) (seen : List Placed) (place : ℕ) (stretch : List ℕ) → IsNotesAfter n (events_of seen)
-    → (k : ℕ) → k ≤ length stretch
-    → IsNotesAfter (passed n stretch k) (events_of (with_sixels seen place stretch k))
+    → (k : ℕ) → k ≤ length stretch → IsNotesAfter (passed n stretch k) (events_of (with_sixels seen place stretch k))
 notes_passed n seen place stretch s =
-    over (λ k l. IsNotesAfter (passed n stretch k) (events_of l)) seen place stretch
-    (notes_none n (events_of seen) stretch s)
-    (λ k lt v.
-    subst (IsNotesAfter (passed n stretch (suc k))) (sym (events_push (with_sixels seen place stretch k) _))
+    over (λ k l. IsNotesAfter (passed n stretch k) (events_of l)) seen place stretch (notes_none stretch s)
+    (λ k lt v. subst (IsNotesAfter (passed n stretch (suc k))) (sym (events_push (with_sixels seen place stretch k) _))
     (notes_one n (events_of (with_sixels seen place stretch k)) stretch k v))
 
 -- a sixel that paints
@@ -151,10 +142,6 @@ some_paints stretch k (suc n) lt is =
 
 -- ---- the box
 
-or_none : (o : Option Attributes) → option_or o None ≡ o
-or_none None = refl
-or_none (Some a) = refl
-
 -- sixels declare no box
 pub raster_stays : (seen : List Placed) (place : ℕ) (stretch : List ℕ) (k : ℕ) → k ≤ length stretch
     → raster_before (events_of (with_sixels seen place stretch k)) ≡ raster_before (events_of seen)
@@ -163,7 +150,7 @@ raster_stays seen place stretch =
     (λ k lt same.
     ap raster_before (events_push (with_sixels seen place stretch k) _)
     ∙ raster_push (events_of (with_sixels seen place stretch k)) (sixel_at stretch k)
-    ∙ or_none (raster_before (events_of (with_sixels seen place stretch k)))
+    ∙ option_or_none (raster_before (events_of (with_sixels seen place stretch k)))
     ∙ same)
 
 pub has_box_stays : (seen : List Placed) (place : ℕ) (stretch : List ℕ) (k : ℕ) → k ≤ length stretch
@@ -202,83 +189,38 @@ tally_start registers rule seen place stretch t is =
     subst (λ (l : List Placed). IsTallyOf registers l rule t) (sym (append-nil seen)) is
 
 -- after a stretch, if the rules that a sixel can break are done
-pub tallied_sixels : (registers : ℕ) (n : Notes) (seen : List Placed) (place : ℕ) (stretch : List ℕ)
-    (tallies : List (Option Entry)) → registers ≤ 256 → IsNotesAfter n (events_of seen)
+pub tallied_sixels : {registers : ℕ} {n : Notes} {seen : List Placed} (place : ℕ) (stretch : List ℕ)
+    {tallies : List (Option Entry)} → registers ≤ 256 → IsNotesAfter n (events_of seen)
     → AreTalliedFor registers seen (sixels_from place stretch) (Outside ∷ Undefined ∷ Unselected ∷ RasterFirst ∷ [])
     tallies
     → AreTallies registers (seen ++ sixels_from place stretch) tallies
-tallied_sixels registers n seen place stretch tallies few s t =
-    tallied_rest registers seen (sixels_from place stretch) _ tallies t (λ rule left.
-    tally_passed registers rule seen place stretch (tally_in tallies rule)
-    (λ k lt.
-    never registers (passed n stretch k) (events_of (with_sixels seen place stretch k)) (sixel_at stretch k) rule few
-    (notes_passed n seen place stretch s k (omega (arith, lt)))
+tallied_sixels {registers} {n} {seen} place stretch {tallies} few s t =
+    tallied_rest t (λ rule left. tally_passed registers rule seen place stretch (tally_in tallies rule)
+    (λ k lt. never registers (sixel_at stretch k) rule few (notes_passed n seen place stretch s k (omega (arith, lt)))
     (sixel_only (slice_index stretch k - 63) rule left)))
 
 -- a rule that doesn't look at pixels, by the notes after the sixels before
-pub sixel_hit : (registers : ℕ) (n : Notes) (seen : List Placed) (place : ℕ) (stretch : List ℕ) (rule : Rule) (b : Bool)
-    → registers ≤ 256 → IsNotesAfter n (events_of seen) → rule ≢ Outside → rule ≢ Uncovered
-    → (k : ℕ) → k < length stretch → counts_in registers (passed n stretch k) (sixel_at stretch k) rule ≡ b
-    → IsHit registers rule (events_of (with_sixels seen place stretch k)) (sixel_at stretch k) (hit_if b)
-sixel_hit registers n seen place stretch rule b few s p q k lt is =
-    subst (λ (c : Bool). IsHit registers rule (events_of (with_sixels seen place stretch k)) (sixel_at stretch k) (hit_if c))
-    is
-    (notes_hit registers (passed n stretch k) (events_of (with_sixels seen place stretch k)) (sixel_at stretch k) rule few
-    (notes_passed n seen place stretch s k (omega (arith, lt))) p q)
-
-pub raster_first_each : (registers : ℕ) (n : Notes) (seen : List Placed) (place : ℕ) (stretch : List ℕ)
-    → registers ≤ 256 → IsNotesAfter n (events_of seen) → n.declared ≡ false
-    → CountsAtEach registers RasterFirst seen place stretch true
-raster_first_each registers n seen place stretch few s new k lt =
-    sixel_hit registers n seen place stretch RasterFirst true few s (λ i. cc) (λ i. cc) k lt
-    (ap (λ (b : Bool). not b && true) new)
-
-pub raster_first_none : (registers : ℕ) (n : Notes) (seen : List Placed) (place : ℕ) (stretch : List ℕ)
-    → registers ≤ 256 → IsNotesAfter n (events_of seen) → n.declared ≡ true → (k : ℕ) → k < length stretch
-    → IsHit registers RasterFirst (events_of (with_sixels seen place stretch k)) (sixel_at stretch k) None
-raster_first_none registers n seen place stretch few s old k lt =
-    sixel_hit registers n seen place stretch RasterFirst false few s (λ i. cc) (λ i. cc) k lt
-    (ap (λ (b : Bool). not b && true) old)
-
-pub unselected_each : (registers : ℕ) (n : Notes) (seen : List Placed) (place : ℕ) (stretch : List ℕ)
-    → registers ≤ 256 → IsNotesAfter n (events_of seen) → is_none (known_in n) ≡ true
-    → CountsAtEach registers Unselected seen place stretch false
-unselected_each registers n seen place stretch few s none k lt =
-    sixel_hit registers n seen place stretch Unselected _ few s (λ i. cc) (λ i. cc) k lt
-    (ap (λ (b : Bool). is_painting (sixel_at stretch k) && b) none ∙ and-true (is_painting (sixel_at stretch k)))
-
-pub unselected_none : (registers : ℕ) (n : Notes) (seen : List Placed) (place : ℕ) (stretch : List ℕ)
-    → registers ≤ 256 → IsNotesAfter n (events_of seen) → is_none (known_in n) ≡ false → (k : ℕ) → k < length stretch
-    → IsHit registers Unselected (events_of (with_sixels seen place stretch k)) (sixel_at stretch k) None
-unselected_none registers n seen place stretch few s some k lt =
-    sixel_hit registers n seen place stretch Unselected false few s (λ i. cc) (λ i. cc) k lt
-    (ap (λ (b : Bool). is_painting (sixel_at stretch k) && b) some ∙ and-false (is_painting (sixel_at stretch k)))
-
-pub undefined_each : (registers : ℕ) (n : Notes) (seen : List Placed) (place : ℕ) (stretch : List ℕ)
-    → registers ≤ 256 → IsNotesAfter n (events_of seen) → lacks_definition_in registers n ≡ true
-    → CountsAtEach registers Undefined seen place stretch false
-undefined_each registers n seen place stretch few s lacks k lt =
-    sixel_hit registers n seen place stretch Undefined _ few s (λ i. cc) (λ i. cc) k lt
-    (ap (λ (b : Bool). is_painting (sixel_at stretch k) && b) lacks ∙ and-true (is_painting (sixel_at stretch k)))
-
-pub undefined_none : (registers : ℕ) (n : Notes) (seen : List Placed) (place : ℕ) (stretch : List ℕ)
-    → registers ≤ 256 → IsNotesAfter n (events_of seen) → lacks_definition_in registers n ≡ false → (k : ℕ)
-    → k < length stretch
-    → IsHit registers Undefined (events_of (with_sixels seen place stretch k)) (sixel_at stretch k) None
-undefined_none registers n seen place stretch few s has k lt =
-    sixel_hit registers n seen place stretch Undefined false few s (λ i. cc) (λ i. cc) k lt
-    (ap (λ (b : Bool). is_painting (sixel_at stretch k) && b) has ∙ and-false (is_painting (sixel_at stretch k)))
+pub sixel_hits : (registers : ℕ) (n : Notes) (seen : List Placed) (place : ℕ) (stretch : List ℕ) (rule : Rule)
+    (counts blank_too : Bool) → registers ≤ 256 → IsNotesAfter n (events_of seen) → rule ≢ Outside → rule ≢ Uncovered
+    → ((k : ℕ) → counts_in registers (passed n stretch k) (sixel_at stretch k) rule
+    ≡ (counts && (blank_too || is_painting (sixel_at stretch k))))
+    → CountsIf registers rule seen place stretch counts blank_too
+sixel_hits registers n seen place stretch rule counts blank_too few s p q same k lt =
+    subst (λ (c : Bool). IsHit registers rule (events_of (with_sixels seen place stretch k)) (sixel_at stretch k)
+    (hit_if c)) (same k)
+    (notes_hit registers (passed n stretch k) (events_of (with_sixels seen place stretch k)) (sixel_at stretch k) rule
+    few (notes_passed n seen place stretch s k (omega (arith, lt))) p q)
 
 -- ---- the pixels
 
 -- where the first pixel of one sixel outside the box is
-pub outside_each : (registers : ℕ) (n : Notes) (s : Grid) (seen : List Placed) (place : ℕ) (stretch : List ℕ)
+pub outside_each : (registers : ℕ) {n : Notes} {s : Grid} (seen : List Placed) (place : ℕ) (stretch : List ℕ)
     (o : Option (ℕ × ℕ)) → IsNotesAfter n (events_of seen) → IsCoverOf s (events_of seen)
     → (k : ℕ) → k < length stretch
     → ((left line : ℕ) → capped (n.column + k) ≡ capped left → n.band ≡ capped line
     → IsFirstIfAny (PaintsOutside left 1 line (slice_index stretch k - 63) s.width s.height) o)
     → IsHit registers Outside (events_of (with_sixels seen place stretch k)) (sixel_at stretch k) (at_pixel o)
-outside_each registers n s seen place stretch o h c k lt first =
+outside_each registers {n} {s} seen place stretch o h c k lt first =
     let before : List Event = events_of (with_sixels seen place stretch k) in
     let notes = notes_passed n seen place stretch h k (omega (arith, lt)) in
     outside_in registers c.box before (sixel_at stretch k)
@@ -296,12 +238,12 @@ hit_nowhere None is = refl
 hit_nowhere (Some p) is = cc
 
 -- no sixel of a stretch that lies in the box paints outside it
-pub inside_none : (registers : ℕ) (n : Notes) (s : Grid) (seen : List Placed) (place : ℕ) (stretch : List ℕ)
-    → IsNotesAfter n (events_of seen) → IsCoverOf s (events_of seen) → Fits n (length stretch) s
-    → (k : ℕ) → k < length stretch
+pub inside_none : (registers : ℕ) {n : Notes} {s : Grid} (seen : List Placed) (place : ℕ) (stretch : List ℕ)
+    → IsNotesAfter n (events_of seen) → IsCoverOf s (events_of seen) → Fits n (length stretch) s → (k : ℕ)
+    → k < length stretch
     → IsHit registers Outside (events_of (with_sixels seen place stretch k)) (sixel_at stretch k) None
-inside_none registers n s seen place stretch h c fits k lt =
-    outside_each registers n s seen place stretch None h c k lt (λ left line column_is band_is.
+inside_none registers {n} {s} seen place stretch h c fits k lt =
+    outside_each registers seen place stretch None h c k lt (λ left line column_is band_is.
     let w : IsCapped (capped (n.column + k)) n.band left line s.width s.height = record {
       column_is = column_is;
       band_is = band_is;
@@ -323,25 +265,25 @@ no_box_none registers seen place stretch none k lt =
 -- ---- the covered pixels
 
 -- the covered pixels with one more sixel
-pub cover_more : (n : Notes) (s t : Grid) (seen : List Placed) (place : ℕ) (stretch : List ℕ) (k : ℕ)
+pub cover_more : {n : Notes} {s : Grid} (t : Grid) (seen : List Placed) (place : ℕ) (stretch : List ℕ) (k : ℕ)
     → k < length stretch → IsNotesAfter n (events_of seen)
     → IsCoverOf s (events_of (with_sixels seen place stretch k))
     → ((left line : ℕ) → capped (n.column + k) ≡ capped left → n.band ≡ capped line
     → IsCoveredBy s left 1 line (slice_index stretch k - 63) t)
     → IsCoverOf t (events_of (with_sixels seen place stretch (k + 1)))
-cover_more n s t seen place stretch k lt h c covers =
+cover_more {n} t seen place stretch k lt h c covers =
     let l : List Placed = with_sixels seen place stretch k in
     let notes = notes_passed n seen place stretch h k (omega (arith, lt)) in
     subst (λ (m : List Placed). IsCoverOf t (events_of m)) (sixels_then seen place k stretch lt)
     (subst (IsCoverOf t) (sym (events_push l _))
-    (cover_run s t (events_of l) (sixel_at stretch k) c
+    (cover_run (sixel_at stretch k) c
     (covers (column 0 (events_of l)) (band (events_of l)) notes.column_is notes.band_is)))
 
 -- grids with the same pixels
-cover_same : (s t : Grid) (before : List Event) → t.width ≡ s.width → t.height ≡ s.height
-    → length t.cells ≡ t.width * t.height
-    → ((x y : ℕ) → x < s.width → y < s.height → cell t x y ≡ cell s x y) → IsCoverOf s before → IsCoverOf t before
-cover_same s t before wide high long same c = record {
+cover_same : {s : Grid} (t : Grid) {before : List Event} → t.width ≡ s.width → t.height ≡ s.height
+    → length t.cells ≡ t.width * t.height → ((x y : ℕ) → x < s.width → y < s.height → cell t x y ≡ cell s x y)
+    → IsCoverOf s before → IsCoverOf t before
+cover_same t wide high long same c = record {
   box = c.box;
   box_is = c.box_is;
   width_is = c.width_is ∙ sym wide;
@@ -353,37 +295,37 @@ cover_same s t before wide high long same c = record {
       ap is_some (same x y (rw wide at p) (rw high at q)) ∙ c.covered late x y (rw wide at p) (rw high at q);
 }
 
-cover_none : (s : Grid) (before : List Event) (left line : ℕ) (f : ℕ → ℕ) (r : ℕ) → IsCoverOf s before
+cover_none : {s : Grid} {before : List Event} (left line : ℕ) (f : ℕ → ℕ) (r : ℕ) → IsCoverOf s before
     → IsCoverOf (stretched_grid s left line 0 f r) before
-cover_none s before left line f r c =
+cover_none {s} left line f r c =
     let wide = stretched_width s left line 0 f r in
     let high = stretched_height s left line 0 f r in
-    cover_same s (stretched_grid s left line 0 f r) before wide high
+    cover_same (stretched_grid s left line 0 f r) wide high
     (stretched_length s left line 0 f r ∙ ap₂ (λ (w h : ℕ). w * h) (sym wide) (sym high))
     (λ x y p q. stretched_none s left line f r x y p q) c
 
 -- the covered pixels after a stretch that lies in the box
-pub cover_stretch : (n : Notes) (s : Grid) (seen : List Placed) (place count r : ℕ) (bytes : List ℕ)
+pub cover_stretch : {n : Notes} {s : Grid} (seen : List Placed) (place : ℕ) {count : ℕ} (r : ℕ) (bytes : List ℕ)
     → count ≤ length bytes → IsNotesAfter n (events_of seen) → Fits n count s → IsCoverOf s (events_of seen)
     → (k : ℕ) → k ≤ count
     → IsCoverOf (stretched_grid s n.column n.band k (sixel_of bytes count) r)
     (events_of (with_sixels seen place (take count bytes) k))
-cover_stretch n s seen place count r bytes long h fits c zero le =
+cover_stretch {n} {s} seen place {count} r bytes long h fits c zero le =
     subst (λ (l : List Placed). IsCoverOf (stretched_grid s n.column n.band 0 (sixel_of bytes count) r) (events_of l))
-    (sym (append-nil seen)) (cover_none s (events_of seen) n.column n.band (sixel_of bytes count) r c)
-cover_stretch n s seen place count r bytes long h fits c (suc k) le =
+    (sym (append-nil seen)) (cover_none n.column n.band (sixel_of bytes count) r c)
+cover_stretch {n} {s} seen place {count} r bytes long h fits c (suc k) le =
     let f : ℕ → ℕ = sixel_of bytes count in
     let stretch : List ℕ = take count bytes in
     let t : Grid = stretched_grid s n.column n.band k f r in
     let short : length stretch ≡ count = length-take-le count bytes long in
-    let before = cover_stretch n s seen place count r bytes long h fits c k (omega (arith, le)) in
+    let before = cover_stretch seen place r bytes long h fits c k (omega (arith, le)) in
     let bits : f k ≡ slice_index stretch k - 63 =
     cond-true _ _ _ (lt-ltb k count (omega (arith, le)))
     ∙ ap (λ (b : ℕ). b - 63) (sym (get_or-take count bytes k 0 (omega (arith, le)))) in
     let columns : n.column + count ≤ s.width = fits.columns in
     let rows : 6 * n.band + 6 ≤ s.height = fits.rows in
     let next : k + 1 ≡ suc k = omega arith in
-    let after = cover_more n t (painted_grid t (n.column + k) n.band 1 (f k) r) seen place stretch k
+    let after = cover_more (painted_grid t (n.column + k) n.band 1 (f k) r) seen place stretch k
     (omega (arith, short, le)) h before
     (λ left line column_is band_is.
     let across : n.column + k ≡ left = omega (arith, column_is, columns, le, side s.width c.width) in

@@ -19,7 +19,7 @@ use Rattle.sixel_model.specs.Positions.{HoldsAtPosition, earliest}
 use Rattle.sixel_model.specs.Rules.{BreaksNone, all_rules, last_rule, number_of, picture_left, raster_before}
 use Rattle.sixel_model.proofs.FirstLemmas.{earliest_all, earliest_later}
 use Rattle.sixel_model.proofs.LatestLemmas.{Gives}
-use Rattle.sixel_model.proofs.RuleLemmas.{nowhere, number_at, rule_at}
+use Rattle.sixel_model.proofs.RuleLemmas.{nowhere}
 use Rattle.sixel_model.specs.declared.rule.Rule.{Rule}
 use Rattle.sixel_model.specs.declared.rule.Rule.TheVariants.{BoxSize, Uncovered}
 use Rattle.sixel_judge.specs.Portable.{IsPortable}
@@ -42,7 +42,6 @@ use Rattle.sixel_survey.specs.Surveys.{AreEntries, IsEntryAt, IsEntryOf, IsSurve
 use Rattle.sixel_survey.specs.Tallies.{IsTallyAt, IsTallyOf, entry_from, entry_in, tally_in}
 use Rattle.sixel_survey.proofs.CoverLemmas.{blanks_are, early_item}
 use Rattle.sixel_survey.proofs.FirstEntryLemmas.{none_if_empty}
-use Rattle.sixel_survey.proofs.TallyingLemmas.{flat_at}
 use Rattle.sixel_survey.proofs.TallyLemmas.{often_within}
 use Rattle.sixel_judge.proofs.TellLemmas.{Passes, earliest_gives, if_box, passes_somewhere, sides_break}
 
@@ -58,8 +57,9 @@ few_pieces n (p ∷ ps) each =
     let one = length-append p.filler p.text in
     omega (arith, more, some, long, one)
 
-few_events : (events : List Placed) (bytes : List ℕ) → Document events bytes → length (events_of events) ≤ most_bytes
-few_events events bytes d =
+pub few_events : {events : List Placed} {bytes : List ℕ} → Document events bytes
+    → length (events_of events) ≤ most_bytes
+few_events {events} d =
     omega (
       arith,
       length_events events,
@@ -71,12 +71,12 @@ few_events events bytes d =
     )
 
 -- in a document no count is capped
-exact : (registers : ℕ) (events : List Placed) (bytes : List ℕ) (t : Entry) (i : ℕ) → Document events bytes
+exact : {registers : ℕ} {events : List Placed} {bytes : List ℕ} {t : Entry} {i : ℕ} → Document events bytes
     → IsTallyAt registers events t i → HoldsOften (Counts registers t.rule) (events_of events) t.count
-exact registers events bytes t i d at =
-    let few : length (events_of events) ≤ 268435456 = few_events events bytes d in
+exact {registers} {events} {t} d at =
+    let few : length (events_of events) ≤ 268435456 = few_events d in
     let within : at.often ≤ length (events_of events) =
-    often_within (Counts registers t.rule) (events_of events) at.often at.holds_often in
+    often_within (Counts registers t.rule) at.holds_often in
     let same : at.often ≡ t.count = omega (arith, few, within, at.count_is) in
     subst (HoldsOften (Counts registers t.rule) (events_of events)) same at.holds_often
 
@@ -135,30 +135,30 @@ has_box_later i events h =
     rw (earliest_all raster_of i events box.0 box.1) box.2
 
 -- the number of blank pixels, if `Uncovered` counts somewhere
-blank_often : (registers i blank : ℕ) (events : List Event) (grid : Option Grid) → IsCoverAfter grid events
+blank_often : (registers : ℕ) {i : ℕ} (blank : ℕ) {events : List Event} (grid : Option Grid) → IsCoverAfter grid events
     → blank ≡ option_map_or blank_cells grid 0 → HoldsAtPosition (Counts registers Uncovered) events i
     → IsHowOften registers Uncovered events blank
-blank_often registers i blank events None cover is h =
+blank_often registers {i} blank {events} None cover is h =
     let told = and_parts (has_box (take i events)) (not (paints_early (take i events))) h.holds.told in
     let box : has_box events ≡ true = has_box_later i events told.0 in
     cc
-blank_often registers i blank events (Some s) cover is h =
+blank_often registers {i} blank {events} (Some s) cover is h =
     let told = and_parts (has_box (take i events)) (not (paints_early (take i events))) h.holds.told in
     let box = box_in (raster_before (take i events)) told.0 in
     let late = late_later i events (some_box (raster_before (take i events)) box.0 box.1)
     (not-true (paints_early (take i events)) told.1) in
-    rw cover.box_is (is ∙ blanks_are s events cover late)
+    rw cover.box_is (is ∙ blanks_are cover late)
 
 -- ---- the entries
 
-often_plain : (registers : ℕ) (rule : Rule) (events : List Event) (n : ℕ) → rule ≢ Uncovered
+often_plain : (registers : ℕ) (rule : Rule) {events : List Event} {n : ℕ} → rule ≢ Uncovered
     → HoldsOften (Counts registers rule) events n → IsHowOften registers rule events n
-often_plain registers Uncovered events n other h = absurd (other refl)
-often_plain registers _ events n other h = h
+often_plain registers Uncovered other h = absurd (other refl)
+often_plain registers _ other h = h
 
-entry_at : (registers : ℕ) (seen : List Placed) (t : Entry) (i count : ℕ) → IsTallyAt registers seen t i
+entry_at : {registers : ℕ} {seen : List Placed} {t : Entry} {i : ℕ} (count : ℕ) → IsTallyAt registers seen t i
     → IsHowOften registers t.rule (events_of seen) count → IsEntryAt registers seen (record t { count = count }) i
-entry_at registers seen t i count at often = record {
+entry_at count at often = record {
   counts = at.counts;
   none_earlier = at.none_earlier;
   place = at.place;
@@ -166,30 +166,28 @@ entry_at registers seen t i count at often = record {
   often = often;
 }
 
-plain_entry : (registers : ℕ) (seen : List Placed) (bytes : List ℕ) (t : Entry) (i : ℕ) → Document seen bytes
+plain_entry : {registers : ℕ} {seen : List Placed} {bytes : List ℕ} {t : Entry} {i : ℕ} → Document seen bytes
     → t.rule ≢ Uncovered → IsTallyAt registers seen t i → IsEntryAt registers seen t i
-plain_entry registers seen bytes t i d other at =
-    entry_at registers seen t i t.count at
-    (often_plain registers t.rule (events_of seen) t.count other (exact registers seen bytes t i d at))
+plain_entry {registers} {t} d other at = entry_at t.count at (often_plain registers t.rule other (exact d at))
 
 -- the entry that a tally makes
-pub entry_of_tally : (registers : ℕ) (seen : List Placed) (bytes : List ℕ) (grid : Option Grid) (blank : ℕ)
+pub entry_of_tally : (registers : ℕ) {seen : List Placed} {bytes : List ℕ} (grid : Option Grid) (blank : ℕ)
     (rule : Rule) (o : Option Entry) → Document seen bytes → IsCoverAfter grid (events_of seen)
     → blank ≡ option_map_or blank_cells grid 0 → IsTallyOf registers seen rule o
     → IsEntryOf registers seen rule (option_map (entry_from blank rule) o)
-entry_of_tally registers seen bytes grid blank rule None d cover is h = h
-entry_of_tally registers seen bytes grid blank Uncovered (Some t) d cover is h =
+entry_of_tally registers grid blank rule None d cover is h = h
+entry_of_tally registers {seen} grid blank Uncovered (Some t) d cover is h =
     let at : IsTallyAt registers seen t h.1 = h.2 in
     let counts : HoldsAtPosition (Counts registers Uncovered) (events_of seen) h.1 =
     subst (λ (r : Rule). HoldsAtPosition (Counts registers r) (events_of seen) h.1) h.0 at.counts in (
       h.0,
       h.1,
-      entry_at registers seen t h.1 blank at
+      entry_at blank at
           (subst (λ (r : Rule). IsHowOften registers r (events_of seen) blank) (sym h.0)
-          (blank_often registers h.1 blank (events_of seen) grid cover is counts)),
+          (blank_often registers blank grid cover is counts)),
     )
-entry_of_tally registers seen bytes grid blank rule (Some t) d cover is h =
-    (h.0, h.1, plain_entry registers seen bytes t h.1 d (λ e. let no = sym h.0 ∙ e in cc) h.2)
+entry_of_tally registers grid blank rule (Some t) d cover is h =
+    (h.0, h.1, plain_entry d (λ e. let no = sym h.0 ∙ e in cc) h.2)
 
 -- ---- the size
 
@@ -206,63 +204,49 @@ no_box_breaks registers events a is none unbroken =
       holds = sides_break registers (take g.at events) g.item a g.gives (rw is at none);
     })
 
-size_is : (registers : ℕ) (events : List Event) (grid : Option Grid) → IsCoverAfter grid events
+size_is : {registers : ℕ} {events : List Event} (grid : Option Grid) → IsCoverAfter grid events
     → BreaksNone registers last_rule events → IsPortable registers events (picture_left registers events)
     → size_in grid ≡ Some ((picture_left registers events).width, (picture_left registers events).height)
-size_is registers events None cover none p =
+size_is {registers} {events} None cover none p =
     let box = if_box (raster_before events) _ p.size in
     absurd (no_box_breaks registers events box.0 box.1 cover none)
-size_is registers events (Some s) cover none p =
+size_is (Some s) cover none p =
     let size = rw cover.box_is at p.size in
     ap₂ (λ (w h : ℕ). Some (w, h)) (sym cover.width_is ∙ sym size.0) (sym cover.height_is ∙ sym size.1)
 
-pub finish_size : (registers : ℕ) (seen : List Placed) (bytes : List ℕ) (entries : List Entry) (grid : Option Grid)
+pub finish_size : {registers : ℕ} {seen : List Placed} {bytes : List ℕ} (entries : List Entry) (grid : Option Grid)
     (size : Option (ℕ × ℕ)) → Document seen bytes → AreEntries registers seen entries
-    → IsCoverAfter grid (events_of seen)
-    → (entries ≡ [] → size ≡ size_in grid)
-    → (entries ≢ [] → size ≡ None)
+    → IsCoverAfter grid (events_of seen) → (entries ≡ [] → size ≡ size_in grid) → (entries ≢ [] → size ≡ None)
     → size ≡ size_if_none entries (picture_left registers (events_of seen))
-finish_size registers seen bytes [] grid size d are cover empty some =
+finish_size {registers} {seen} {bytes} [] grid size d are cover empty some =
     let v = verdict_exists registers seen in
-    let none = none_if_empty registers seen [] are v.0 refl v.1 in
-    empty refl
-    ∙ size_is registers (events_of seen) grid cover none
+    let none = none_if_empty are v.0 refl v.1 in
+    empty refl ∙ size_is grid cover none
     (left_is_portable registers (events_of seen) (document_whole seen bytes d) none)
-finish_size registers seen bytes (e ∷ more) grid size d are cover empty some = some (λ none. cc)
+finish_size (e ∷ more) grid size d are cover empty some = some (λ none. cc)
 
 -- ---- the survey
 
-pub finished : (registers : ℕ) (surveyor : SurveyorValue) (seen : List Placed) (bytes : List ℕ) (survey : Survey)
+pub finished : {registers : ℕ} {surveyor : SurveyorValue} {seen : List Placed} {bytes : List ℕ} (survey : Survey)
     (blank : ℕ) → HasSurveyed registers surveyor seen → Document seen bytes
     → blank ≡ option_map_or blank_cells surveyor.grid 0
     → survey.entries.items ≡ filter_map (entry_in surveyor.tallies blank) all_rules
     → (survey.entries.items ≡ [] → survey.size ≡ size_in surveyor.grid)
-    → (survey.entries.items ≢ [] → survey.size ≡ None)
-    → IsSurvey registers seen survey
-finished registers surveyor seen bytes survey blank h d is entries empty some =
+    → (survey.entries.items ≢ [] → survey.size ≡ None) → IsSurvey registers seen survey
+finished {registers} {surveyor} {seen} survey blank h d is entries empty some =
     let are : AreEntries registers seen survey.entries.items =
     record {
       entry_of = entry_in surveyor.tallies blank;
-      each = λ rule.
-          entry_of_tally registers seen bytes surveyor.grid blank rule (tally_in surveyor.tallies rule) d h.grid_is is
+      each = λ rule. entry_of_tally registers surveyor.grid blank rule (tally_in surveyor.tallies rule) d h.grid_is is
           (h.tallies_are.each rule);
       entries_are = entries;
     } in
     record {
       entries = are;
-      size = finish_size registers seen bytes survey.entries.items surveyor.grid survey.size d are h.grid_is empty some;
+      size = finish_size survey.entries.items surveyor.grid survey.size d are h.grid_is empty some;
     }
 
 -- ---- the entries one by one
-
-pub entry_there : (tallies : List (Option Entry)) (blank k : ℕ) (o : Option Entry) → k < 13
-    → o ≡ get_or tallies k None
-    → option_map (entry_from blank (rule_at k)) o ≡ entry_in tallies blank (rule_at k)
-entry_there tallies blank k o lt is =
-    let number : number_of (rule_at k) ≡ suc k = number_at k lt in
-    let place : k ≡ number_of (rule_at k) - 1 = omega (arith, number) in
-    ap (option_map (entry_from blank (rule_at k)))
-    (is ∙ sym (flat_at tallies k) ∙ ap (λ (n : ℕ). option_flatten (slice_get tallies n)) place)
 
 pub few_kept : {X Y : Type 0} (f : X → Option Y) (xs : List X) → length (filter_map f xs) ≤ length xs
 few_kept f [] = omega arith
@@ -278,8 +262,7 @@ cons_one None = refl
 cons_one (Some y) = refl
 
 pub kept_more : {X Y : Type 0} (f : X → Option Y) (xs : List X) (i j : ℕ) (d : X) (o : Option Y) → i < length xs
-    → j ≡ i + 1 → o ≡ f (get_or xs i d)
-    → filter_map f (take j xs) ≡ filter_map f (take i xs) ++ option_to_list o
+    → j ≡ i + 1 → o ≡ f (get_or xs i d) → filter_map f (take j xs) ≡ filter_map f (take i xs) ++ option_to_list o
 kept_more {Y = Y} f xs i j d o lt next is =
     ap (λ (n : ℕ). filter_map f (take n xs)) next
     ∙ ap (filter_map f) (take_more xs i d lt)

@@ -5,6 +5,7 @@ use Rattle.std.specs.Prelude.{filter, slice_get, unwrap_or, if◌then◌else◌}
 use Rattle.std.specs.List.{range_with_len}
 use Rattle.std.specs.Option.{option_map}
 use Rattle.std.proofs.lemmas.Bool.{eq-eqb, eqb-true, false_from_ne_true, ne_eqb, or_cases, or_left, or_right}
+use Rattle.std.proofs.Math.Bool.{or-false}
 use Rattle.std.proofs.lemmas.List.Elements.{filter-append}
 use Rattle.std.proofs.lemmas.List.FromFn.{length-range_with_len}
 use Rattle.std.proofs.lemmas.List.Sums.{count_by-le-length, length-filter}
@@ -18,9 +19,8 @@ use Rattle.sixel_judge.specs.Verdicts.{IsPixel, capped}
 use Rattle.sixel_judge.proofs.JudgeLemmas.{events_push, length_events}
 use Rattle.sixel_survey.specs.declared.entry.Entry.{Entry}
 use Rattle.sixel_judge.specs.declared.hits.Hit.{Hit}
-use Rattle.sixel_judge.specs.Counting.{Counts}
+use Rattle.sixel_judge.specs.Counting.{Counts, IsHit}
 use Rattle.sixel_survey.specs.Counting.{HoldsOften}
-use Rattle.sixel_judge.specs.Counting.{IsHit}
 use Rattle.sixel_survey.specs.Tallies.{IsTallyAt, IsTallyOf, next_tally, tally_with}
 use Rattle.sixel_survey.proofs.PlaceLemmas.{place_at}
 
@@ -57,15 +57,15 @@ kept_last test n b e =
     one false e = rw e refl
 
 -- no position is past the end
-past_end : {X : Type 0} (P : List X → X → Type 0) (xs : List X) (n : ℕ) (h : HoldsOften P xs n)
+past_end : {X : Type 0} (P : List X → X → Type 0) {xs : List X} {n : ℕ} (h : HoldsOften P xs n)
     → h.holds (length xs) ≡ false
-past_end P xs n h = false_from_ne_true (h.holds (length xs)) (λ is.
+past_end P {xs} h = false_from_ne_true (h.holds (length xs)) (λ is.
     let low : length xs < length xs = holds_within P xs (length xs) ((h.decides (length xs)).0 is) in omega arith)
 
 -- one more item, at which P doesn't hold
-pub often_same : {X : Type 0} (P : List X → X → Type 0) (xs : List X) (x : X) (n : ℕ) → HoldsOften P xs n → ¬ P xs x
+pub often_same : {X : Type 0} (P : List X → X → Type 0) {xs : List X} (x : X) {n : ℕ} → HoldsOften P xs n → ¬ P xs x
     → HoldsOften P (xs ++ x ∷ []) n
-often_same P xs x n h not = record {
+often_same P {xs} x h not = record {
   holds = h.holds;
   decides = λ i. (
     λ is. let there = (h.decides i).0 is in holds_before P xs x i (holds_within P xs i there) there,
@@ -75,7 +75,7 @@ often_same P xs x n h not = record {
     ],
   );
   often_is =
-      let last = kept_last h.holds (length xs) false (past_end P xs n h) in
+      let last = kept_last h.holds (length xs) false (past_end P h) in
       let more : length (filter h.holds (range_with_len 0 (length (xs ++ x ∷ []))))
       ≡ length (filter h.holds (range_with_len 0 (suc (length xs)))) =
       ap (λ (k : ℕ). length (filter h.holds (range_with_len 0 k))) (length_push xs x) in
@@ -83,9 +83,9 @@ often_same P xs x n h not = record {
 }
 
 -- one more item, at which P holds
-pub often_more : {X : Type 0} (P : List X → X → Type 0) (xs : List X) (x : X) (n : ℕ) → HoldsOften P xs n → P xs x
+pub often_more : {X : Type 0} (P : List X → X → Type 0) {xs : List X} (x : X) {n : ℕ} → HoldsOften P xs n → P xs x
     → HoldsOften P (xs ++ x ∷ []) (n + 1)
-often_more P xs x n h here =
+often_more P {xs} x h here =
     let test : ℕ → Bool = λ i. h.holds i || (i == length xs) in record {
       holds = test;
       decides = λ i. (
@@ -110,19 +110,15 @@ often_more P xs x n h here =
           omega (arith, h.often_is, last, more, same);
     }
   where
-    neither : (b : Bool) → (b || false) ≡ b
-    neither true = refl
-    neither false = refl
-
     only_old : (i : ℕ) → i < 0 + length xs → (h.holds i || (i == length xs)) ≡ h.holds i
     only_old i high =
         let other : (i == length xs) ≡ false = ne_eqb i (length xs) (omega (arith, high)) in
-        rw other (neither (h.holds i))
+        rw other (or-false (h.holds i))
 
 -- P holds at no position of the list, and for the next item
 pub often_first : {X : Type 0} (P : List X → X → Type 0) (xs : List X) (x : X) → HoldsNowhere P xs → P xs x
     → HoldsOften P (xs ++ x ∷ []) 1
-often_first P xs x none here = often_more P xs x 0 (record {
+often_first P xs x none here = often_more P x (record {
   holds = λ i. false;
   decides = λ i. (λ is. cc, λ h. absurd (none i h));
   often_is = sym (nothing (range_with_len 0 (length xs)));
@@ -133,8 +129,8 @@ often_first P xs x none here = often_more P xs x 0 (record {
     nothing (k ∷ ks) = nothing ks
 
 -- P holds at no more positions than there are
-pub often_within : {X : Type 0} (P : List X → X → Type 0) (xs : List X) (n : ℕ) → HoldsOften P xs n → n ≤ length xs
-often_within P xs n h =
+pub often_within : {X : Type 0} (P : List X → X → Type 0) {xs : List X} {n : ℕ} → HoldsOften P xs n → n ≤ length xs
+often_within P {xs} h =
     let range : List ℕ = range_with_len 0 (length xs) in
     omega (
       arith,
@@ -148,8 +144,7 @@ often_within P xs n h =
 
 place_before : (seen : List Placed) (p : Placed) (i a : ℕ) → i < length seen → place_at seen i ≡ Some a
     → place_at (seen ++ p ∷ []) i ≡ Some a
-place_before seen p i a lt h =
-    ap (option_map (λ (q : Placed). q.place)) (get_before seen (p ∷ []) i lt) ∙ h
+place_before seen p i a lt h = ap (option_map (λ (q : Placed). q.place)) (get_before seen (p ∷ []) i lt) ∙ h
 
 -- what holds nowhere and not for the next event holds nowhere
 nowhere_push : {X : Type 0} (P : List X → X → Type 0) (xs : List X) (x : X) → HoldsNowhere P xs → ¬ P xs x
@@ -160,11 +155,10 @@ nowhere_push P xs x none not i h = elim (holds_push P xs x i h) [
 ]
 
 -- the tally of a rule, with another count of positions
-tally_stays : (registers : ℕ) (seen : List Placed) (p : Placed) (t : Entry) (i count often : ℕ)
-    → IsTallyAt registers seen t i
-    → HoldsOften (Counts registers t.rule) (events_of seen ++ p.event ∷ []) often → count ≡ capped often
-    → IsTallyAt registers (seen ++ p ∷ []) (record t { count = count }) i
-tally_stays registers seen p t i count often at holds is =
+tally_stays : {registers : ℕ} {seen : List Placed} (p : Placed) {t : Entry} {i : ℕ} (count : ℕ) {often : ℕ}
+    → IsTallyAt registers seen t i → HoldsOften (Counts registers t.rule) (events_of seen ++ p.event ∷ []) often
+    → count ≡ capped often → IsTallyAt registers (seen ++ p ∷ []) (record t { count = count }) i
+tally_stays {registers} {seen} p {t} {i} count {often} at holds is =
     let events : List Event = events_of seen in
     let low : i < length events = holds_within (Counts registers t.rule) events i at.counts in
     let events_are = events_push seen p in
@@ -181,12 +175,12 @@ tally_stays registers seen p t i count often at holds is =
       count_is = is;
     }
 
-tally_begins : (registers : ℕ) (rule : Rule) (seen : List Placed) (p : Placed) (hit : Hit)
+tally_begins : {registers : ℕ} {rule : Rule} (seen : List Placed) (p : Placed) (hit : Hit)
     → HoldsNowhere (Counts registers rule) (events_of seen) → Counts registers rule (events_of seen) p.event
     → IsPixel rule hit.pixel (events_of seen) p.event
     → IsTallyAt registers (seen ++ p ∷ []) (record { rule = rule; count = 1; place = p.place; pixel = hit.pixel })
     (length (events_of seen))
-tally_begins registers rule seen p hit none here pixel =
+tally_begins {registers} {rule} seen p hit none here pixel =
     let events : List Event = events_of seen in
     let events_are = events_push seen p in
     record {
@@ -217,19 +211,18 @@ tally_push registers rule seen p None (Some t) hit is =
     let at : IsTallyAt registers seen t is.1 = is.2 in (
       is.0,
       is.1,
-      tally_stays registers seen p t is.1 t.count at.often at
-          (often_same (Counts registers t.rule) (events_of seen) p.event at.often at.holds_often
-          (λ c. hit (subst (λ (r : Rule). Counts registers r (events_of seen) p.event) is.0 c)))
-          at.count_is,
+      tally_stays p t.count at
+          (often_same (Counts registers t.rule) p.event at.holds_often
+          (λ c. hit (subst (λ (r : Rule). Counts registers r (events_of seen) p.event) is.0 c))) at.count_is,
     )
 tally_push registers rule seen p (Some hit) None here is =
-    (refl, length (events_of seen), tally_begins registers rule seen p hit is here.0 here.1)
+    (refl, length (events_of seen), tally_begins seen p hit is here.0 here.1)
 tally_push registers rule seen p (Some hit) (Some t) here is =
     let at : IsTallyAt registers seen t is.1 = is.2 in (
       is.0,
       is.1,
-      tally_stays registers seen p t is.1 (capped (t.count + 1)) (at.often + 1) at
-          (often_more (Counts registers t.rule) (events_of seen) p.event at.often at.holds_often
+      tally_stays p (capped (t.count + 1)) at
+          (often_more (Counts registers t.rule) p.event at.holds_often
           (subst (λ (r : Rule). Counts registers r (events_of seen) p.event) (sym is.0) here.0))
           (capped_more t.count at.often at.count_is),
     )

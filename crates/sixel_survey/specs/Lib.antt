@@ -3,6 +3,7 @@ pub mod Surveys
 pub mod Laws
 pub mod Answers
 pub mod Declaring
+pub mod Reads
 pub mod Covering
 pub mod Tallies
 pub mod Stretches

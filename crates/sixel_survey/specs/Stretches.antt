@@ -40,9 +40,10 @@ passed n stretch k = record n {
   early = n.early || (any_paints stretch k && not n.declared);
 }
 
--- the rule counts at each sixel that paints, and at the others too if blank_too; it never has a pixel
-abbrev pub CountsAtEach : ℕ → Rule → List Placed → ℕ → List ℕ → Bool → Type 0
-CountsAtEach registers rule seen place stretch blank_too =
+-- if `counts`, the rule counts at each sixel that paints, and at the others too if `blank_too`; else at none. It never
+-- has a pixel
+abbrev pub CountsIf : ℕ → Rule → List Placed → ℕ → List ℕ → Bool → Bool → Type 0
+CountsIf registers rule seen place stretch counts blank_too =
     (k : ℕ) → k < length stretch
     → IsHit registers rule (events_of (with_sixels seen place stretch k)) (sixel_at stretch k)
-    (if blank_too || is_painting (sixel_at stretch k) then Some (record { pixel = None }) else None)
+    (if counts && (blank_too || is_painting (sixel_at stretch k)) then Some (record { pixel = None }) else None)

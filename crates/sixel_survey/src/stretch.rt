@@ -1,6 +1,6 @@
 //! Surveying stretches of sixels.
 
-ghost use Rattle.std.specs.Prelude.{◌≡◌, ◌<◌, ◌≤◌, ◌+◌, ◌-◌, ◌*◌, ◌++◌, ◌∷◌, ◌||◌, [], ℕ, List, IsTrue, false, length};
+ghost use Rattle.std.specs.Prelude.{◌≡◌, ◌<◌, ◌≤◌, ◌+◌, ◌-◌, ◌*◌, ◌++◌, ◌∷◌, ◌||◌, ℕ, List, IsTrue, false, length};
 ghost use Rattle.std.specs.Prelude.{slice_index, take, true};
 ghost use Rattle.std.specs.Option.{option_map};
 ghost use Rattle.sixel_grammar.specs.Bytes.{is_data};
@@ -14,11 +14,11 @@ ghost use Rattle.sixel_model.specs.Profiles.{count_of};
 ghost use Rattle.sixel_plane.specs.Covers.{kept_by};
 ghost use Rattle.sixel_plane.specs.Stretches.{sixel_of, stretched_grid};
 ghost use Rattle.sixel_model.specs.declared.rule.Rule.{Rule as RuleValue};
-ghost use Rattle.sixel_model.specs.declared.rule.Rule.TheVariants.{Outside, RasterFirst, Undefined, Unselected};
+ghost use Rattle.sixel_model.specs.declared.rule.Rule.TheVariants.{Outside};
 ghost use Rattle.sixel_judge.specs.Covering.{IsCoverAfter, IsCoverOf};
 ghost use Rattle.sixel_judge.specs.Notes.{IsNotesAfter};
 ghost use Rattle.sixel_judge.specs.Stretches.{Fits};
-ghost use Rattle.sixel_survey.specs.Stretches.{AreSixels, CountsAtEach, any_paints, with_sixels};
+ghost use Rattle.sixel_survey.specs.Stretches.{AreSixels, CountsIf, any_paints};
 ghost use Rattle.sixel_survey.specs.Surveying.{AreTallies};
 ghost use Rattle.sixel_survey.specs.Tallies.{AreTalliedFor, IsTallyOf, is_one_of};
 
@@ -78,7 +78,7 @@ fn counted_stretch(
     requires sixels { AreSixels stretch.now }
     requires place { place + length stretch.now ≤ most_bytes }
     ensures { (registers : ℕ) (seen : List PlacedValue)
-        → CountsAtEach registers rule seen place stretch.now blank_too → IsTallyOf registers seen rule tally
+        → CountsIf registers rule seen place stretch.now true blank_too → IsTallyOf registers seen rule tally
         → IsTallyOf registers (seen ++ sixels_from place stretch.now) rule result }
 {
     let mut first = None;
@@ -120,70 +120,28 @@ fn counted_outside<P: Cover>(
     all
 }
 
-/// Counts a stretch for `RasterFirst`.
+/// Counts a stretch for a rule that doesn't look at pixels. If it `counts`, then at each sixel that paints, and at the
+/// others too if `blank_too`; else at none.
 #[inline(always)]
-fn tally_raster_first(
+fn tally_each(
     tallies: &mut [Option<Entry>; RULE_COUNT],
-    notes: &Notes,
+    rule: Rule,
+    counts: bool,
+    blank_too: bool,
     place: u64,
     stretch: &[u8],
 )
     requires sixels { AreSixels stretch.now }
     requires place { place + length stretch.now ≤ most_bytes }
-    ensures { (registers : ℕ) (seen : List PlacedValue) (done : List RuleValue) → registers ≤ 256
-        → IsNotesAfter notes.now (events_of seen) → is_one_of done RasterFirst ≡ false
+    ensures { (registers : ℕ) (seen : List PlacedValue) (done : List RuleValue)
+        → CountsIf registers rule seen place stretch.now counts blank_too → is_one_of done rule ≡ false
         → AreTalliedFor registers seen (sixels_from place stretch.now) done tallies.old
-        → AreTalliedFor registers seen (sixels_from place stretch.now) (RasterFirst ∷ done) tallies.new }
+        → AreTalliedFor registers seen (sixels_from place stretch.now) (rule ∷ done) tallies.new }
 {
-    if !notes.declared {
-        let tally = tally_of(tallies, Rule::RasterFirst);
-        let all = counted_stretch(tally, Rule::RasterFirst, place, stretch, true);
-        put(tallies, Rule::RasterFirst, all);
-    }
-}
-
-/// Counts a stretch for `Unselected`.
-#[inline(always)]
-fn tally_unselected(
-    tallies: &mut [Option<Entry>; RULE_COUNT],
-    notes: &Notes,
-    place: u64,
-    stretch: &[u8],
-)
-    requires sixels { AreSixels stretch.now }
-    requires place { place + length stretch.now ≤ most_bytes }
-    ensures { (registers : ℕ) (seen : List PlacedValue) (done : List RuleValue) → registers ≤ 256
-        → IsNotesAfter notes.now (events_of seen) → is_one_of done Unselected ≡ false
-        → AreTalliedFor registers seen (sixels_from place stretch.now) done tallies.old
-        → AreTalliedFor registers seen (sixels_from place stretch.now) (Unselected ∷ done) tallies.new }
-{
-    if notes.known().is_none() {
-        let tally = tally_of(tallies, Rule::Unselected);
-        let all = counted_stretch(tally, Rule::Unselected, place, stretch, false);
-        put(tallies, Rule::Unselected, all);
-    }
-}
-
-/// Counts a stretch for `Undefined`.
-#[inline(always)]
-fn tally_undefined(
-    tallies: &mut [Option<Entry>; RULE_COUNT],
-    profile: Profile,
-    notes: &Notes,
-    place: u64,
-    stretch: &[u8],
-)
-    requires sixels { AreSixels stretch.now }
-    requires place { place + length stretch.now ≤ most_bytes }
-    ensures { (seen : List PlacedValue) (done : List RuleValue)
-        → IsNotesAfter notes.now (events_of seen) → is_one_of done Undefined ≡ false
-        → AreTalliedFor (count_of profile) seen (sixels_from place stretch.now) done tallies.old
-        → AreTalliedFor (count_of profile) seen (sixels_from place stretch.now) (Undefined ∷ done) tallies.new }
-{
-    if notes.lacks_definition(profile) {
-        let tally = tally_of(tallies, Rule::Undefined);
-        let all = counted_stretch(tally, Rule::Undefined, place, stretch, false);
-        put(tallies, Rule::Undefined, all);
+    if counts {
+        let tally = tally_of(tallies, rule);
+        let all = counted_stretch(tally, rule, place, stretch, blank_too);
+        put(tallies, rule, all);
     }
 }
 
@@ -253,9 +211,12 @@ pub(crate) fn tally_stretch<P: Cover>(
         → AreTallies (count_of profile) seen tallies.old
         → AreTallies (count_of profile) (seen ++ sixels_from place stretch.now) tallies.new }
 {
-    tally_raster_first(tallies, notes, place, stretch);
-    tally_unselected(tallies, notes, place, stretch);
-    tally_undefined(tallies, profile, notes, place, stretch);
+    let early = !notes.declared;
+    tally_each(tallies, Rule::RasterFirst, early, true, place, stretch);
+    let unknown = notes.known().is_none();
+    tally_each(tallies, Rule::Unselected, unknown, false, place, stretch);
+    let lacks = notes.lacks_definition(profile);
+    tally_each(tallies, Rule::Undefined, lacks, false, place, stretch);
     tally_outside(tallies, notes, plane, place, stretch);
 }
 

@@ -7,6 +7,7 @@ ghost use Rattle.sixel_grammar.specs.declared.fault.InputFault.TheVariants.{Read
 ghost use Rattle.sixel_model.specs.Profiles.{count_of};
 ghost use Rattle.sixel_survey.specs.Answers.{Answers};
 ghost use Rattle.sixel_survey.specs.Declaring.{DeclareBox, DeclareBoxIn};
+ghost use Rattle.sixel_survey.specs.Reads.{ReadsDocument};
 ghost use Rattle.sixel_survey.specs.Surveying.{HasSurveyed};
 
 use crate::entry::Survey;
@@ -52,8 +53,7 @@ impl<P: Cover> Follower for Surveying<P> {
 
     #[inline(always)]
     fn take_select(&mut self, place: u64, register: u16) -> Result<(), AllocError> {
-        let event = Event::Step(Command::Select(register));
-        self.surveyor.take(self.alloc, &Placed { place, event })
+        self.take_command(place, Command::Select(register))
     }
 
     #[inline(always)]
@@ -100,13 +100,7 @@ pub fn survey_with<S: Source>(
     input: &mut S,
     piece: &mut [u8; PIECE],
 ) -> Result<Survey, InputFault>
-    ensures answer { IfSome (S.state input.old).remaining (Answers (count_of profile) result) }
-    ensures failures { (S.state input.new).failures ≡ failures_after result (S.state input.old).failures }
-    ensures unread { result ≡ Err ReadFault →
-        IfSome (S.state input.old).remaining (NoFaultBefore (S.state input.new).remaining) }
-    ensures left { ReadsToEnd result (S.state input.old).remaining (S.state input.new).remaining }
-    ensures memory { IfSome (S.state input.old).remaining (λ bytes. result ≡ Err InputFault.OutOfMemory
-        → DeclareBoxIn bytes) }
+    ensures { ReadsDocument (Answers (count_of profile)) DeclareBoxIn result (S.state input.old) (S.state input.new) }
 {
     let surveyor: Surveyor<CoverPlane> = Surveyor::new(profile);
     let mut surveying = Surveying { surveyor, alloc };

@@ -21,7 +21,7 @@ ghost use Rattle.sixel_survey.specs.Tallies.{entry_from as entry_made, entry_in}
 use crate::cover::{count_blank, draw};
 use crate::entry::{Entry, Survey};
 use crate::stretch::{draw_stretch, note_stretch, tally_stretch};
-use crate::tallying::tally;
+use crate::tallying::{tally, tally_of};
 use arrayvec::ArrayVec;
 use sixel_grammar::Placed;
 use sixel_judge::Rule;
@@ -37,14 +37,6 @@ fn rule_at(index: usize) -> Rule
     ensures { result ≡ get_or rules_in_order index EightBit }
 {
     ALL_RULES[index]
-}
-
-/// The tally of the rule at this place in the order.
-fn tally_at(tallies: &[Option<Entry>; RULE_COUNT], index: usize) -> Option<Entry>
-    requires { index < RULE_COUNT }
-    ensures { result ≡ get_or tallies.now index None }
-{
-    tallies[index]
 }
 
 /// The entry that a tally makes. For `Uncovered` it has the number of blank pixels.
@@ -65,8 +57,9 @@ fn entry_at(tallies: &[Option<Entry>; RULE_COUNT], blank: u64, index: usize) -> 
     requires { index < RULE_COUNT }
     ensures { result ≡ entry_in tallies.now blank (get_or rules_in_order index EightBit) }
 {
-    match tally_at(tallies, index) {
-        Some(tally) => Some(entry_from(blank, rule_at(index), tally)),
+    let rule = rule_at(index);
+    match tally_of(tallies, rule) {
+        Some(tally) => Some(entry_from(blank, rule, tally)),
         None => None,
     }
 }
@@ -96,25 +89,17 @@ fn blank_in<P: Cover>(plane: &Option<P>) -> u64
     }
 }
 
-/// The size of the box in pixels.
-fn size_of<P: Cover>(plane: &Option<P>) -> Option<(u32, u32)>
-    ensures { result ≡ size_in (option_map P.grid plane.now) }
-{
-    match plane {
-        Some(plane) => Some((plane.width(), plane.height())),
-        None => None,
-    }
-}
-
 /// The size of the picture in pixels, which a survey has if it has no entries.
 fn size_without<P: Cover>(entries: &[Entry], plane: &Option<P>) -> Option<(u32, u32)>
     ensures none { entries.now ≡ [] → result ≡ size_in (option_map P.grid plane.now) }
     ensures some { entries.now ≢ [] → result ≡ None }
 {
-    if entries.is_empty() {
-        size_of(plane)
-    } else {
-        None
+    if !entries.is_empty() {
+        return None;
+    }
+    match plane {
+        Some(plane) => Some((plane.width(), plane.height())),
+        None => None,
     }
 }
 

@@ -1,6 +1,5 @@
 use Rattle.std.proofs.Common.{Some}
 use Rattle.std.proofs.lemmas.Result.{err_from_is_err_and}
-use Rattle.sixel_check.proofs.CheckLemmas.{verdict_answers}
 use Rattle.sixel_check.proofs.FollowLemmas.{halted_explains, halted_grows, halted_reads, seen_all, whole_all}
 use Rattle.sixel_judge.proofs.FollowLemmas.{fresh_for, source_for}
 use Rattle.sixel_model.specs.Profiles.{count_of}
@@ -22,12 +21,15 @@ pub returns-clause-answer : goal.returns-clause-answer
 returns-clause-answer c =
     let n = count_of c.args.profile in
     let known = Some c.args.bytes.now in
-    verdict_answers n known c.follow_document.new.follower _
-    (seen_all n c.follow_document.new.follower known
+    let h = seen_all n c.follow_document.new.follower known
     (source_for n c.new-checker.result c.follow_document.new.follower known c.in_ok-follow_document.ensures.followed
-    c.new-checker.ensures))
-    (λ seen s. c.in_ok-finish.ensures.verdict n seen s) (λ seen s. c.in_ok-finish.ensures.everywhere n seen s)
-    (λ seen s. c.in_ok-finish.ensures.matters n seen s)
+    c.new-checker.ensures) in (
+      h.0,
+      h.1,
+      c.in_ok-finish.ensures.verdict n h.0 h.2,
+      c.in_ok-finish.ensures.everywhere n h.0 h.2,
+      c.in_ok-finish.ensures.matters n h.0 h.2,
+    )
 
 pub returns-in_err-follow_document : goal.returns-in_err-follow_document
 returns-in_err-follow_document c =

@@ -1,16 +1,18 @@
-use Rattle.std.proofs.Common.{ap, ◌∙◌}
-use Rattle.std.specs.Prelude.{Err}
 use Rattle.std.proofs.lemmas.Result.{err_from_is_err_and}
-use Rattle.sixel_check.proofs.CheckLemmas.{outcome_answers, outcome_refused}
+use Rattle.sixel_survey.proofs.ReadsLemmas.{reads_on, reads_refused}
 use Rattle.sixel_check.proofs.checking.outcome_with.Goals as goal
 
-pub returns-clause-answer : goal.returns-clause-answer
-returns-clause-answer g c =
-    outcome_answers _ (g.S.Source.state c.args.input.now).remaining c.in_ok-checker.checker c.outcome.result
-    c.in_ok-checker.ensures.seen (λ seen s. c.outcome.ensures _ seen s)
+pub returns : goal.returns
+returns g c =
+    reads_on c.in_ok-checker.checker _ (g.S.Source.state c.args.input.now) _
+    (λ bytes h.
+    let f = c.outcome.ensures _ h.0 h.2 in
+    (f.verdict, (h.0, h.1, f.verdict_is, f.everywhere, f.matters), f.outcome_is))
+    c.in_ok-checker.ensures.reads
 
-pub returns-in_err-checker-clause-answer : goal.returns-in_err-checker-clause-answer
-returns-in_err-checker-clause-answer g c =
+pub returns-in_err-checker : goal.returns-in_err-checker
+returns-in_err-checker g c =
     let failed = err_from_is_err_and c.from_residual.result c.from_residual.ensures.1 in
-    outcome_refused _ (g.S.Source.state c.args.input.now).remaining c.in_err-checker.field-0.0 c.from_residual.result
-    (failed.1 ∙ ap Err failed.2) c.in_err-checker.ensures.seen
+    rw (failed.1, failed.2)
+    (reads_refused c.in_err-checker.field-0.0 (g.S.Source.state c.args.input.now) _ (λ bytes h. h)
+    c.in_err-checker.ensures.reads)

@@ -13,14 +13,19 @@ use Rattle.sixel_encode.proofs.band.put_band.Goals.{then-own-ne0+in_ok-put_next,
 pub loop-register-init : goal.loop-register-init
 loop-register-init g c = record { put = rw text-none through-none; first = refl }
 
-pub put_next-requires-clause-sixels : goal.put_next-requires-clause-sixels
-put_next-requires-clause-sixels g c =
+pub put_next-requires : goal.put_next-requires
+put_next-requires g c =
     let p = c.args.picture.now in
     let register = c.loop-register.register in
     let small : register < 256 = omega (arith, c.loop-register-test.true, c.count-register-end.ensures.most) in
-    are_sixels p c.args.band register (length c.loop-register.sixels) c.find_sixels.new.sixels
-    (found_in c.loop-register.sixels c.rows_of-rows.ensures (c.band_groups-groups.ensures.groups register small)
-    c.width.ensures.same (omega arith) c.find_sixels.ensures.long c.find_sixels.ensures.found)
+    record {
+      sixels = are_sixels p c.args.band register (length c.loop-register.sixels) c.find_sixels.new.sixels
+          (found_in c.loop-register.sixels c.rows_of-rows.ensures (c.band_groups-groups.ensures.groups register small)
+          c.width.ensures.same (omega arith) c.find_sixels.ensures.long c.find_sixels.ensures.found);
+      few = omega (arith, c.find_sixels.ensures.long);
+      whole = omega (arith, c.find_sixels.ensures.long);
+      ink = c.find_sixels.ensures.found.blank;
+    }
 
 pub returns-in_err-put_next : goal.returns-in_err-put_next
 returns-in_err-put_next g c =

@@ -1,8 +1,7 @@
 use Rattle.std.proofs.Common.{refl, ap}
 use Rattle.std.proofs.lemmas.Result.{err_from_is_err_and}
 use Rattle.sixel_grammar.specs.Spelling.{fixed_spelling}
-use Rattle.sixel_io.proofs.SinkLemmas.{through-as, through-stopped, through-then}
-use Rattle.sixel_io.proofs.SinkLemmas.{through-whole}
+use Rattle.sixel_io.proofs.SinkLemmas.{through-as, through-stopped, through-then, through-whole}
 use Rattle.sixel_encode.proofs.StepLemmas.{canon-parts}
 use Rattle.sixel_encode.proofs.writing.put_text.Goals as goal
 

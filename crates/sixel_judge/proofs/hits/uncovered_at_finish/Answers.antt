@@ -9,4 +9,4 @@ returns-then-notes g c = λ registers before e ends s k.
 pub returns-else-notes : goal.returns-else-notes
 returns-else-notes g c = λ registers before e ends s k.
     let late = sym s.early_is ∙ c.if-notes.false in
-    uncovered_hit registers _ before e k c.pixel_blank.result ends late (c.pixel_blank.ensures before k late)
+    uncovered_hit registers e k c.pixel_blank.result ends late (c.pixel_blank.ensures before k late)

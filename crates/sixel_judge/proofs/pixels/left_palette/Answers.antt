@@ -8,5 +8,5 @@ returns c = λ events s none.
     let registers = count_of c.args.profile in
     let end : c.loop-register.register ≡ registers =
     omega (arith, c.loop-register-test.false, c.loop-register.auto.register-end, c.count-register-end.ensures.value) in
-    left_all registers c.loop-register.palette events
+    left_all
     (subst (λ (k : ℕ). IsLeftTo registers k c.loop-register.palette events) end (c.loop-register.invariant.1 events s none))

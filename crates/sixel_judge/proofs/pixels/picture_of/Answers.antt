@@ -22,12 +22,12 @@ fits_parts : (registers w h : ℕ) (palette left : List (Option Parts)) (xs : Li
 fits_parts registers w h palette left xs s width height colours long fits = rw (width, height, colours, long) fits
 
 -- a picture with the parts that the events leave is the picture that they leave
-left_of : {kept : ℕ → ℕ} (registers : ℕ) (p : PictureValue) (w h : ℕ) (palette : List (Option Parts)) (xs : List ℕ) (s : Grid)
-    (events : List Event) → ((r : ℕ) → kept r ≡ r) → p ≡ picture_of_parts w h palette xs → w ≡ s.width → h ≡ s.height
-    → palette ≡ palette_left registers events → IsDrawn kept s events → map Some xs ≡ s.cells
+left_of : {kept : ℕ → ℕ} (registers : ℕ) (p : PictureValue) (w h : ℕ) (palette : List (Option Parts)) (xs : List ℕ)
+    {s : Grid} {events : List Event} → ((r : ℕ) → kept r ≡ r) → p ≡ picture_of_parts w h palette xs → w ≡ s.width
+    → h ≡ s.height → palette ≡ palette_left registers events → IsDrawn kept s events → map Some xs ≡ s.cells
     → p ≡ picture_left registers events
-left_of registers p w h palette xs s events keeps is width height colours drawn cells =
-    rw (width, height, colours) at is ∙ sym (picture_drawn _ s events xs keeps drawn cells)
+left_of registers p w h palette xs keeps is width height colours drawn cells =
+    rw (width, height, colours) at is ∙ sym (picture_drawn _ xs keeps drawn cells)
 
 pub of_parts-requires : goal.of_parts-requires
 of_parts-requires g c =
@@ -37,12 +37,11 @@ of_parts-requires g c =
     let s = g.P.Cover.grid c.args.plane in
     fits_parts registers _ _ _ (palette_left registers events) _ s c.width-width.ensures c.height-height.ensures
     (c.left_palette-palette.ensures events u.notes_are u.unbroken) (length_left registers events)
-    (picture_fits registers s events c.into_registers.result.items (all_kept _ g.met.P.Plane.keeps_registers) u.grid_is u.unbroken
-    c.into_registers.ensures)
+    (picture_fits registers c.into_registers.result.items (all_kept _ g.met.P.Plane.keeps_registers) u.grid_is
+    u.unbroken c.into_registers.ensures)
 
 pub returns : goal.returns
-returns g c = λ events u.
-    left_of (count_of c.args.profile) _ _ _ _ _ (g.P.Cover.grid c.args.plane) events
+returns g c = λ events u. left_of (count_of c.args.profile) _ _ _ _ _
     (all_kept _ g.met.P.Plane.keeps_registers) c.of_parts.ensures c.width-width.ensures
     c.height-height.ensures (c.left_palette-palette.ensures events u.notes_are u.unbroken) u.grid_is
     c.into_registers.ensures

@@ -9,7 +9,7 @@ pub push_each-requires-then-try_push_stretch-clause-stands : goal.push_each-requ
 push_each-requires-then-try_push_stretch-clause-stands g c =
     let q = c.requires.stands in
     let most = length c.args.stretch.now - 16 in
-    let begun = begun_take c.args.checker.now.progress q.1 c.args.place most c.args.stretch.now (omega arith)
+    let begun = begun_take c.args.place most c.args.stretch.now (omega arith)
     c.requires.sixels (begun_of q.0 c.args.checker.now q.1 q.3 q.2) in (
       q.0,
       q.1 ++ sixels_from c.args.place (take most c.args.stretch.now),
@@ -20,7 +20,7 @@ push_each-requires-then-try_push_stretch-clause-stands g c =
 pub returns-then-try_push_stretch-clause-kept : goal.returns-then-try_push_stretch-clause-kept
 returns-then-try_push_stretch-clause-kept g c = λ registers seen s may.
     let most = length c.args.stretch.now - 16 in
-    let begun = begun_take c.args.checker.now.progress seen c.args.place most c.args.stretch.now (omega arith)
+    let begun = begun_take c.args.place most c.args.stretch.now (omega arith)
     c.requires.sixels (begun_of registers c.args.checker.now seen may s) in
     subst (StandsAfter registers c.push_each-then-try_push_stretch.new.checker)
     (sixels_joined seen c.args.place most c.args.stretch.now)

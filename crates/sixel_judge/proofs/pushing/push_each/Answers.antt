@@ -8,7 +8,7 @@ use Rattle.sixel_judge.proofs.pushing.push_each.Goals as goal
 pub push-requires-clause-expected : goal.push-requires-clause-expected
 push-requires-clause-expected g c =
     let q = c.requires.stands in
-    let begun = begun_take c.args.checker.now.progress q.1 c.args.place c.loop-index.index c.args.stretch.now
+    let begun = begun_take c.args.place c.loop-index.index c.args.stretch.now
     (omega (arith, c.loop-index-test.true)) c.requires.sixels (begun_of q.0 c.args.checker.now q.1 q.3 q.2) in (
       q.0,
       q.1 ++ sixels_from c.args.place (take c.loop-index.index c.args.stretch.now),

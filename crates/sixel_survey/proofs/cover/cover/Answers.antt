@@ -15,9 +15,7 @@ returns-then-column-width g c = λ left line column_is band_is.
     let low : s.height < 4294967296 = omega (arith, c.height-height.ensures, c.height-height.type_inv) in
     let right : s.width ≤ c.args.column = omega (arith, c.if-column-width.true, c.width-width.ensures) in
     covered_none s left c.args.count line c.args.bits
-    (λ x y p q.
-    outside_covers left line c.args.count c.args.bits c.args.column c.args.band s.width s.height x y run narrow low
-    (inl right) p q)
+    (λ x y p q. outside_covers c.args.count c.args.bits s.width s.height x y run narrow low (inl right) p q)
 
 pub returns-then-band-height : goal.returns-then-band-height
 returns-then-band-height g c = λ left line column_is band_is.
@@ -27,9 +25,7 @@ returns-then-band-height g c = λ left line column_is band_is.
     let low : s.height < 4294967296 = omega (arith, c.height-height.ensures, c.height-height.type_inv) in
     let below : s.height ≤ c.args.band = omega (arith, c.if-band-height.true, c.height-height.ensures) in
     covered_none s left c.args.count line c.args.bits
-    (λ x y p q.
-    outside_covers left line c.args.count c.args.bits c.args.column c.args.band s.width s.height x y run narrow low
-    (inr below) p q)
+    (λ x y p q. outside_covers c.args.count c.args.bits s.width s.height x y run narrow low (inr below) p q)
 
 pub returns : goal.returns
 returns g c = λ left line column_is band_is.
@@ -42,9 +38,7 @@ returns g c = λ left line column_is band_is.
     rw (c.paint_run.ensures, c.min-count.ensures, c.width-width.ensures)
     (covered_part s left c.args.count line c.args.bits c.args.column c.args.band _ c.bits_within.result
     (kept_by g.P.Cover.keeps 0)
-    (λ x y p q.
-    inside_covers left line c.args.count c.args.bits c.args.column c.args.band s.width s.height c.bits_within.result
+    (λ x y p q. inside_covers c.args.count c.args.bits s.width s.height c.bits_within.result
     x y run narrow low in_x in_y
     (λ k six above. c.bits_within.ensures.kept k six (omega (arith, above, c.height-height.ensures)))
-    (λ k six below. c.bits_within.ensures.left_out k six (omega (arith, below, c.height-height.ensures)))
-    p q))
+    (λ k six below. c.bits_within.ensures.left_out k six (omega (arith, below, c.height-height.ensures))) p q))

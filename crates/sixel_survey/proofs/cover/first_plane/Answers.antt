@@ -22,28 +22,26 @@ returns-then-breaks_box_size-clause-ok g c = λ before s none.
 pub blank-requires-clause-width : goal.blank-requires-clause-width
 blank-requires-clause-width g c =
     let fine : breaks_box_size c.args.event.now ≡ false = search rules in
-    (declared_in_range c.args.event.now c.in-Some.width c.in-Some.height
+    (declared_in_range
     (declares_sides c.args.event.now c.in-Some.width c.in-Some.height (sym c.in-Some.ensures) fine)).0
 
 pub blank-requires-clause-height : goal.blank-requires-clause-height
 blank-requires-clause-height g c =
     let fine : breaks_box_size c.args.event.now ≡ false = search rules in
-    (declared_in_range c.args.event.now c.in-Some.width c.in-Some.height
+    (declared_in_range
     (declares_sides c.args.event.now c.in-Some.width c.in-Some.height (sym c.in-Some.ensures) fine)).1
 
 pub returns-in_err-blank-in-Some-clause-sides : goal.returns-in_err-blank-in-Some-clause-sides
 returns-in_err-blank-in-Some-clause-sides g c =
     let fine : breaks_box_size c.args.event.now ≡ false = search rules in
     err_says _ c.from_residual.result
-    (sides_told c.args.event.now c.in-Some.width c.in-Some.height
-    (declares_sides c.args.event.now c.in-Some.width c.in-Some.height (sym c.in-Some.ensures) fine))
+    (sides_told (declares_sides c.args.event.now c.in-Some.width c.in-Some.height (sym c.in-Some.ensures) fine))
 
 pub returns-in_ok-blank-in-Some-clause-ok : goal.returns-in_ok-blank-in-Some-clause-ok
 returns-in_ok-blank-in-Some-clause-ok g c = λ before s none.
     let fine : breaks_box_size c.args.event.now ≡ false = search rules in
     rw c.in_ok-blank-in-Some.ensures
-    (cover_declared before c.args.event.now c.in-Some.width c.in-Some.height
-    (none_declared (raster_before before) (sym s.declared_is ∙ c.if-notes.false))
+    (cover_declared before (none_declared (raster_before before) (sym s.declared_is ∙ c.if-notes.false))
     (declares_sides c.args.event.now c.in-Some.width c.in-Some.height (sym c.in-Some.ensures) fine))
 
 pub returns-in-None-clause-ok : goal.returns-in-None-clause-ok

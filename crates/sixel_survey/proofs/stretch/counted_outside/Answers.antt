@@ -18,9 +18,8 @@ loop-index-preserved g c = λ registers seen h cover is.
     let before = c.loop-index.invariant registers seen h cover is in
     let o = c.outside_pixel-pixel.result in
     let here =
-    outside_each registers c.args.notes.now (g.P.Cover.grid c.args.plane.now) seen c.args.place stretch o h cover k lt
-    (λ left line column_is band_is.
-    rw (c.width-width.ensures, c.height-height.ensures) at
+    outside_each registers seen c.args.place stretch o h cover k lt
+    (λ left line column_is band_is. rw (c.width-width.ensures, c.height-height.ensures) at
     (c.outside_pixel-pixel.ensures left line (c.saturating_add-column.ensures ∙ column_is) band_is)) in
     let next = tally_more registers Outside seen c.args.place stretch k _ c.loop-index.all lt here before in
     elim c.if-is_some.branch [
@@ -28,8 +27,7 @@ loop-index-preserved g c = λ registers seen h cover is.
           rw w.all-is
           (subst (IsTallyOf registers (with_sixels seen c.args.place stretch (k + 1)) Outside) (sym w.counted.ensures)
           (rw (hit_there o (sym c.is_some.ensures ∙ w.if-is_some.true)) at next))
-      | else-is_some w ↦
-          rw w.all-is (rw (hit_nowhere o (sym c.is_some.ensures ∙ w.if-is_some.false)) at next)
+      | else-is_some w ↦ rw w.all-is (rw (hit_nowhere o (sym c.is_some.ensures ∙ w.if-is_some.false)) at next)
     ]
 
 pub returns : goal.returns

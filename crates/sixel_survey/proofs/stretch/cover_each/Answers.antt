@@ -5,8 +5,7 @@ use Rattle.sixel_survey.proofs.StretchLemmas.{cover_more, over_all}
 use Rattle.sixel_survey.proofs.stretch.cover_each.Goals as goal
 
 pub loop-index-preserved : goal.loop-index-preserved
-loop-index-preserved g c = λ seen place h cover.
-    cover_more c.args.notes.now (g.P.Cover.grid c.loop-index.plane) (g.P.Cover.grid c.cover.new.plane) seen place
+loop-index-preserved g c = λ seen place h cover. cover_more (g.P.Cover.grid c.cover.new.plane) seen place
     c.args.stretch.now c.loop-index.index (omega (arith, c.loop-index-test.true)) h
     (c.loop-index.invariant seen place h cover)
     (λ left line column_is band_is. c.cover.ensures left line (c.saturating_add-column.ensures ∙ column_is) band_is)

@@ -12,12 +12,11 @@ returns-else-not-try_cover g c = λ seen place h cover.
     let bytes = c.args.bytes.now in
     let count = c.args.count in
     let yes : c.try_cover.result ≡ true = search rules in
-    let s = g.P.Cover.grid c.in-Some.plane in
     let here = rw c.in-Some.is at cover in
     over_all (λ l. IsCoverOf (g.P.Cover.grid c.try_cover.new.plane) (events_of l)) seen place (take count bytes) count
     (omega (arith, length-take-le count bytes c.requires.bytes))
     (rw (c.try_cover.ensures.covered yes)
-    (cover_stretch c.args.notes.now s seen place count (kept_by g.P.Cover.keeps 0) bytes c.requires.bytes h (c.try_cover.ensures.fits yes) here
+    (cover_stretch seen place (kept_by g.P.Cover.keeps 0) bytes c.requires.bytes h (c.try_cover.ensures.fits yes) here
     count (omega arith)))
 
 pub returns-in-None : goal.returns-in-None

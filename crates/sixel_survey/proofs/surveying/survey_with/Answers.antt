@@ -1,13 +1,12 @@
 use Rattle.std.proofs.lemmas.Result.{err_from_is_err_and}
 use Rattle.std.specs.Prelude.{Ok}
-use Rattle.sixel_grammar.proofs.FollowSourceLemmas.{halt_memory, told_known}
+use Rattle.sixel_grammar.proofs.FollowSourceLemmas.{told_known}
 use Rattle.sixel_model.specs.Profiles.{count_of}
 use Rattle.sixel_plane.specs.declared.cover_plane.CoverPlane.{CoverPlane}
 use Rattle.sixel_survey.specs.Answers.{Answers}
-use Rattle.sixel_survey.specs.Declaring.{DeclareBoxIn}
-use Rattle.sixel_survey.specs.declared.entry.Survey.{Survey}
 use Rattle.sixel_survey.specs.declared.surveying.Surveying.{Surveying}
 use Rattle.sixel_survey.proofs.FollowLemmas.{HasTaken, MayStop, begins, declares_in, surveyed}
+use Rattle.sixel_survey.proofs.ReadsLemmas.{reads_followed, reads_halted}
 use Rattle.sixel_survey.proofs.surveying.survey_with.Goals as goal
 
 pub follow_source-requires : goal.follow_source-requires
@@ -15,17 +14,17 @@ follow_source-requires g c =
     let first : Surveying CoverPlane = record { surveyor = c.new-surveyor.result; alloc = c.args.alloc } in
     (first, begins (λ (s : Surveying CoverPlane). s.surveyor) (count_of c.args.profile) first c.new-surveyor.ensures)
 
-pub returns-in_err-follow_source-clause-memory : goal.returns-in_err-follow_source-clause-memory
-returns-in_err-follow_source-clause-memory g c =
+pub returns-in_err-follow_source : goal.returns-in_err-follow_source
+returns-in_err-follow_source g c =
     let failed = err_from_is_err_and c.from_residual.result c.from_residual.ensures.1 in
+    let e = c.in_err-follow_source.ensures in
     rw (failed.1, failed.2)
-    (halt_memory Survey (HasTaken (λ s. s.surveyor)) MayStop _ c.follow_source.new.follower
-    (g.S.Source.state c.args.input.now).remaining
-    c.in_err-follow_source.field-0.0 DeclareBoxIn
+    (reads_halted (HasTaken (λ s. s.surveyor)) MayStop _ c.follow_source.new.follower c.in_err-follow_source.field-0.0
+    (g.S.Source.state c.args.input.now) _ (λ bytes h. h)
     (λ stop bytes.
     declares_in (λ s. s.surveyor) (count_of c.args.profile) _ c.follow_source.new.follower stop bytes
     c.new-surveyor.ensures)
-    c.in_err-follow_source.ensures.halted)
+    e.halted e.failures e.unread e.left.read)
 
 pub finish-requires : goal.finish-requires
 finish-requires g c =
@@ -34,11 +33,14 @@ finish-requires g c =
     (g.S.Source.state c.args.input.now).remaining c.new-surveyor.ensures c.in_ok-follow_source.ensures.followed in
     (count_of c.args.profile, f.events, f.bytes, f.taken, f.document)
 
-pub returns-clause-answer : goal.returns-clause-answer
-returns-clause-answer g c =
+pub returns : goal.returns
+returns g c =
+    let e = c.in_ok-follow_source.ensures in
+    let known = (g.S.Source.state c.args.input.now).remaining in
     let f =
-    surveyed (λ s. s.surveyor) (count_of c.args.profile) _ c.follow_source.new.follower
-    (g.S.Source.state c.args.input.now).remaining c.new-surveyor.ensures c.in_ok-follow_source.ensures.followed in
-    told_known (g.S.Source.state c.args.input.now).remaining f.bytes
-    (Answers (count_of c.args.profile) (Ok c.finish.result)) f.known_are
-    (f.events, f.document, c.finish.ensures (count_of c.args.profile) f.events f.bytes f.taken f.document)
+    surveyed (λ s. s.surveyor) (count_of c.args.profile) _ c.follow_source.new.follower known c.new-surveyor.ensures
+    e.followed in
+    reads_followed c.finish.result (g.S.Source.state c.args.input.now) _
+    (told_known known f.bytes (Answers (count_of c.args.profile) (Ok c.finish.result)) f.known_are
+    (f.events, f.document, c.finish.ensures (count_of c.args.profile) f.events f.bytes f.taken f.document))
+    e.failures e.left

@@ -1,12 +1,12 @@
-use Rattle.std.proofs.Common.{None, Some}
-use Rattle.sixel_survey.proofs.SurveyorLemmas.{entry_there}
+use Rattle.std.proofs.Common.{ap}
+use Rattle.std.specs.Option.{option_map}
+use Rattle.sixel_survey.specs.Tallies.{entry_from}
 use Rattle.sixel_survey.proofs.surveyor.entry_at.Goals as goal
 
 pub returns-in-Some : goal.returns-in-Some
 returns-in-Some c =
-    rw (c.entry_from.ensures, c.rule_at.ensures)
-    (entry_there c.args.tallies.now c.args.blank c.args.index (Some c.in-Some.tally) c.requires c.in-Some.ensures)
+    rw (c.entry_from.ensures, c.rule_at-rule.ensures)
+    (ap (option_map (entry_from c.args.blank _)) (rw c.rule_at-rule.ensures at c.in-Some.ensures))
 
 pub returns-in-None : goal.returns-in-None
-returns-in-None c =
-    entry_there c.args.tallies.now c.args.blank c.args.index None c.requires c.in-None.ensures
+returns-in-None c = ap (option_map (entry_from c.args.blank _)) (rw c.rule_at-rule.ensures at c.in-None.ensures)

@@ -2,8 +2,7 @@ use Rattle.std.proofs.Common.{◌≢◌, arith, get_or, length}
 use Rattle.sixel_encode.proofs.GapItemLemmas.{few_items}
 use Rattle.sixel_encode.proofs.GapRunLemmas.{blank_run, ink_run, last_run, other_run}
 use Rattle.sixel_encode.proofs.gaps.Gaps.run_end.Goals as goal
-use Rattle.sixel_encode.proofs.gaps.Gaps.run_end.Goals.{else-self-via-then-self+else-byte-eq63}
-use Rattle.sixel_encode.proofs.gaps.Gaps.run_end.Goals.{else-self-via-else-self}
+use Rattle.sixel_encode.proofs.gaps.Gaps.run_end.Goals.{else-self-via-then-self+else-byte-eq63, else-self-via-else-self}
 
 pub end_of-requires : goal.end_of-requires
 end_of-requires c =

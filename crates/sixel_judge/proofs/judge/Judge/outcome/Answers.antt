@@ -12,8 +12,8 @@ use Rattle.sixel_judge.proofs.judge.Judge.outcome.Goals as goal
 pub unreachable-requires : goal.unreachable-requires
 unreachable-requires g c =
     let s = rw (c.in-None-None.is-0, c.in-None-None.is-1) at c.requires.1 in
-    has_box _ (events_of c.requires.0) c.requires.2
-    (none_drawn _ (events_of c.requires.0) s.unbroken) s.grid_is.no_box
+    has_box _ (events_of c.requires.0) c.requires.2 (none_drawn _ (events_of c.requires.0) s.unbroken)
+    s.grid_is.no_box
 
 pub returns-in-Some-default : goal.returns-in-Some-default
 returns-in-Some-default g c = λ seen j.
@@ -23,7 +23,7 @@ pub returns-in-None-Some : goal.returns-in-None-Some
 returns-in-None-Some g c = λ seen j.
     let registers = count_of c.args.self.profile in
     let s = rw (c.in-None-Some.is-0, c.in-None-Some.is-1) at j in
-    let sides = left_size registers (g.P.Cover.grid c.in-None-Some.plane) (events_of seen) s.grid_is in (
+    let sides = left_size registers s.grid_is in (
       Portable (picture_left registers (events_of seen)),
       (s.unbroken, refl),
       ap₂ PortableSize (c.width.ensures ∙ sym sides.0) (c.height.ensures ∙ sym sides.1),

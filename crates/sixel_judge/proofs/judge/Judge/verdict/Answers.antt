@@ -8,13 +8,13 @@ use Rattle.sixel_judge.proofs.judge.Judge.verdict.Goals as goal
 pub picture_of-requires-clause-full : goal.picture_of-requires-clause-full
 picture_of-requires-clause-full g c =
     let s = rw (c.in-None-Some.is-0, c.in-None-Some.is-1) at c.requires.1 in
-    full_grid _ (g.P.Cover.grid c.in-None-Some.plane) (events_of c.requires.0) c.requires.2 s.unbroken s.grid_is
+    full_grid _ c.requires.2 s.unbroken s.grid_is
 
 pub unreachable-requires : goal.unreachable-requires
 unreachable-requires g c =
     let s = rw (c.in-None-None.is-0, c.in-None-None.is-1) at c.requires.1 in
-    has_box _ (events_of c.requires.0) c.requires.2
-    (none_drawn _ (events_of c.requires.0) s.unbroken) s.grid_is.no_box
+    has_box _ (events_of c.requires.0) c.requires.2 (none_drawn _ (events_of c.requires.0) s.unbroken)
+    s.grid_is.no_box
 
 pub returns-in-Some-default : goal.returns-in-Some-default
 returns-in-Some-default g c = search rules

@@ -1,6 +1,5 @@
-use Rattle.std.proofs.Common.{◌≡◌, ◌∙◌, ◌<◌, ◌≤◌, ℕ, zero, suc, ◌++◌, ◌∷◌, [], List, Bool, ap, arith, get_or}
-use Rattle.std.proofs.Common.{length, refl}
-use Rattle.std.proofs.Common.{subst, take}
+use Rattle.std.proofs.Common.{◌≡◌, ◌∙◌, ◌<◌, ◌≤◌, ℕ, zero, suc, ◌++◌, ◌∷◌, [], List, Bool, ap, arith, get_or, length}
+use Rattle.std.proofs.Common.{refl, subst, take}
 use Rattle.std.proofs.lemmas.List.{append-nil}
 use Rattle.std.specs.Option.{option_to_list}
 use Rattle.sixel_judge.proofs.GrowthLemmas.{err_says}

@@ -1,6 +1,5 @@
 use Rattle.std.proofs.Common.{[], ◌∷◌, refl}
-use Rattle.sixel_judge.proofs.GrowthLemmas.{err_says}
-use Rattle.sixel_judge.proofs.GrowthLemmas.{grows_on}
+use Rattle.sixel_judge.proofs.GrowthLemmas.{err_says, grows_on}
 use Rattle.sixel_scan.proofs.scanner.Scanner.restart_after_control.Goals as goal
 
 pub returns-in_err-restart-clause-memory : goal.returns-in_err-restart-clause-memory

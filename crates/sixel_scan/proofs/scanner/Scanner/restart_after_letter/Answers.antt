@@ -1,8 +1,7 @@
 use Rattle.std.proofs.Common.{[], ◌∷◌, refl}
 use Rattle.std.proofs.lemmas.Result.{on_err_weaker, on_ok_weaker}
 use Rattle.sixel_model.specs.Profiles.{count_of}
-use Rattle.sixel_judge.proofs.GrowthLemmas.{err_says}
-use Rattle.sixel_judge.proofs.GrowthLemmas.{grows_on}
+use Rattle.sixel_judge.proofs.GrowthLemmas.{err_says, grows_on}
 use Rattle.sixel_scan.proofs.scanner.Scanner.restart_after_letter.Goals as goal
 
 pub returns-in_err-restart-clause-memory : goal.returns-in_err-restart-clause-memory

@@ -7,7 +7,6 @@ use Rattle.sixel_survey.proofs.surveyor.Surveyor.finish.Goals as goal
 pub returns : goal.returns
 returns g c = λ registers seen bytes h d.
     let g = subst (λ (s : SurveyorValue). HasSurveyed registers s seen) (sym c.self.view_is) h in
-    finished registers _ seen bytes _ c.blank_in.result g d (c.blank_in.ensures (events_of seen) g.grid_is)
-    c.entries_of-entries.ensures
+    finished _ c.blank_in.result g d (c.blank_in.ensures (events_of seen) g.grid_is) c.entries_of-entries.ensures
     (rw c.as_slice.ensures.value at c.size_without-size.ensures.none)
     (rw c.as_slice.ensures.value at c.size_without-size.ensures.some)
