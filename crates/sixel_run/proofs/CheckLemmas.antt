@@ -6,6 +6,7 @@ use Rattle.std.specs.List.{concat}
 use Rattle.std.proofs.lemmas.List.{append-nil}
 use Rattle.sixel_grammar.specs.declared.command.Placed.{Placed}
 use Rattle.sixel_grammar.specs.declared.fault.Fault.{Fault}
+use Rattle.sixel_grammar.specs.Faults.{IsFaultOf}
 use Rattle.sixel_grammar.specs.declared.fault.InputFault.{InputFault}
 use Rattle.sixel_grammar.specs.declared.fault.InputFault.TheVariants as input
 use Rattle.sixel_grammar.specs.Document.{Document}
@@ -19,8 +20,7 @@ use Rattle.sixel_judge.specs.Verdicts.{IsVerdict, outcome_of}
 use Rattle.sixel_judge.proofs.DecideLemmas.{verdict_exists}
 use Rattle.sixel_judge.proofs.VerdictLemmas.{verdict_once}
 use Rattle.sixel_run.specs.declared.fault.RunFault.{RunFault}
-use Rattle.sixel_run.specs.declared.fault.RunFault.TheVariants.{Grammar, Ppm, NotRgb, NoBox, NoString, Empty, TooLarge}
-use Rattle.sixel_run.specs.declared.fault.RunFault.TheVariants.{TooManyColours, OutOfMemory, Read, Write}
+use Rattle.sixel_run.specs.declared.fault.RunFault.TheVariants.{Grammar, OutOfMemory}
 use Rattle.sixel_run.specs.declared.task.Status.{Status}
 use Rattle.sixel_run.specs.Conversions.{of_input}
 use Rattle.sixel_run.specs.Outputs.{CheckGives, outcome_status, status_of}
@@ -32,38 +32,39 @@ pub same_verdict : (registers : ℕ) (bytes : List ℕ) (d e : List Placed) (v w
 same_verdict registers bytes d e v w p q a b =
     verdict_once _ e v w (subst (λ (l : List Placed). IsVerdict registers l v) (document_once bytes d e p q) a) b
 
+-- two texts and answers are the same if both are these
+pub both_are : {t : Text} {c : Result Status RunFault} (first second : Text) (a b : Result Status RunFault)
+    → (first ≡ t) × (a ≡ c) → (second ≡ t) × (b ≡ c) → (first ≡ second) × (a ≡ b)
+both_are first second a b p q = (p.0 ∙ sym q.0, p.1 ∙ sym q.1)
+
+-- the line and the status of the verdict on a document
+of_document : (registers : ℕ) (bytes : List ℕ) (d : List Placed) (v : Verdict) → Document d bytes
+    → IsVerdict registers d v → (text : Text) (a : Result Status RunFault) → CheckGives registers bytes text a
+    → (text ≡ verdict_line v) × (a ≡ Ok (status_of v))
+of_document registers bytes d v doc is text (Ok s) g =
+    let same = same_verdict registers bytes g.0 d g.2.0 v g.1 doc g.2.1 is in
+    (g.2.2 ∙ ap verdict_line same, ap (λ (t : Status). Ok t) (g.2.3 ∙ ap status_of same))
+of_document registers bytes d v doc is text (Err (Grammar f)) g = absurd (fault_no_document bytes f g.1 (d, doc))
+of_document registers bytes d v doc is text (Err other) g = absurd g
+
+-- the fault of other bytes
+of_fault : (registers : ℕ) (bytes : List ℕ) (f : Fault) → IsFaultOf bytes f → (text : Text)
+    (a : Result Status RunFault) → CheckGives registers bytes text a → (text ≡ []) × (a ≡ Err (Grammar f))
+of_fault registers bytes f is text (Ok s) g = absurd (fault_no_document bytes f is (g.0, g.1))
+of_fault registers bytes f is text (Err (Grammar e)) g =
+    (g.0, ap (λ (k : Fault). Err (Grammar k)) (fault_once bytes e f g.1 is))
+of_fault registers bytes f is text (Err other) g = absurd g
+
 pub check-once : (registers : ℕ) (bytes : List ℕ) (first second : Text) (a b : Result Status RunFault)
     → CheckGives registers bytes first a → CheckGives registers bytes second b → (first ≡ second) × (a ≡ b)
-check-once registers bytes first second (Ok s) (Ok r) g h =
-    let same = same_verdict _ bytes g.0 h.0 g.2.0 h.2.0 g.1 h.1 g.2.1 h.2.1 in (
-      g.2.2 ∙ ap verdict_line same ∙ sym h.2.2,
-      ap (λ (t : Status). Ok t) (g.2.3 ∙ ap status_of same ∙ sym h.2.3),
-    )
-check-once registers bytes first second (Ok s) (Err (Grammar f)) g h = absurd (fault_no_document bytes f h.1 (g.0, g.1))
-check-once registers bytes first second (Err (Grammar f)) (Ok s) g h = absurd (fault_no_document bytes f g.1 (h.0, h.1))
-check-once registers bytes first second (Err (Grammar f)) (Err (Grammar e)) g h =
-    (g.0 ∙ sym h.0, ap (λ (k : Fault). Err (Grammar k)) (fault_once bytes f e g.1 h.1))
-check-once registers bytes first second (Ok s) (Err (Ppm reason place)) g h = absurd h
-check-once registers bytes first second (Ok s) (Err NotRgb) g h = absurd h
-check-once registers bytes first second (Ok s) (Err NoBox) g h = absurd h
-check-once registers bytes first second (Ok s) (Err NoString) g h = absurd h
-check-once registers bytes first second (Ok s) (Err Empty) g h = absurd h
-check-once registers bytes first second (Ok s) (Err TooLarge) g h = absurd h
-check-once registers bytes first second (Ok s) (Err TooManyColours) g h = absurd h
-check-once registers bytes first second (Ok s) (Err OutOfMemory) g h = absurd h
-check-once registers bytes first second (Ok s) (Err Read) g h = absurd h
-check-once registers bytes first second (Ok s) (Err Write) g h = absurd h
-check-once registers bytes first second (Err (Grammar f)) (Err (Ppm reason place)) g h = absurd h
-check-once registers bytes first second (Err (Grammar f)) (Err NotRgb) g h = absurd h
-check-once registers bytes first second (Err (Grammar f)) (Err NoBox) g h = absurd h
-check-once registers bytes first second (Err (Grammar f)) (Err NoString) g h = absurd h
-check-once registers bytes first second (Err (Grammar f)) (Err Empty) g h = absurd h
-check-once registers bytes first second (Err (Grammar f)) (Err TooLarge) g h = absurd h
-check-once registers bytes first second (Err (Grammar f)) (Err TooManyColours) g h = absurd h
-check-once registers bytes first second (Err (Grammar f)) (Err OutOfMemory) g h = absurd h
-check-once registers bytes first second (Err (Grammar f)) (Err Read) g h = absurd h
-check-once registers bytes first second (Err (Grammar f)) (Err Write) g h = absurd h
-check-once registers bytes first second (Err other) b g h = absurd g
+check-once registers bytes first second a b g h = elim (judged bytes) [
+  | inl d ↦
+      let v = verdict_exists registers d.0 in
+      let gives = of_document registers bytes d.0 v.0 d.1 v.1 in
+      both_are first second a b (gives first a g) (gives second b h)
+  | inr f ↦
+      let gives = of_fault registers bytes f.0 f.1 in both_are first second a b (gives first a g) (gives second b h)
+]
 
 pub check-gives : (registers : ℕ) (bytes : List ℕ)
     → (text : Text) × (answer : Result Status RunFault) × CheckGives registers bytes text answer

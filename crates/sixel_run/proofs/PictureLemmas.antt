@@ -23,8 +23,8 @@ use Rattle.sixel_check.specs.Answers.{Answers as CheckAnswers}
 use Rattle.sixel_judge.specs.Verdicts.{IsVerdict}
 use Rattle.sixel_judge.proofs.DecideLemmas.{verdict_exists}
 use Rattle.sixel_run.specs.declared.fault.RunFault.{RunFault}
-use Rattle.sixel_run.specs.declared.fault.RunFault.TheVariants.{Grammar, Ppm, NotRgb, NoBox, NoString, Empty, TooLarge}
-use Rattle.sixel_run.specs.declared.fault.RunFault.TheVariants.{TooManyColours, OutOfMemory, Read, Write}
+use Rattle.sixel_run.specs.declared.fault.RunFault.TheVariants.{Grammar, NotRgb}
+use Rattle.sixel_run.specs.declared.fault.RunFault.TheVariants.{Write}
 use Rattle.sixel_run.specs.declared.task.Status.{Status}
 use Rattle.sixel_run.specs.declared.task.Status.TheVariants as status
 use Rattle.sixel_run.specs.declared.task.Status.TheVariants.{Done}
@@ -57,26 +57,8 @@ either registers bytes text (Err (Grammar fault)) g =
     inl (record { fault = fault; answer_is = refl; nothing = g.0; is = g.1 })
 either registers bytes text (Ok s) g =
     inr (record { events = g.0; document = g.1; verdict = g.2.0; is = g.2.1; output = g.2.2 })
-either registers bytes text (Err (Ppm reason place)) g =
+either registers bytes text (Err other) g =
     inr (record { events = g.0; document = g.1; verdict = g.2.0; is = g.2.1; output = g.2.2 })
-either registers bytes text (Err NotRgb) g =
-    inr (record { events = g.0; document = g.1; verdict = g.2.0; is = g.2.1; output = g.2.2 })
-either registers bytes text (Err NoBox) g =
-    inr (record { events = g.0; document = g.1; verdict = g.2.0; is = g.2.1; output = g.2.2 })
-either registers bytes text (Err NoString) g =
-    inr (record { events = g.0; document = g.1; verdict = g.2.0; is = g.2.1; output = g.2.2 })
-either registers bytes text (Err Empty) g =
-    inr (record { events = g.0; document = g.1; verdict = g.2.0; is = g.2.1; output = g.2.2 })
-either registers bytes text (Err TooLarge) g =
-    inr (record { events = g.0; document = g.1; verdict = g.2.0; is = g.2.1; output = g.2.2 })
-either registers bytes text (Err TooManyColours) g =
-    inr (record { events = g.0; document = g.1; verdict = g.2.0; is = g.2.1; output = g.2.2 })
-either registers bytes text (Err OutOfMemory) g =
-    inr (record { events = g.0; document = g.1; verdict = g.2.0; is = g.2.1; output = g.2.2 })
-either registers bytes text (Err Read) g = inr
-    (record { events = g.0; document = g.1; verdict = g.2.0; is = g.2.1; output = g.2.2 })
-either registers bytes text (Err Write) g = inr
-    (record { events = g.0; document = g.1; verdict = g.2.0; is = g.2.1; output = g.2.2 })
 
 both_refuse : (bytes : List ℕ) (first second : Text) (a b : Result Status RunFault) → Refuses bytes first a
     → Refuses bytes second b → (first ≡ second) × (a ≡ b)

@@ -4,11 +4,13 @@ use Rattle.std.specs.Prelude.{Result, Ok, Err, IfSome}
 use Rattle.std.specs.Io.KnownBytes.{Appends, Keeps}
 use Rattle.std.proofs.lemmas.List.{append-nil}
 use Rattle.sixel_grammar.specs.declared.fault.Fault.{Fault}
+use Rattle.sixel_grammar.specs.declared.command.Placed.{Placed}
+use Rattle.sixel_grammar.specs.Document.{Document}
+use Rattle.sixel_grammar.specs.Faults.{IsFaultOf}
 use Rattle.sixel_grammar.specs.Prefixes.{CompleteIn}
 use Rattle.sixel_grammar.proofs.UniqueLemmas.{complete_once, document_once, fault_no_document, fault_once}
 use Rattle.sixel_run.specs.declared.fault.RunFault.{RunFault}
-use Rattle.sixel_run.specs.declared.fault.RunFault.TheVariants.{Grammar, Ppm, NotRgb, NoBox, NoString, Empty, TooLarge}
-use Rattle.sixel_run.specs.declared.fault.RunFault.TheVariants.{TooManyColours, OutOfMemory, Read, Write}
+use Rattle.sixel_run.specs.declared.fault.RunFault.TheVariants.{Grammar, OutOfMemory, Read, Write}
 use Rattle.sixel_model.specs.Profiles.{count_of}
 use Rattle.sixel_model.specs.declared.profile.Profile.{Profile}
 use Rattle.sixel_scan.specs.declared.answer.Scanned.{Scanned}
@@ -27,7 +29,7 @@ use Rattle.sixel_run.specs.Screens.{screen_terminal, show_choices, show_terminal
 use Rattle.sixel_run.specs.Texts.{Text, BeginsWith, list_text}
 use Rattle.sixel_run.proofs.OutputLemmas.{gives-begins}
 use Rattle.sixel_run.proofs.BoxLemmas.{box-gives, box-once}
-use Rattle.sixel_run.proofs.CheckLemmas.{check-gives, check-once}
+use Rattle.sixel_run.proofs.CheckLemmas.{both_are, check-gives, check-once}
 use Rattle.sixel_run.proofs.FileLemmas.{encode-gives, encode-once}
 use Rattle.sixel_run.proofs.MendLemmas.{mend-gives, mend-once}
 use Rattle.sixel_run.proofs.PictureLemmas.{render-gives, render-once}
@@ -39,43 +41,37 @@ use Rattle.sixel_grammar.proofs.TotalLemmas.{judged, viable_before}
 
 -- ---- lists
 
-pub list-once : (bytes : List ℕ) (first second : Text) (a b : Result Status RunFault) → ListGives bytes first a
-    → ListGives bytes second b → (first ≡ second) × (a ≡ b)
-list-once bytes first second (Ok s) (Ok r) g h = (
-  g.1.2 ∙ ap list_text (document_once bytes g.1.0 h.1.0 g.1.1 h.1.1)
-      ∙ sym h.1.2,
-  ap (λ (t : Status). Ok t) (g.0 ∙ sym h.0),
-)
-list-once bytes first second (Ok s) (Err (Grammar f)) g h = absurd (fault_no_document bytes f h.0 (g.1.0, g.1.1))
-list-once bytes first second (Err (Grammar f)) (Ok s) g h = absurd (fault_no_document bytes f g.0 (h.1.0, h.1.1))
-list-once bytes first second (Err (Grammar f)) (Err (Grammar e)) g h =
-    let same : f ≡ e = fault_once bytes f e g.0 h.0 in
+-- the lines of a document
+of_document : (bytes : List ℕ) (d : List Placed) → Document d bytes → (text : Text) (a : Result Status RunFault)
+    → ListGives bytes text a → (text ≡ list_text d) × (a ≡ Ok Done)
+of_document bytes d doc text (Ok s) g =
+    (g.1.2 ∙ ap list_text (document_once bytes g.1.0 d g.1.1 doc), ap (λ (t : Status). Ok t) g.0)
+of_document bytes d doc text (Err (Grammar f)) g = absurd (fault_no_document bytes f g.0 (d, doc))
+of_document bytes d doc text (Err other) g = absurd g
+
+-- the fault of other bytes, and the lines before it
+of_fault : (bytes : List ℕ) (f : Fault) (before : List Placed) → IsFaultOf bytes f
+    → CompleteIn before (take f.place bytes) → (text : Text) (a : Result Status RunFault) → ListGives bytes text a
+    → (text ≡ list_text before) × (a ≡ Err (Grammar f))
+of_fault bytes f before is complete text (Ok s) g = absurd (fault_no_document bytes f is (g.1.0, g.1.1))
+of_fault bytes f before is complete text (Err (Grammar e)) g =
+    let same : e ≡ f = fault_once bytes e f g.0 is in
     let c = subst (λ (k : Fault). CompleteIn g.1.0 (take k.place bytes)) same g.1.1 in (
-      g.1.2 ∙ ap list_text (complete_once (take e.place bytes) g.1.0 h.1.0 c h.1.1)
-          ∙ sym h.1.2,
+      g.1.2 ∙ ap list_text (complete_once (take f.place bytes) g.1.0 before c complete),
       ap (λ (k : Fault). Err (Grammar k)) same,
     )
-list-once bytes first second (Ok s) (Err (Ppm reason place)) g h = absurd h
-list-once bytes first second (Ok s) (Err NotRgb) g h = absurd h
-list-once bytes first second (Ok s) (Err NoBox) g h = absurd h
-list-once bytes first second (Ok s) (Err NoString) g h = absurd h
-list-once bytes first second (Ok s) (Err Empty) g h = absurd h
-list-once bytes first second (Ok s) (Err TooLarge) g h = absurd h
-list-once bytes first second (Ok s) (Err TooManyColours) g h = absurd h
-list-once bytes first second (Ok s) (Err OutOfMemory) g h = absurd h
-list-once bytes first second (Ok s) (Err Read) g h = absurd h
-list-once bytes first second (Ok s) (Err Write) g h = absurd h
-list-once bytes first second (Err (Grammar f)) (Err (Ppm reason place)) g h = absurd h
-list-once bytes first second (Err (Grammar f)) (Err NotRgb) g h = absurd h
-list-once bytes first second (Err (Grammar f)) (Err NoBox) g h = absurd h
-list-once bytes first second (Err (Grammar f)) (Err NoString) g h = absurd h
-list-once bytes first second (Err (Grammar f)) (Err Empty) g h = absurd h
-list-once bytes first second (Err (Grammar f)) (Err TooLarge) g h = absurd h
-list-once bytes first second (Err (Grammar f)) (Err TooManyColours) g h = absurd h
-list-once bytes first second (Err (Grammar f)) (Err OutOfMemory) g h = absurd h
-list-once bytes first second (Err (Grammar f)) (Err Read) g h = absurd h
-list-once bytes first second (Err (Grammar f)) (Err Write) g h = absurd h
-list-once bytes first second (Err other) b g h = absurd g
+of_fault bytes f before is complete text (Err other) g = absurd g
+
+pub list-once : (bytes : List ℕ) (first second : Text) (a b : Result Status RunFault) → ListGives bytes first a
+    → ListGives bytes second b → (first ≡ second) × (a ≡ b)
+list-once bytes first second a b g h = elim (judged bytes) [
+  | inl d ↦
+      let gives = of_document bytes d.0 d.1 in both_are first second a b (gives first a g) (gives second b h)
+  | inr f ↦
+      let v = viable_before bytes f.0 f.1 in
+      let gives = of_fault bytes f.0 v.0 f.1 v.1 in
+      both_are first second a b (gives first a g) (gives second b h)
+]
 
 pub list-gives : (bytes : List ℕ) → (text : Text) × (answer : Result Status RunFault) × ListGives bytes text answer
 list-gives bytes =

@@ -1,13 +1,14 @@
 -- Lemmas for a run of `show`.
 use Rattle.std.proofs.Common.{◌≡◌, ◌∙◌, ℕ, ◌+◌, Bool, true, false, List, [], ◌∷◌, ◌++◌, map, take, drop}
 use Rattle.std.proofs.Common.{arith, refl, sym, ap, subst, inl, inr}
-use Rattle.std.specs.Prelude.{Result, Ok, Err, IsTrue, IsFalse}
+use Rattle.std.specs.Prelude.{Result, Ok, Err, IsTrue, IsFalse, if◌then◌else◌}
 use Rattle.std.specs.Io.KnownBytes.{Appends}
 use Rattle.std.specs.List.{range_with_len}
 use Rattle.std.proofs.lemmas.List.{take-append-drop}
 use Rattle.std.proofs.lemmas.List.FromFn.{map-range_with_len_more}
 use Rattle.sixel_grammar.specs.declared.command.Placed.{Placed}
 use Rattle.sixel_grammar.specs.declared.fault.Fault.{Fault}
+use Rattle.sixel_grammar.specs.Faults.{IsFaultOf}
 use Rattle.sixel_grammar.specs.Document.{Document, events_of}
 use Rattle.sixel_grammar.proofs.TotalLemmas.{judged}
 use Rattle.sixel_grammar.proofs.UniqueLemmas.{document_once, fault_no_document, fault_once}
@@ -27,8 +28,7 @@ use Rattle.std.proofs.lemmas.Bool.{and_parts}
 use Rattle.sixel_terminal.specs.Displays.{Display}
 use Rattle.sixel_terminal.specs.Drawing.{screen_on}
 use Rattle.sixel_run.specs.declared.fault.RunFault.{RunFault}
-use Rattle.sixel_run.specs.declared.fault.RunFault.TheVariants.{Grammar, Ppm, NotRgb, NoBox, NoString, Empty, TooLarge}
-use Rattle.sixel_run.specs.declared.fault.RunFault.TheVariants.{TooManyColours, OutOfMemory, Read, Write}
+use Rattle.sixel_run.specs.declared.fault.RunFault.TheVariants.{Grammar, NotRgb}
 use Rattle.sixel_run.specs.declared.task.Status.{Status}
 use Rattle.sixel_run.specs.declared.task.Status.TheVariants.{Done}
 use Rattle.sixel_run.specs.Conversions.{of_ppm}
@@ -37,65 +37,46 @@ use Rattle.sixel_model.specs.declared.profile.Profile.{Profile}
 use Rattle.sixel_run.specs.Screens.{grey, percent_at, screen_text}
 use Rattle.sixel_run.specs.Texts.{Text, BeginsWith}
 use Rattle.sixel_io.specs.Devices.{SinkState}
+use Rattle.sixel_run.proofs.CheckLemmas.{both_are}
 use Rattle.sixel_run.proofs.PutLemmas.{nothing-written}
-
--- two readings of one document give the same screen
-same-screen : (t : Display) (bytes : List ℕ) (d e : List Placed) → Document d bytes → Document e bytes
-    → events_of d ≡ events_of e
-same-screen t bytes d e p q = ap events_of (document_once bytes d e p q)
 
 not-both : (b c : Bool) → b ≡ c → IsTrue b → IsFalse c → ⊥
 not-both b c e p q = let bad : true ≡ false = sym p ∙ e ∙ q in cc
 
+-- the screen after a document, or none if some colour on it isn't RGB
+of_document : (t : Display) (bytes : List ℕ) (d : List Placed) → Document d bytes → (rgb : Bool)
+    → are_rgb (screen_on t (events_of d)) ≡ rgb → (text : Text) (a : Result Status RunFault) → ShowGives t bytes text a
+    → (text ≡ if rgb then screen_text t (events_of d) else []) × (a ≡ if rgb then Ok Done else Err NotRgb)
+of_document t bytes d doc true e text (Ok s) g = (
+  g.1.3 ∙ ap (λ es. screen_text t (events_of es)) (document_once bytes g.1.0 d g.1.1 doc),
+  ap (λ (s : Status). Ok s) g.0,
+)
+of_document t bytes d doc false e text (Ok s) g = absurd (not-both _ _
+    (ap (λ es. are_rgb (screen_on t (events_of es))) (document_once bytes g.1.0 d g.1.1 doc)) g.1.2 e)
+of_document t bytes d doc true e text (Err NotRgb) g = absurd (not-both _ _
+    (ap (λ es. are_rgb (screen_on t (events_of es))) (document_once bytes d g.1.0 doc g.1.1)) e g.1.2)
+of_document t bytes d doc false e text (Err NotRgb) g = (g.0, refl)
+of_document t bytes d doc rgb e text (Err (Grammar f)) g = absurd (fault_no_document bytes f g.1 (d, doc))
+of_document t bytes d doc rgb e text (Err other) g = absurd g
+
+-- the fault of other bytes
+of_fault : (t : Display) (bytes : List ℕ) (f : Fault) → IsFaultOf bytes f → (text : Text) (a : Result Status RunFault)
+    → ShowGives t bytes text a → (text ≡ []) × (a ≡ Err (Grammar f))
+of_fault t bytes f is text (Ok s) g = absurd (fault_no_document bytes f is (g.1.0, g.1.1))
+of_fault t bytes f is text (Err NotRgb) g = absurd (fault_no_document bytes f is (g.1.0, g.1.1))
+of_fault t bytes f is text (Err (Grammar e)) g =
+    (g.0, ap (λ (k : Fault). Err (Grammar k)) (fault_once bytes e f g.1 is))
+of_fault t bytes f is text (Err other) g = absurd g
+
 pub show-once : (t : Display) (bytes : List ℕ) (first second : Text) (a b : Result Status RunFault)
     → ShowGives t bytes first a → ShowGives t bytes second b → (first ≡ second) × (a ≡ b)
-show-once t bytes first second (Ok s) (Ok r) g h = (
-  g.1.3 ∙ ap (screen_text t) (same-screen t bytes g.1.0 h.1.0 g.1.1 h.1.1) ∙ sym h.1.3,
-  ap (λ (s : Status). Ok s) (g.0 ∙ sym h.0),
-)
-show-once t bytes first second (Ok s) (Err (Grammar f)) g h = absurd (fault_no_document bytes f h.1 (g.1.0, g.1.1))
-show-once t bytes first second (Ok s) (Err NotRgb) g h =
-    absurd (not-both _ _
-    (ap (λ es. are_rgb (screen_on t es)) (same-screen t bytes g.1.0 h.1.0 g.1.1 h.1.1)) g.1.2 h.1.2)
-show-once t bytes first second (Err NotRgb) (Ok s) g h =
-    absurd (not-both _ _
-    (ap (λ es. are_rgb (screen_on t es)) (same-screen t bytes h.1.0 g.1.0 h.1.1 g.1.1)) h.1.2 g.1.2)
-show-once t bytes first second (Err NotRgb) (Err NotRgb) g h = (g.0 ∙ sym h.0, refl)
-show-once t bytes first second (Err NotRgb) (Err (Grammar f)) g h = absurd
-    (fault_no_document bytes f h.1 (g.1.0, g.1.1))
-show-once t bytes first second (Err (Grammar f)) (Ok s) g h = absurd (fault_no_document bytes f g.1 (h.1.0, h.1.1))
-show-once t bytes first second (Err (Grammar f)) (Err NotRgb) g h = absurd
-    (fault_no_document bytes f g.1 (h.1.0, h.1.1))
-show-once t bytes first second (Err (Grammar f)) (Err (Grammar e)) g h =
-    (g.0 ∙ sym h.0, ap (λ (k : Fault). Err (Grammar k)) (fault_once bytes f e g.1 h.1))
-show-once t bytes first second (Ok s) (Err NoBox) g h = absurd h
-show-once t bytes first second (Ok s) (Err NoString) g h = absurd h
-show-once t bytes first second (Ok s) (Err Empty) g h = absurd h
-show-once t bytes first second (Ok s) (Err TooLarge) g h = absurd h
-show-once t bytes first second (Ok s) (Err TooManyColours) g h = absurd h
-show-once t bytes first second (Ok s) (Err (Ppm reason place)) g h = absurd h
-show-once t bytes first second (Ok s) (Err OutOfMemory) g h = absurd h
-show-once t bytes first second (Ok s) (Err Read) g h = absurd h
-show-once t bytes first second (Ok s) (Err Write) g h = absurd h
-show-once t bytes first second (Err NotRgb) (Err NoBox) g h = absurd h
-show-once t bytes first second (Err NotRgb) (Err NoString) g h = absurd h
-show-once t bytes first second (Err NotRgb) (Err Empty) g h = absurd h
-show-once t bytes first second (Err NotRgb) (Err TooLarge) g h = absurd h
-show-once t bytes first second (Err NotRgb) (Err TooManyColours) g h = absurd h
-show-once t bytes first second (Err NotRgb) (Err (Ppm reason place)) g h = absurd h
-show-once t bytes first second (Err NotRgb) (Err OutOfMemory) g h = absurd h
-show-once t bytes first second (Err NotRgb) (Err Read) g h = absurd h
-show-once t bytes first second (Err NotRgb) (Err Write) g h = absurd h
-show-once t bytes first second (Err (Grammar f)) (Err NoBox) g h = absurd h
-show-once t bytes first second (Err (Grammar f)) (Err NoString) g h = absurd h
-show-once t bytes first second (Err (Grammar f)) (Err Empty) g h = absurd h
-show-once t bytes first second (Err (Grammar f)) (Err TooLarge) g h = absurd h
-show-once t bytes first second (Err (Grammar f)) (Err TooManyColours) g h = absurd h
-show-once t bytes first second (Err (Grammar f)) (Err (Ppm reason place)) g h = absurd h
-show-once t bytes first second (Err (Grammar f)) (Err OutOfMemory) g h = absurd h
-show-once t bytes first second (Err (Grammar f)) (Err Read) g h = absurd h
-show-once t bytes first second (Err (Grammar f)) (Err Write) g h = absurd h
-show-once t bytes first second (Err other) b g h = absurd g
+show-once t bytes first second a b g h = elim (judged bytes) [
+  | inl d ↦
+      let gives = of_document t bytes d.0 d.1 (are_rgb (screen_on t (events_of d.0))) refl in
+      both_are first second a b (gives first a g) (gives second b h)
+  | inr f ↦
+      let gives = of_fault t bytes f.0 f.1 in both_are first second a b (gives first a g) (gives second b h)
+]
 
 shown : (t : Display) (bytes : List ℕ) (d : List Placed) → Document d bytes → (b : Bool)
     → are_rgb (screen_on t (events_of d)) ≡ b

@@ -6,6 +6,7 @@ use Rattle.std.proofs.lemmas.Grind.{flat_map-append}
 use Rattle.std.proofs.lemmas.List.{append-nil, map-append, take-append-drop, take_more}
 use Rattle.sixel_grammar.specs.declared.command.Placed.{Placed}
 use Rattle.sixel_grammar.specs.declared.fault.Fault.{Fault}
+use Rattle.sixel_grammar.specs.Faults.{IsFaultOf}
 use Rattle.sixel_grammar.specs.Document.{Document, events_of}
 use Rattle.sixel_grammar.proofs.TotalLemmas.{judged}
 use Rattle.sixel_grammar.proofs.UniqueLemmas.{document_once, fault_no_document, fault_once}
@@ -22,15 +23,14 @@ use Rattle.sixel_survey.specs.Surveys.{IsSurvey}
 use Rattle.sixel_survey.proofs.FirstEntryLemmas.{empty_if_none, first_is_verdict}
 use Rattle.sixel_survey.proofs.OneSurveyLemmas.{survey_exists, survey_once}
 use Rattle.sixel_run.specs.declared.fault.RunFault.{RunFault}
-use Rattle.sixel_run.specs.declared.fault.RunFault.TheVariants.{Grammar, Ppm, NotRgb, NoBox, NoString, Empty, TooLarge}
-use Rattle.sixel_run.specs.declared.fault.RunFault.TheVariants.{TooManyColours, OutOfMemory, Read, Write}
+use Rattle.sixel_run.specs.declared.fault.RunFault.TheVariants.{Grammar}
 use Rattle.sixel_run.specs.declared.task.Status.{Status}
 use Rattle.sixel_run.specs.declared.task.Status.TheVariants as status
 use Rattle.sixel_run.specs.declared.task.Status.TheVariants.{Done}
 use Rattle.sixel_run.specs.Outputs.{SurveyGives, status_of}
 use Rattle.sixel_run.specs.LineTasks.{IsStatusOf}
 use Rattle.sixel_run.specs.Texts.{Text, entry_line, survey_text}
-use Rattle.sixel_run.proofs.CheckLemmas.{same_verdict}
+use Rattle.sixel_run.proofs.CheckLemmas.{both_are, same_verdict}
 
 -- ---- one output
 
@@ -40,41 +40,38 @@ same_survey : (registers : ℕ) (bytes : List ℕ) (d e : List Placed) (s t : Su
 same_survey registers bytes d e s t p q a b =
     survey_once registers e s t (subst (λ (l : List Placed). IsSurvey registers l s) (document_once bytes d e p q) a) b
 
+-- the lines of the survey of a document, and the status of its verdict
+of_document : (registers : ℕ) (bytes : List ℕ) (d : List Placed) (s : Survey) (v : Verdict) → Document d bytes
+    → IsSurvey registers d s → IsVerdict registers d v → (text : Text) (a : Result Status RunFault)
+    → SurveyGives registers bytes text a → (text ≡ survey_text s) × (a ≡ Ok (status_of v))
+of_document registers bytes d s v doc is rules text (Ok r) g = (
+  g.2.2 ∙ ap survey_text (same_survey registers bytes g.0 d g.2.0 s g.1 doc g.2.1 is),
+  ap (λ (t : Status). Ok t)
+      (g.3.2 ∙ ap status_of (same_verdict registers bytes g.0 d g.3.0 v g.1 doc g.3.1 rules)),
+)
+of_document registers bytes d s v doc is rules text (Err (Grammar f)) g =
+    absurd (fault_no_document bytes f g.1 (d, doc))
+of_document registers bytes d s v doc is rules text (Err other) g = absurd g
+
+-- the fault of other bytes
+of_fault : (registers : ℕ) (bytes : List ℕ) (f : Fault) → IsFaultOf bytes f → (text : Text)
+    (a : Result Status RunFault) → SurveyGives registers bytes text a → (text ≡ []) × (a ≡ Err (Grammar f))
+of_fault registers bytes f is text (Ok s) g = absurd (fault_no_document bytes f is (g.0, g.1))
+of_fault registers bytes f is text (Err (Grammar e)) g =
+    (g.0, ap (λ (k : Fault). Err (Grammar k)) (fault_once bytes e f g.1 is))
+of_fault registers bytes f is text (Err other) g = absurd g
+
 pub survey-once : (registers : ℕ) (bytes : List ℕ) (first second : Text) (a b : Result Status RunFault)
     → SurveyGives registers bytes first a → SurveyGives registers bytes second b → (first ≡ second) × (a ≡ b)
-survey-once registers bytes first second (Ok s) (Ok r) g h =
-    let survey = same_survey registers bytes g.0 h.0 g.2.0 h.2.0 g.1 h.1 g.2.1 h.2.1 in
-    let verdict = same_verdict registers bytes g.0 h.0 g.3.0 h.3.0 g.1 h.1 g.3.1 h.3.1 in (
-      g.2.2 ∙ ap survey_text survey ∙ sym h.2.2,
-      ap (λ (t : Status). Ok t) (g.3.2 ∙ ap status_of verdict ∙ sym h.3.2),
-    )
-survey-once registers bytes first second (Ok s) (Err (Grammar f)) g h =
-    absurd (fault_no_document bytes f h.1 (g.0, g.1))
-survey-once registers bytes first second (Err (Grammar f)) (Ok s) g h =
-    absurd (fault_no_document bytes f g.1 (h.0, h.1))
-survey-once registers bytes first second (Err (Grammar f)) (Err (Grammar e)) g h =
-    (g.0 ∙ sym h.0, ap (λ (k : Fault). Err (Grammar k)) (fault_once bytes f e g.1 h.1))
-survey-once registers bytes first second (Ok s) (Err (Ppm reason place)) g h = absurd h
-survey-once registers bytes first second (Ok s) (Err NotRgb) g h = absurd h
-survey-once registers bytes first second (Ok s) (Err NoBox) g h = absurd h
-survey-once registers bytes first second (Ok s) (Err NoString) g h = absurd h
-survey-once registers bytes first second (Ok s) (Err Empty) g h = absurd h
-survey-once registers bytes first second (Ok s) (Err TooLarge) g h = absurd h
-survey-once registers bytes first second (Ok s) (Err TooManyColours) g h = absurd h
-survey-once registers bytes first second (Ok s) (Err OutOfMemory) g h = absurd h
-survey-once registers bytes first second (Ok s) (Err Read) g h = absurd h
-survey-once registers bytes first second (Ok s) (Err Write) g h = absurd h
-survey-once registers bytes first second (Err (Grammar f)) (Err (Ppm reason place)) g h = absurd h
-survey-once registers bytes first second (Err (Grammar f)) (Err NotRgb) g h = absurd h
-survey-once registers bytes first second (Err (Grammar f)) (Err NoBox) g h = absurd h
-survey-once registers bytes first second (Err (Grammar f)) (Err NoString) g h = absurd h
-survey-once registers bytes first second (Err (Grammar f)) (Err Empty) g h = absurd h
-survey-once registers bytes first second (Err (Grammar f)) (Err TooLarge) g h = absurd h
-survey-once registers bytes first second (Err (Grammar f)) (Err TooManyColours) g h = absurd h
-survey-once registers bytes first second (Err (Grammar f)) (Err OutOfMemory) g h = absurd h
-survey-once registers bytes first second (Err (Grammar f)) (Err Read) g h = absurd h
-survey-once registers bytes first second (Err (Grammar f)) (Err Write) g h = absurd h
-survey-once registers bytes first second (Err other) b g h = absurd g
+survey-once registers bytes first second a b g h = elim (judged bytes) [
+  | inl d ↦
+      let s = survey_exists registers d.0 in
+      let v = verdict_exists registers d.0 in
+      let gives = of_document registers bytes d.0 s.0 v.0 d.1 s.1 v.1 in
+      both_are first second a b (gives first a g) (gives second b h)
+  | inr f ↦
+      let gives = of_fault registers bytes f.0 f.1 in both_are first second a b (gives first a g) (gives second b h)
+]
 
 pub survey-gives : (registers : ℕ) (bytes : List ℕ)
     → (text : Text) × (answer : Result Status RunFault) × SurveyGives registers bytes text answer

@@ -13,8 +13,8 @@ mod task;
 
 pub use fault::RunFault;
 pub use lines::{
-    Line, fault_line, finding_line, outcome_line, verdict_line, write_fault, write_finding,
-    write_verdict,
+    Line, fault_line, finding_line, outcome_line, reason_name, rule_name, verdict_line,
+    write_fault, write_finding, write_verdict,
 };
 pub use put_line::{Plain, PutLine};
 pub use running::{run, write_lines};

@@ -131,7 +131,8 @@ pub fn event_line(placed: &Placed) -> Line
     line
 }
 
-pub(crate) fn reason_name(reason: Reason) -> &'static str
+/// The name of a reason, as lines have it.
+pub fn reason_name(reason: Reason) -> &'static str
     ensures text { result.now ≡ reason_name reason }
     ensures short { length result.now ≤ 14 }
 {
@@ -205,7 +206,8 @@ pub fn write_fault<K: Sink>(fault: &RunFault, out: &mut K) -> Result<(), DeviceF
     put_all(out, line.as_slice())
 }
 
-pub(crate) fn rule_name(rule: Rule) -> &'static str
+/// The name of a rule, as lines have it.
+pub fn rule_name(rule: Rule) -> &'static str
     ensures text { result.now ≡ rule_name rule }
     ensures short { length result.now ≤ 11 }
 {
