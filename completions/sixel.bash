@@ -19,20 +19,20 @@ _sixel() {
     done
     # The word at the cursor is the value of an option: a number, or a colour.
     ((i == COMP_CWORD)) || return
-    # For a command that reads any number of files the operands don't count.
+    # For a command that takes any number of files or names the operands don't count.
     case $command in
         '') options='-h --help -V --version'
             names='list check survey scan render encode show mend explain help'
             ;;
-        list) options='-h --help' ;;
-        check) options='--wide -q --quiet -h --help' operands=0 ;;
-        survey) options='--wide -h --help' operands=0 ;;
-        scan) options='--wide --eight-bit -h --help' operands=0 ;;
-        render) options='--wide -h --help' ;;
-        encode) options='--wide -h --help' ;;
-        show) options='--wide --showing --fill --define-selects --width --height --box -h --help' ;;
-        mend) options='--wide --background --showing --define-selects -h --help' ;;
-        explain) options='-h --help'
+        list) options='-h --help -V --version' ;;
+        check) options='--wide -q --quiet -h --help -V --version' operands=0 ;;
+        survey) options='--wide -h --help -V --version' operands=0 ;;
+        scan) options='--wide --eight-bit -h --help -V --version' operands=0 ;;
+        render) options='--wide -h --help -V --version' ;;
+        encode) options='--wide -h --help -V --version' ;;
+        show) options='--wide --showing --fill --define-selects --width --height --box -h --help -V --version' ;;
+        mend) options='--wide --background --showing --define-selects -h --help -V --version' ;;
+        explain) options='-h --help -V --version' operands=0
             names='RasterFirst RasterTwice Ratio BoxSize Register ColourValue RepeatZero Unselected Undefined
                 Redefined Outside Uncovered EightBit NotSixel BadByte NumberTooLarge FieldCount BadRepeat
                 BadTerminator Truncated TooLong Trailing Header Size Maxval Sample TooManyColours Short NotRgb NoBox

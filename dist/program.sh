@@ -79,6 +79,12 @@ read_sums() {
     cat -- "$1.built" 2> /dev/null
 }
 
+# Whether the sums beside a program have its own.
+has_its_sum() {
+    local sums sum
+    sums=$(read_sums "$1") && sum=$(sum_program "$1") && [[ $sums == *$'\n'"$sum" ]]
+}
+
 # Whether the sums beside a program are those of the sources and of the program.
 has_its_sums() {
     local kept sources sum
@@ -120,8 +126,10 @@ tell_why() {
         echo "dist/sixel is for Linux on x86-64, and this is $(uname -sm)"
     elif [[ ! -e $dist ]]; then
         echo "there is no dist/sixel"
-    elif ! has_its_sums "$dist"; then
+    elif ! has_its_sum "$dist"; then
         echo "dist/sixel isn't the program of these sources"
+    elif ! has_its_sums "$dist"; then
+        echo "dist/sixel is older than the sources"
     elif [[ ! -x $dist ]]; then
         echo "dist/sixel can't be executed"
     else

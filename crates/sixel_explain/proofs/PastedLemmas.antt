@@ -1,18 +1,19 @@
 -- A line of the program asks for its topic.
-use Rattle.std.proofs.Common.{◌≡◌, ◌≢◌, ◌∙◌, ◌∷◌, ◌++◌, ◌==◌, ◌+◌, ◌-◌, ◌<◌, ◌≤◌, ◌⊎◌, ℕ, []}
+use Rattle.std.proofs.Common.{◌≡◌, ◌≢◌, ◌∙◌, ◌∷◌, ◌++◌, ◌==◌, ◌+◌, ◌-◌, ◌<◌, ◌≤◌, ◌⊎◌, ◌||◌, ℕ, []}
 use Rattle.std.proofs.Common.{Bool, List, None, Option, Some, ap, append-nil, append_assoc, arith, codes, cond, drop}
-use Rattle.std.proofs.Common.{false, inl, inr, le-ltb, length, length-append, lt-ltb, map, nat_lt, ne_eqb, refl}
-use Rattle.std.proofs.Common.{sym, take, true}
+use Rattle.std.proofs.Common.{false, inl, inr, is_some, le-leb, le-ltb, length, length-append, lt-ltb, map, nat_lt}
+use Rattle.std.proofs.Common.{ne_eqb, refl, sym, take, true}
 use Rattle.std.specs.Prelude.{decimal}
 use Rattle.std.specs.Char.{to_ascii_lowercase}
 use Rattle.std.specs.Cmp.Lexicographic.{pointwise}
-use Rattle.std.specs.List.{onto_first}
+use Rattle.std.specs.List.{list_any, onto_first}
 use Rattle.std.specs.Option.{option_or}
 use Rattle.std.specs.Str.{str_to_ascii_lowercase}
 use Rattle.std.proofs.lemmas.Bool.{false_from_ne_true, true≢false}
 use Rattle.std.proofs.lemmas.Bool.Decides.{Decides-eqb}
 use Rattle.std.proofs.lemmas.List.{append_cancel_right, drop-drop, drop_at, map-append}
 use Rattle.std.proofs.lemmas.Grind.{flat_map-append}
+use Rattle.std.proofs.lemmas.List.Folds.{list_any-append}
 use Rattle.std.proofs.lemmas.List.Elements.{All-contains}
 use Rattle.std.proofs.lemmas.List.Splits.{slice_split-cons_no}
 use Rattle.std.proofs.lemmas.Slice.Eq.{ends_is}
@@ -26,10 +27,11 @@ use Rattle.sixel_run.specs.Texts.{Text, fault_parts, finding_line, line, pixel_p
 use Rattle.sixel_run.proofs.DigitLemmas.{AreDigits, number, number_digits}
 use Rattle.sixel_explain.specs.declared.explanations.Topic.{Topic}
 use Rattle.sixel_explain.specs.declared.explanations.Topic.TheVariants as topic
-use Rattle.sixel_explain.specs.Explanations.{ArePasted, ends_in, last_name, line_of, listed_names, name_called, name_in}
+use Rattle.sixel_explain.specs.Explanations.{ArePasted, ends_in, is_line, is_mark, last_name, line_of, listed_names}
+use Rattle.sixel_explain.specs.Explanations.{name_called, names_in}
 use Rattle.sixel_explain.specs.Explanations.{refusals_of_pictures, refusals_of_runs, refusals_of_text, rules}
 use Rattle.sixel_explain.specs.Explanations.{topic_name, topic_of, topic_of_end, words_of}
-use Rattle.sixel_explain.proofs.LineLemmas.{by_end, by_word, last_of_both, no_name}
+use Rattle.sixel_explain.proofs.LineLemmas.{by_end, by_word, last_of_both, line_asks, no_name}
 use Rattle.sixel_explain.proofs.NameLemmas.{each, name_listed}
 
 abbrev pub low : Text → Text
@@ -241,45 +243,86 @@ last_part text last parts =
     ∙ ap (λ (t : Text). spaced parts ++ 32 ∷ t) (append-nil last))
     ∙ sym (append_assoc text (spaced parts) (32 ∷ last))
 
+-- ---- marks
+
+marked_after : (a b : Text) → list_any is_mark b ≡ true → list_any is_mark (a ++ b) ≡ true
+marked_after a b marked =
+    list_any-append is_mark a b ∙ ap (λ (x : Bool). list_any is_mark a || x) marked ∙ or_true (list_any is_mark a)
+  where
+    or_true : (x : Bool) → (x || true) ≡ true
+    or_true true = refl
+    or_true false = refl
+
+marked_before : (a b : Text) → list_any is_mark a ≡ true → list_any is_mark (a ++ b) ≡ true
+marked_before a b marked = list_any-append is_mark a b ∙ ap (λ (x : Bool). x || list_any is_mark b) marked
+
+digit_marked : (d : ℕ) → (48 ≤ d) × (d ≤ 57) → is_mark d ≡ true
+digit_marked d digit = rw (le-leb 48 d digit.0, le-leb d 58 (omega (arith, digit.1))) refl
+
+number_marked : (n : ℕ) → list_any is_mark (32 ∷ decimal n) ≡ true
+number_marked n =
+    let d = number n in
+    ap (λ (t : Text). list_any is_mark (32 ∷ t)) d.is
+    ∙ marked_after (32 ∷ d.front) (d.last ∷ []) (rw (digit_marked d.last d.digit) refl)
+
+-- a line with a mark, and one that ends like a line without a name
+by_mark : (text : Text) → list_any is_mark text ≡ true → is_line text ≡ true
+by_mark text marked = go (is_some (topic_of_end text)) (list_any is_mark text) marked
+  where
+    go : (x y : Bool) → y ≡ true → (x || y) ≡ true
+    go true y is = refl
+    go false y is = is
+
+by_ending : (text : Text) (t : Topic) → topic_of_end text ≡ Some t → is_line text ≡ true
+by_ending text t is = rw is refl
+
 -- a name, and then others that aren't names, and a number
 pub name_before_number : (text : Text) (t : Topic) (parts : List Text) (n : ℕ) → AreNameless (parts ++ decimal n ∷ [])
-    → name_in (text ++ spaced (low (topic_name t) ∷ (parts ++ decimal n ∷ []))) ≡ Some (topic_name t)
+    → names_in (text ++ spaced (low (topic_name t) ∷ (parts ++ decimal n ∷ []))) ≡ Some (topic_name t ∷ [])
 name_before_number text t parts n none =
-    by_word (text ++ spaced (low (topic_name t) ∷ (parts ++ decimal n ∷ []))) (Some (topic_name t))
-    (ap topic_of_end (last_part text (decimal n) (low (topic_name t) ∷ parts))
-    ∙ number_at_end (text ++ spaced (low (topic_name t) ∷ parts)) n)
-    (named_last text (low (topic_name t)) (topic_name t) (parts ++ decimal n ∷ []) (named_alone t) none)
+    let line = text ++ spaced (low (topic_name t) ∷ (parts ++ decimal n ∷ [])) in
+    let before = text ++ spaced (low (topic_name t) ∷ parts) in
+    let whole = last_part text (decimal n) (low (topic_name t) ∷ parts) in
+    line_asks line (topic_name t)
+    (by_mark line (ap (list_any is_mark) whole ∙ marked_after before (32 ∷ decimal n) (number_marked n)))
+    (by_word line (Some (topic_name t)) (ap topic_of_end whole ∙ number_at_end before n)
+    (named_last text (low (topic_name t)) (topic_name t) (parts ++ decimal n ∷ []) (named_alone t) none))
 
 -- a name, `at` and an offset
 name_at : (first : Text) (t : Topic) (n : ℕ) (said : List Text)
     → ArePasted said (line first (topic_name t ∷ codes "at" ∷ decimal n ∷ []))
-    → name_in (line_of said) ≡ Some (topic_name t)
+    → names_in (line_of said) ≡ Some (topic_name t ∷ [])
 name_at first t n said are =
-    ap name_in
+    ap names_in
     (pasted said first (topic_name t ∷ codes "at" ∷ decimal n ∷ []) are
     ∙ ap (λ (d : Text). low (32 ∷ first) ++ spaced (low (topic_name t) ∷ codes "at" ∷ d ∷ [])) (low_number n))
     ∙ name_before_number (low (32 ∷ first)) t (codes "at" ∷ []) n (refl, (number_nameless n, tt))
 
 -- a name at the end
 name_last : (first : Text) (t : Topic) (said : List Text)
+    → list_any is_mark (low (32 ∷ first)) ≡ true
     → ((x : Text) → topic_of_end (x ++ 32 ∷ low (topic_name t)) ≡ None)
-    → ArePasted said (line first (topic_name t ∷ [])) → name_in (line_of said) ≡ Some (topic_name t)
-name_last first t said none are =
+    → ArePasted said (line first (topic_name t ∷ [])) → names_in (line_of said) ≡ Some (topic_name t ∷ [])
+name_last first t said mark none are =
     let name = low (topic_name t) in
     let x = low (32 ∷ first) in
-    ap name_in (pasted said first (topic_name t ∷ []) are)
-    ∙ by_word (x ++ spaced (name ∷ [])) (Some (topic_name t)) (ap (λ (w : Text). topic_of_end (x ++ 32 ∷ w)) (append-nil name) ∙ none x)
-    (named_last x name (topic_name t) [] (named_alone t) tt)
+    ap names_in (pasted said first (topic_name t ∷ []) are)
+    ∙ line_asks (x ++ spaced (name ∷ [])) (topic_name t)
+    (by_mark (x ++ spaced (name ∷ [])) (marked_before x (spaced (name ∷ [])) mark))
+    (by_word (x ++ spaced (name ∷ [])) (Some (topic_name t))
+    (ap (λ (w : Text). topic_of_end (x ++ 32 ∷ w)) (append-nil name) ∙ none x)
+    (named_last x name (topic_name t) [] (named_alone t) tt))
 
 -- a text that is one of the endings
 pub ending_pasted : (first text : Text) (t : Topic) (said : List Text)
     → ((x : Text) → topic_of_end (x ++ 32 ∷ low text) ≡ Some t) → ArePasted said (line first (text ∷ []))
-    → name_in (line_of said) ≡ Some (topic_name t)
+    → names_in (line_of said) ≡ Some (topic_name t ∷ [])
 ending_pasted first text t said is are =
     let x = low (32 ∷ first) in
-    let whole : line_of said ≡ x ++ 32 ∷ low text =
+    let line = x ++ 32 ∷ low text in
+    let whole : line_of said ≡ line =
     pasted said first (text ∷ []) are ∙ ap (λ (w : Text). x ++ 32 ∷ w) (append-nil (low text)) in
-    ap name_in whole ∙ by_end (x ++ 32 ∷ low text) t (is x)
+    ap names_in whole ∙ line_asks line (topic_name t) (by_ending line t (is x)) (by_end line t (is x))
 
 -- ---- the endings
 
@@ -371,28 +414,29 @@ too_large_unended x =
 
 -- ---- what the program writes
 
--- the line of a fault, whatever it begins with
-pub fault_pasted : (first : Text) (f : RunFault) (said : List Text) → ArePasted said (line first (fault_parts f))
-    → name_in (line_of said) ≡ Some (topic_name (topic_of f))
-fault_pasted first (fault.Grammar f) said are = name_at first (topic.Grammar f.reason) f.place said are
-fault_pasted first (fault.Ppm reason place) said are = name_at first (topic.Ppm reason) place said are
-fault_pasted first fault.NotRgb said are =
-    name_last first topic.NotRgb said
+-- the line of a fault, whatever it begins with, if that has a colon
+pub fault_pasted : (first : Text) (f : RunFault) (said : List Text) → list_any is_mark (low (32 ∷ first)) ≡ true
+    → ArePasted said (line first (fault_parts f)) → names_in (line_of said) ≡ Some (topic_name (topic_of f) ∷ [])
+fault_pasted first (fault.Grammar f) said mark are = name_at first (topic.Grammar f.reason) f.place said are
+fault_pasted first (fault.Ppm reason place) said mark are = name_at first (topic.Ppm reason) place said are
+fault_pasted first fault.NotRgb said mark are =
+    name_last first topic.NotRgb said mark
     (λ x. no_ending x (codes " notrgb") (omega arith) refl refl refl refl refl) are
-fault_pasted first fault.NoBox said are =
-    name_last first topic.NoBox said (λ x. no_ending x (codes " nobox") (omega arith) refl refl refl refl refl) are
-fault_pasted first fault.NoString said are =
-    name_last first topic.NoString said
+fault_pasted first fault.NoBox said mark are =
+    name_last first topic.NoBox said mark (λ x. no_ending x (codes " nobox") (omega arith) refl refl refl refl refl) are
+fault_pasted first fault.NoString said mark are =
+    name_last first topic.NoString said mark
     (λ x. no_ending x (codes " nostring") (omega arith) refl refl refl refl refl) are
-fault_pasted first fault.Empty said are = name_last first topic.Empty said empty_unended are
-fault_pasted first fault.TooLarge said are = name_last first topic.TooLarge said too_large_unended are
-fault_pasted first fault.TooManyColours said are =
-    name_last first (topic.Ppm ppm.TooManyColours) said
+fault_pasted first fault.Empty said mark are = name_last first topic.Empty said mark empty_unended are
+fault_pasted first fault.TooLarge said mark are = name_last first topic.TooLarge said mark too_large_unended are
+fault_pasted first fault.TooManyColours said mark are =
+    name_last first (topic.Ppm ppm.TooManyColours) said mark
     (λ x. no_ending x (codes " toomanycolours") (omega arith) refl refl refl refl refl) are
-fault_pasted first fault.OutOfMemory said are =
+fault_pasted first fault.OutOfMemory said mark are =
     ending_pasted first (codes "out of memory") topic.OutOfMemory said out_of_memory are
-fault_pasted first fault.Read said are = ending_pasted first (codes "read failed") topic.Read said read_failed are
-fault_pasted first fault.Write said are = ending_pasted first (codes "write failed") topic.Write said write_failed are
+fault_pasted first fault.Read said mark are = ending_pasted first (codes "read failed") topic.Read said read_failed are
+fault_pasted first fault.Write said mark are =
+    ending_pasted first (codes "write failed") topic.Write said write_failed are
 
 -- a finding names no pixel, or one
 pub two_numbers : (r : ARule) (pixel : Option (ℕ × ℕ))
@@ -405,19 +449,19 @@ two_numbers _ pixel = inl refl
 
 finding_named : (text : Text) (r : ARule) (place : ℕ) (pixel : List Text)
     → (pixel ≡ []) ⊎ ((x : ℕ) × (y : ℕ) × (pixel ≡ decimal x ∷ decimal y ∷ []))
-    → name_in (text ++ spaced (map low (rule_name r ∷ decimal place ∷ pixel))) ≡ Some (rule_name r)
+    → names_in (text ++ spaced (map low (rule_name r ∷ decimal place ∷ pixel))) ≡ Some (rule_name r ∷ [])
 finding_named text r place pixel (inl none) =
-    ap (λ (p : List Text). name_in (text ++ spaced (map low (rule_name r ∷ decimal place ∷ p)))) none
-    ∙ ap (λ (d : Text). name_in (text ++ spaced (low (rule_name r) ∷ d ∷ []))) (low_number place)
+    ap (λ (p : List Text). names_in (text ++ spaced (map low (rule_name r ∷ decimal place ∷ p)))) none
+    ∙ ap (λ (d : Text). names_in (text ++ spaced (low (rule_name r) ∷ d ∷ []))) (low_number place)
     ∙ name_before_number text (topic.Rule r) [] place (number_nameless place, tt)
 finding_named text r place pixel (inr one) =
     let name = low (rule_name r) in
-    ap (λ (p : List Text). name_in (text ++ spaced (map low (rule_name r ∷ decimal place ∷ p)))) one.2
-    ∙ ap (λ (d : Text). name_in (text ++ spaced (name ∷ d ∷ low (decimal one.0) ∷ low (decimal one.1) ∷ [])))
+    ap (λ (p : List Text). names_in (text ++ spaced (map low (rule_name r ∷ decimal place ∷ p)))) one.2
+    ∙ ap (λ (d : Text). names_in (text ++ spaced (name ∷ d ∷ low (decimal one.0) ∷ low (decimal one.1) ∷ [])))
     (low_number place)
-    ∙ ap (λ (d : Text). name_in (text ++ spaced (name ∷ decimal place ∷ d ∷ low (decimal one.1) ∷ [])))
+    ∙ ap (λ (d : Text). names_in (text ++ spaced (name ∷ decimal place ∷ d ∷ low (decimal one.1) ∷ [])))
     (low_number one.0)
-    ∙ ap (λ (d : Text). name_in (text ++ spaced (name ∷ decimal place ∷ decimal one.0 ∷ d ∷ []))) (low_number one.1)
+    ∙ ap (λ (d : Text). names_in (text ++ spaced (name ∷ decimal place ∷ decimal one.0 ∷ d ∷ []))) (low_number one.1)
     ∙ name_before_number text (topic.Rule r) (decimal place ∷ decimal one.0 ∷ []) one.1
     (number_nameless place, (number_nameless one.0, (number_nameless one.1, tt)))
 
@@ -428,10 +472,10 @@ line_after before first parts =
 
 -- the line of a broken rule, whatever is before it
 pub finding_pasted : (before : Text) (f : Finding) (said : List Text) → ArePasted said (before ++ finding_line f)
-    → name_in (line_of said) ≡ Some (rule_name f.rule)
+    → names_in (line_of said) ≡ Some (rule_name f.rule ∷ [])
 finding_pasted before f said are =
     let parts = rule_name f.rule ∷ decimal f.place ∷ pixel_parts f.rule f.pixel in
-    ap name_in
+    ap names_in
     (pasted said (before ++ codes "broken") parts
     (are ∙ ap (λ (t : Text). 32 ∷ t) (line_after before (codes "broken") parts)))
     ∙ finding_named (low (32 ∷ (before ++ codes "broken"))) f.rule f.place (pixel_parts f.rule f.pixel)

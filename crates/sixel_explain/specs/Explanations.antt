@@ -1,9 +1,10 @@
 -- What `explain` says, and of which topics.
 use Rattle.std.specs.Prelude.{◌≡◌, ◌∷◌, ◌++◌, ◌==◌, ℕ, Bool, List, [], Option, Some, None, codes, find, map}
-use Rattle.std.specs.Prelude.{◌<◌, ◌≤◌, All, Contains, chars, length, nat_eq, option_map, ⊤}
+use Rattle.std.specs.Prelude.{◌<◌, ◌≤◌, ◌&&◌, ◌||◌, All, Contains, chars, drop, if◌then◌else◌, is_some, length}
+use Rattle.std.specs.Prelude.{nat_eq, nat_le, option_map}
 use Rattle.std.specs.Io.{StartsWith}
-use Rattle.std.specs.List.{after_first, concat, ends_with, slice_split}
-use Rattle.std.specs.Option.{option_or}
+use Rattle.std.specs.List.{after_first, concat, ends_with, list_any, slice_split}
+use Rattle.std.specs.Option.{option_and_then, option_or}
 use Rattle.std.specs.Str.{bytes_eq, str_to_ascii_lowercase}
 use Rattle.strsim.specs.Edits.{osa_table}
 use Rattle.sixel_grammar.specs.declared.fault.Reason.TheVariants.{NotSixel, BadByte, NumberTooLarge, FieldCount}
@@ -83,7 +84,20 @@ abbrev pub IsExplanation : Option Topic → Text → Type 0
 IsExplanation None text = ListsNames listed_names text
 IsExplanation (Some topic) text = StartsWith text (topic_name topic ++ codes ": ")
 
--- ---- which name a line asks for
+-- the explanations of more topics, each after an empty line
+abbrev pub AreFurther : List Topic → Text → Type 0
+AreFurther [] text = text ≡ []
+AreFurther (topic ∷ more) text = (first : Text) × (rest : Text) × (text ≡ 10 ∷ (first ++ rest))
+    × IsExplanation (Some topic) first × AreFurther more rest
+
+-- the explanations of these topics, in this order and with an empty line between two; without a topic, it is the list
+-- of names
+abbrev pub AreExplanations : List Topic → Text → Type 0
+AreExplanations [] text = IsExplanation None text
+AreExplanations (topic ∷ more) text = (first : Text) × (rest : Text) × (text ≡ first ++ rest)
+    × IsExplanation (Some topic) first × AreFurther more rest
+
+-- ---- which names are asked for
 
 -- the words after `explain` as one line, in small letters and with a space before each word
 abbrev pub line_of : List Text → Text
@@ -125,12 +139,30 @@ name_in line = option_or (option_map topic_name (topic_of_end line)) (last_name 
 abbrev pub ArePasted : List Text → Text → Type 0
 ArePasted said line = concat (map (λ word. codes " " ++ word) said) ++ 10 ∷ [] ≡ codes " " ++ line
 
--- these words after `explain` ask for this name; no words ask for the list of names
-abbrev pub Asks : Option (List Text) → Option Text → Type 0
-Asks None None = ⊤
-Asks None (Some name) = ⊥
-Asks (Some said) None = ⊥
-Asks (Some said) (Some name) = name_in (line_of said) ≡ Some name
+-- the byte is a digit, or the colon, which follows the digits in ASCII; no name has one
+abbrev pub is_mark : ℕ → Bool
+is_mark byte = nat_le 48 byte && nat_le byte 58
+
+-- the words are a line of the program, and not names: it ends like a line without a name, or has a digit or a colon
+abbrev pub is_line : Text → Bool
+is_line line = is_some (topic_of_end line) || list_any is_mark line
+
+-- the names that these words are, in this order; nothing if one of them is no name
+abbrev pub all_called : List Text → Option (List Text)
+all_called [] = Some []
+all_called (word ∷ more) =
+    option_and_then (λ name. option_map (λ names. name ∷ names) (all_called more)) (name_called word)
+
+-- the names that these words ask for, given as one line with a space before each word: a line of the program asks for
+-- one name, and else each word is a name
+abbrev pub names_in : Text → Option (List Text)
+names_in line = if is_line line then option_map (λ name. name ∷ []) (name_in line)
+    else all_called (drop 1 (words_of line))
+
+-- these words after `explain` ask for these names, in this order; no words ask for the list of names, and for no name
+abbrev pub Asks : Option (List Text) → List Text → Type 0
+Asks None names = names ≡ []
+Asks (Some said) names = names_in (line_of said) ≡ Some names
 
 -- ---- similar names
 

@@ -5,7 +5,7 @@ ghost use Rattle.std.specs.Str.{str_to_ascii_lowercase};
 ghost use Rattle.sixel_model.specs.declared.rule.Rule.{Rule};
 ghost use Rattle.sixel_explain.specs.declared.explanations.Topic.{Topic};
 ghost use Rattle.sixel_run.specs.declared.fault.RunFault.{RunFault};
-ghost use Rattle.sixel_explain.specs.Explanations.{line_of, listed_names, name_in, topic_name, topic_of};
+ghost use Rattle.sixel_explain.specs.Explanations.{line_of, listed_names, names_in, topic_name, topic_of};
 ghost use Rattle.sixel_run.specs.Texts.{Text, rule_name};
 
 /// `explain` lists the name of each rule and of each fault of a run.
@@ -18,5 +18,5 @@ pub fn each_name_is_listed()
 pub fn a_name_may_be_in_any_case()
     ensures { (topic : Topic) (word : Text) →
         str_to_ascii_lowercase word ≡ str_to_ascii_lowercase (topic_name topic) →
-        name_in (line_of (word ∷ [])) ≡ Some (topic_name topic) }
+        names_in (line_of (word ∷ [])) ≡ Some (topic_name topic ∷ []) }
 {}

@@ -1,4 +1,4 @@
-//! What `explain` says of each rule and each refusal, and which of them a line asks for.
+//! What `explain` says of each rule and each refusal, and which of them words ask for.
 #![tactic(auto)]
 
 mod explanations;
@@ -8,4 +8,4 @@ mod refusals;
 mod rules;
 
 pub use explanations::{Topic, explanation};
-pub use lines::{nearest, topic_asked};
+pub use lines::{nearest, topics_asked};

@@ -1,24 +1,95 @@
-//! Which topic a line asks for.
+//! Which topics words ask for.
 
-ghost use Rattle.std.specs.Prelude.{◌≡◌, IfOk, codes, map, option_map};
+ghost use Rattle.std.specs.Prelude.{◌≡◌, ◌∷◌, [], IfOk, codes, drop, map, option_map};
+ghost use Rattle.std.specs.List.{list_any};
 ghost use Rattle.std.specs.String.{string_bytes};
-ghost use Rattle.sixel_explain.specs.Explanations.{IsNearest, edits, last_name, line_of, listed_names, name_in};
-ghost use Rattle.sixel_explain.specs.Explanations.{topic_name, topic_of_end, words_of};
+ghost use Rattle.sixel_explain.specs.Explanations.{IsNearest, all_called, edits, is_line, is_mark, last_name, line_of};
+ghost use Rattle.sixel_explain.specs.Explanations.{listed_names, name_in, names_in, topic_name, topic_of_end, words_of};
 
 use crate::explanations::{Topic, topic_named};
 use std::alloc::{AllocError, Global};
 use strsim::osa_distance;
 
-/// The topic that these words ask for: a name in any case of letters, or a line that contains one.
-pub fn topic_asked(alloc: Global, said: &[&str]) -> Result<Option<Topic>, AllocError>
-    ensures { IfOk result (λ topic.
-        name_in (line_of (map (λ word. word.now) said.now)) ≡ option_map topic_name topic) }
+/// The topics that these words ask for: names in any case of letters, or a line that contains one. `None`: a word is no
+/// name, or the line has none.
+pub fn topics_asked(alloc: Global, said: &[&str]) -> Result<Option<Vec<Topic>>, AllocError>
+    ensures { IfOk result (λ topics. names_in (line_of (map (λ word. word.now) said.now))
+        ≡ option_map (λ topics. map topic_name topics.items) topics) }
 {
     let line = line_of(alloc, said)?;
-    match topic_of_end(line.as_str()) {
-        Some(topic) => Ok(Some(topic)),
-        None => last_topic(alloc, line.as_str()),
+    if is_line(line.as_str()) {
+        topics_of_line(alloc, line.as_str())
+    } else {
+        topics_of_words(alloc, line.as_str())
     }
+}
+
+/// Whether a line ends like one without a name, or has a digit or a colon.
+fn is_line(line: &str) -> bool
+    ensures { is_line line.now ≡ result }
+{
+    topic_of_end(line).is_some() || has_mark(line.as_bytes())
+}
+
+fn has_mark(line: &[u8]) -> bool
+    ensures { list_any is_mark line.now ≡ result }
+{
+    let mut has = false;
+    for byte in line {
+        has |= *byte >= b'0' && *byte <= b':';
+    }
+    has
+}
+
+/// The only topic of a line.
+fn topics_of_line(alloc: Global, line: &str) -> Result<Option<Vec<Topic>>, AllocError>
+    ensures { IfOk result (λ topics. option_map (λ name. name ∷ []) (name_in line.now)
+        ≡ option_map (λ topics. map topic_name topics.items) topics) }
+{
+    match topic_of_line(alloc, line)? {
+        Some(topic) => {
+            let mut topics = Vec::new(alloc);
+            topics.push(topic)?;
+            Ok(Some(topics))
+        }
+        None => Ok(None),
+    }
+}
+
+/// The topic that a line asks for.
+fn topic_of_line(alloc: Global, line: &str) -> Result<Option<Topic>, AllocError>
+    ensures { IfOk result (λ topic. name_in line.now ≡ option_map topic_name topic) }
+{
+    match topic_of_end(line) {
+        Some(topic) => Ok(Some(topic)),
+        None => last_topic(alloc, line),
+    }
+}
+
+/// The topics whose names the words of a line are, if each is a name.
+fn topics_of_words(alloc: Global, line: &str) -> Result<Option<Vec<Topic>>, AllocError>
+    ensures { IfOk result (λ topics. all_called (drop 1 (words_of line.now))
+        ≡ option_map (λ topics. map topic_name topics.items) topics) }
+{
+    let words = line.split(' ').collect::<Vec<&str>>(alloc)?;
+    match words.as_slice().split_first() {
+        Some((_, words)) => topics_named(alloc, words),
+        None => Ok(Some(Vec::new(alloc))),
+    }
+}
+
+fn topics_named(alloc: Global, words: &[&str]) -> Result<Option<Vec<Topic>>, AllocError>
+    ensures { IfOk result (λ topics. all_called (map (λ word. word.now) words.now)
+        ≡ option_map (λ topics. map topic_name topics.items) topics) }
+{
+    let mut topics = Vec::new(alloc);
+    for word in words {
+        match topic_named(word) {
+            Some(topic) => topics.push(topic)?,
+            None => return Ok(None),
+        }
+    }
+    Ok(Some(topics))
 }
 
 /// The words as one line, in small letters and with a space before each word.

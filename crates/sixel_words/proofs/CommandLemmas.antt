@@ -17,6 +17,11 @@ pub record ReadsAs (a : App) (c : Command) : Type 0 where
 neither : (a b c : Bool) → a ≡ (b || c) → b ≡ false → c ≡ false → a ≡ false
 neither a b c e h k = rw (e, h, k) refl
 
+-- a command without arguments
+pub named_only : (name : Text) {c : Command} → app_of c ≡ new_app name → (fields_of c).has_globals ≡ false
+    → ReadsAs (new_app name) c
+named_only name app local = record { app = app; local = local }
+
 -- a new command with its help texts
 pub begun : (name : Text) (c d e : Command) (about more : Option (Bor (List ℕ))) → app_of c ≡ new_app name
     → (fields_of c).has_globals ≡ false → fields_of d ≡ record (fields_of c) { about = about }

@@ -1,17 +1,14 @@
 -- What words that give no task come to.
-use Rattle.std.proofs.Common.{◌≡◌, List, [], Option, ap, inl, inr, refl, subst, sym}
-use Rattle.std.specs.Prelude.{option_map}
+use Rattle.std.proofs.Common.{◌≡◌, List, [], ap, inl, inr, refl, subst, sym}
 use Rattle.clap.specs.Kinds.{HasKind, IsAmong}
 use Rattle.clap.specs.Values.{kind_of}
 use Rattle.clap.specs.declared.error.Error.{Error}
 use Rattle.clap.specs.declared.error.kind.ErrorKind.{ErrorKind}
 use Rattle.clap.specs.declared.error.kind.ErrorKind.TheVariants as kind
-use Rattle.sixel_explain.specs.declared.explanations.Topic.{Topic}
 use Rattle.sixel_words.specs.declared.words.WordsFault.{WordsFault}
 use Rattle.sixel_words.specs.declared.words.WordsFault.TheVariants as fault
 use Rattle.sixel_run.specs.declared.task.Task.{Task}
 use Rattle.sixel_run.specs.Texts.{Text}
-use Rattle.sixel_explain.specs.Explanations.{topic_name}
 use Rattle.sixel_words.specs.Words.{AsksFor, HoldsError, IsExplanationOf, IsFaultFor, IsFoundIn, IsNoHelp, IsTaskOf}
 use Rattle.sixel_words.specs.Words.{IsUnexplained, kinds_of}
 
@@ -22,7 +19,7 @@ memory_is_wanted words = record {
   found = tt;
   accepted = λ taken t is. refl;
   asked = tt;
-  explained = λ taken topic asks. tt;
+  explained = λ taken names asks. tt;
   unhelped = λ taken. tt;
 }
 
@@ -41,16 +38,15 @@ found_by_clap words error (fault.Usage held) has kept unexplained memory =
     inl (shown_kind words error held (fault.Usage held) kept.0 memory (λ is. cc) has)
 found_by_clap words error (fault.Help held) has kept unexplained memory =
     shown_kind words error held (fault.Help held) (ap kind_of kept) memory (λ is. cc) has
-found_by_clap words error (fault.Explanation topic) has kept unexplained memory = absurd unexplained
+found_by_clap words error (fault.Explanation topics) has kept unexplained memory = absurd unexplained
 found_by_clap words error fault.OutOfMemory has kept unexplained memory = tt
 
 -- of words that clap takes and that give no task
 pub found_in_taken : (words : List Text) (f : WordsFault) → kinds_of words ≡ [] → IsNoHelp f
     → ((t : Task) → IsTaskOf words t → ⊥)
-    → ((topic : Option Topic) → AsksFor words (option_map topic_name topic)
-    → IsExplanationOf (option_map topic_name topic) f) → IsFoundIn words f
+    → ((names : List Text) → AsksFor words names → IsExplanationOf names f) → IsFoundIn words f
 found_in_taken words (fault.Usage error) taken unhelped task explained =
     inr (record { taken = taken; task = task; explanation = explained })
 found_in_taken words (fault.Help error) taken unhelped task explained = absurd unhelped
-found_in_taken words (fault.Explanation topic) taken unhelped task explained = taken
+found_in_taken words (fault.Explanation topics) taken unhelped task explained = taken
 found_in_taken words fault.OutOfMemory taken unhelped task explained = tt

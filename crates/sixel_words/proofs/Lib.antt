@@ -6,3 +6,4 @@ pub mod WishLemmas
 pub mod FlagLemmas
 pub mod ArgumentLemmas
 pub mod ColourLemmas
+pub mod TellingLemmas

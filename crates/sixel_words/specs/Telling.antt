@@ -5,7 +5,7 @@ use Rattle.std.specs.Io.KnownBytes.{Appends}
 use Rattle.sixel_io.specs.Devices.{Change, SinkState, one_more}
 use Rattle.sixel_run.specs.declared.fault.RunFault.TheVariants as run
 use Rattle.sixel_run.specs.Texts.{Text, fault_line}
-use Rattle.sixel_explain.specs.Explanations.{IsExplanation}
+use Rattle.sixel_explain.specs.Explanations.{AreExplanations}
 use Rattle.sixel_program.specs.declared.exit.Exit.{Exit}
 use Rattle.sixel_program.specs.declared.exit.Exit.TheVariants.{Done, Refused, Usage}
 use Rattle.sixel_program.specs.Exits.{IsPut}
@@ -37,8 +37,8 @@ ExplanationEnds text exit output errors =
 -- faults to the errors
 abbrev pub WordsEnd : WordsFault → Exit → Change SinkState → Change SinkState → Type 0
 WordsEnd (fault.Help text) exit output errors = (exit ≡ Done) × IsShown output × IsLeft errors
-WordsEnd (fault.Explanation topic) exit output errors =
-    (text : Text) × IsExplanation topic text × ExplanationEnds text exit output errors
+WordsEnd (fault.Explanation topics) exit output errors =
+    (text : Text) × AreExplanations topics.items text × ExplanationEnds text exit output errors
 WordsEnd (fault.Usage text) exit output errors = (exit ≡ Usage) × IsLeft output × IsUsageSaid errors
 WordsEnd fault.OutOfMemory exit output errors =
     (exit ≡ Refused) × IsLeft output × IsPut (fault_line run.OutOfMemory) errors

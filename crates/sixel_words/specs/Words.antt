@@ -1,6 +1,6 @@
 -- The command line: what the arguments ask for, in the terms of clap's contracts.
 use Rattle.std.specs.Prelude.{◌≡◌, ◌≢◌, ◌⊎◌, ◌≤◌, ℕ, Bool, false, true, List, [], ◌∷◌, Option, Some, codes, pos, ⊤}
-use Rattle.std.specs.Prelude.{◌++◌, find, length, map, if◌then◌else◌, option_map, unwrap_or}
+use Rattle.std.specs.Prelude.{◌++◌, find, length, map, if◌then◌else◌, unwrap_or}
 use Rattle.std.specs.List.{list_any}
 use Rattle.std.specs.Option.{option_and_then, option_map_or}
 use Rattle.std.specs.Str.{bytes_eq}
@@ -9,6 +9,7 @@ use Rattle.sixel_model.specs.declared.colour.Parts.{Parts}
 use Rattle.sixel_model.specs.declared.colour.Parts.TheVariants.{Rgb, Hls}
 use Rattle.sixel_model.specs.declared.profile.Profile.{Profile}
 use Rattle.sixel_model.specs.declared.profile.Profile.TheVariants.{Registers16, Registers256}
+use Rattle.sixel_ppm.specs.PpmReading as ppm
 use Rattle.sixel_terminal.specs.Limits.{most_screen_side}
 use Rattle.clap.specs.Faults.{fault_of}
 use Rattle.clap.specs.Kinds.{IsAmong, Kinds}
@@ -25,7 +26,6 @@ use Rattle.clap.specs.declared.parser.matches.ValueSource.{ValueSource}
 use Rattle.clap.specs.declared.parser.matches.ValueSource.TheVariants.{CommandLine}
 use Rattle.sixel_run.specs.declared.task.Task.{Task}
 use Rattle.sixel_run.specs.declared.task.Task.TheVariants as task
-use Rattle.sixel_explain.specs.declared.explanations.Topic.{Topic}
 use Rattle.sixel_words.specs.declared.words.WordsFault.{WordsFault}
 use Rattle.sixel_words.specs.declared.words.WordsFault.TheVariants as fault
 use Rattle.sixel_explain.specs.Explanations.{Asks, topic_name}
@@ -61,7 +61,7 @@ side name fallback = record (new_rule name) {
   parser = Some (parser.Signed (pos 1) (pos most_screen_side));
 }
 
--- `--background R,G,B`, by default `0,0,0`
+-- `--background COLOUR`, by default `0,0,0`
 abbrev pub background : Rule
 background = record (new_rule (codes "background")) {
   long = Some (codes "background");
@@ -114,13 +114,18 @@ abbrev pub explain_app : App
 explain_app =
     with_rule (new_app (codes "explain")) (record (new_rule (codes "name")) { action = Some Append; value_names = 1 })
 
--- `sixel`, with a version, and with a required subcommand; an option may be given again, and its last value counts
+-- `sixel`, with a version, which each subcommand has too, and with a required subcommand; an option may be given again,
+-- and its last value counts
 abbrev pub sixel_app : App
 sixel_app =
     with_subcommand (with_subcommand (with_subcommand (with_subcommand (with_subcommand (with_subcommand
     (with_subcommand (with_subcommand (with_subcommand
-    (on_top (λ s. record s { has_version = true; subcommand_required = true; args_override_self = true })
-    (new_app (codes "sixel")))
+    (on_top (λ s. record s {
+      has_version = true;
+      propagate_version = true;
+      subcommand_required = true;
+      args_override_self = true;
+    }) (new_app (codes "sixel")))
     (plain_app (codes "list")).top) check_app.top) survey_app.top) scan_app.top) (profiled_app (codes "render")).top)
     (profiled_app (codes "encode")).top) show_app.top) mend_app.top) explain_app.top
 
@@ -173,12 +178,29 @@ pub record IsPercentage (text : Text) (n : ℕ) : Type 0 where
   pub value : digits_value 10 text ≡ n
   pub most : n ≤ 100
 
--- the text is the colour with these percentages of red, green and blue, in this order and with commas between them
-abbrev pub IsColourText : Text → Parts → Type 0
-IsColourText text (Rgb red green blue) = (r : Text) × (g : Text) × (b : Text)
+-- the text has these percentages of red, green and blue, in this order and with commas between them
+abbrev pub ArePercentages : Text → Parts → Type 0
+ArePercentages text (Rgb red green blue) = (r : Text) × (g : Text) × (b : Text)
     × (text ≡ r ++ codes "," ++ g ++ codes "," ++ b)
     × IsPercentage r red × IsPercentage g green × IsPercentage b blue
-IsColourText text (Hls hue lightness saturation) = ⊥
+ArePercentages text (Hls hue lightness saturation) = ⊥
+
+-- the text is the sample n, from 0 to 255: two hexadecimal digits
+pub record IsSample (text : Text) (n : ℕ) : Type 0 where
+  pub numeral : IsNumeral 16 text
+  pub two : length text ≡ 2
+  pub value : digits_value 16 text ≡ n
+
+-- the text is `#` and the samples of red, green and blue, in this order. The colour has the nearest percentage of each,
+-- as it has of the samples of a PPM with maxval 255
+abbrev pub AreSamples : Text → Parts → Type 0
+AreSamples text colour = (r : Text) × (g : Text) × (b : Text) × (red : ℕ) × (green : ℕ) × (blue : ℕ)
+    × (text ≡ codes "#" ++ r ++ g ++ b) × IsSample r red × IsSample g green × IsSample b blue
+    × (colour ≡ ppm.colour_of 255 red green blue)
+
+-- the text is this colour, in percentages or in samples
+abbrev pub IsColourText : Text → Parts → Type 0
+IsColourText text colour = ArePercentages text colour ⊎ AreSamples text colour
 
 -- the value of the option is this colour
 abbrev pub HasColour : Text → List Row → Parts → Type 0
@@ -235,27 +257,27 @@ IsRequestOf words t is_quiet names = (name : Text) × (rows : List Row)
 
 -- ---- explanations
 
--- the arguments ask for the explanation of this name, or without one for the list of names
-abbrev pub AsksFor : List Text → Option Text → Type 0
-AsksFor words name = (rows : List Row)
-    × (subcommand_of sixel_app words ≡ Some (codes "explain", rows)) × Asks (all_of (codes "name") rows) name
+-- the arguments ask for the explanations of these names, or without one for the list of names
+abbrev pub AsksFor : List Text → List Text → Type 0
+AsksFor words names = (rows : List Row)
+    × (subcommand_of sixel_app words ≡ Some (codes "explain", rows)) × Asks (all_of (codes "name") rows) names
 
--- an explanation is the one that a subcommand with this name and these options asks for
+-- the explanations are those that a subcommand with this name and these options asks for
 abbrev pub IsAskedIn : Text → List Row → WordsFault → Type 0
-IsAskedIn name rows (fault.Explanation topic) =
-    (name ≡ codes "explain") × Asks (all_of (codes "name") rows) (option_map topic_name topic)
+IsAskedIn name rows (fault.Explanation topics) =
+    (name ≡ codes "explain") × Asks (all_of (codes "name") rows) (map topic_name topics.items)
 IsAskedIn name rows _ = ⊤
 
--- an explanation is the one that these arguments ask for
+-- the explanations are those that these arguments ask for
 abbrev pub IsAskedBy : List Text → WordsFault → Type 0
-IsAskedBy words (fault.Explanation topic) = AsksFor words (option_map topic_name topic)
+IsAskedBy words (fault.Explanation topics) = AsksFor words (map topic_name topics.items)
 IsAskedBy words _ = ⊤
 
--- the explanation of this name, or OutOfMemory
-abbrev pub IsExplanationOf : Option Text → WordsFault → Type 0
-IsExplanationOf name (fault.Explanation topic) = option_map topic_name topic ≡ name
-IsExplanationOf name fault.OutOfMemory = ⊤
-IsExplanationOf name _ = ⊥
+-- the explanations of these names, in this order, or OutOfMemory
+abbrev pub IsExplanationOf : List Text → WordsFault → Type 0
+IsExplanationOf names (fault.Explanation topics) = map topic_name topics.items ≡ names
+IsExplanationOf names fault.OutOfMemory = ⊤
+IsExplanationOf names _ = ⊥
 
 -- ---- usage errors and help
 
@@ -264,16 +286,18 @@ abbrev pub IsSortedOut : WordsFault → Type 0
 IsSortedOut (fault.Usage error) = (kind_of error ≢ kind.DisplayHelp) × (kind_of error ≢ kind.DisplayVersion)
     × (kind_of error ≢ kind.OutOfMemory)
 IsSortedOut (fault.Help error) = (kind_of error ≡ kind.DisplayHelp) ⊎ (kind_of error ≡ kind.DisplayVersion)
-IsSortedOut (fault.Explanation topic) = ⊤
+IsSortedOut (fault.Explanation topics) = ⊤
 IsSortedOut fault.OutOfMemory = ⊤
 
--- the kinds of clap's errors that may get a tip: a subcommand that there isn't, and an argument that isn't expected
+-- the kinds of clap's errors of which we may change the text: a subcommand that there isn't, an argument that isn't
+-- expected, and a value that isn't taken
 abbrev pub may_get_a_tip : ErrorKind → Bool
 may_get_a_tip kind.InvalidSubcommand = true
 may_get_a_tip kind.UnknownArgument = true
+may_get_a_tip kind.ValueValidation = true
 may_get_a_tip _ = false
 
--- an error that is shown is this one, or this one with a tip, which is of the same kind
+-- an error that is shown is this one, or this one with another text, which is of the same kind
 abbrev pub HoldsError : Error → WordsFault → Type 0
 HoldsError error (fault.Usage held) =
     (kind_of held ≡ kind_of error) × (may_get_a_tip (kind_of error) ≡ false → held ≡ error)
@@ -282,14 +306,14 @@ HoldsError error _ = ⊤
 
 -- it is no explanation
 abbrev pub IsUnexplained : WordsFault → Type 0
-IsUnexplained (fault.Explanation topic) = ⊥
+IsUnexplained (fault.Explanation topics) = ⊥
 IsUnexplained _ = ⊤
 
 -- neither help nor an explanation: a usage error or OutOfMemory
 abbrev pub IsRefusal : WordsFault → Type 0
 IsRefusal (fault.Usage error) = ⊤
 IsRefusal (fault.Help error) = ⊥
-IsRefusal (fault.Explanation topic) = ⊥
+IsRefusal (fault.Explanation topics) = ⊥
 IsRefusal fault.OutOfMemory = ⊤
 
 -- neither help nor the version
@@ -303,18 +327,18 @@ IsNoHelp _ = ⊤
 abbrev pub kinds_of : List Text → Kinds
 kinds_of words = fault_of sixel_app words
 
--- clap accepts the arguments, but they ask for no task, and for no explanation that exists
+-- clap accepts the arguments, but they ask for no task and for no explanations
 pub record AskForNothing (words : List Text) : Type 0 where
   pub taken : kinds_of words ≡ []
   pub task : (t : Task) → IsTaskOf words t → ⊥
-  pub explanation : (topic : Option Topic) → AsksFor words (option_map topic_name topic) → ⊥
+  pub explanation : (names : List Text) → AsksFor words names → ⊥
 
 -- Usage and Help have an error of a kind that clap finds in the arguments; Usage also fits arguments that clap accepts
--- and that ask for nothing; with an explanation, clap accepts them
+-- and that ask for nothing; with explanations, clap accepts them
 abbrev pub IsFoundIn : List Text → WordsFault → Type 0
 IsFoundIn words (fault.Usage error) = IsAmong (kind_of error) (kinds_of words) ⊎ AskForNothing words
 IsFoundIn words (fault.Help error) = IsAmong (kind_of error) (kinds_of words)
-IsFoundIn words (fault.Explanation topic) = kinds_of words ≡ []
+IsFoundIn words (fault.Explanation topics) = kinds_of words ≡ []
 IsFoundIn words fault.OutOfMemory = ⊤
 
 -- what the fault may be if these arguments name no task
@@ -324,8 +348,7 @@ pub record IsFaultFor (words : List Text) (f : WordsFault) : Type 0 where
   -- if clap accepts the arguments and they name a task, the fault can only be OutOfMemory
   pub accepted : takes sixel_app words ≡ true → (t : Task) → IsTaskOf words t → f ≡ fault.OutOfMemory
   pub asked : IsAskedBy words f
-  -- if clap accepts the arguments and they ask for an explanation, the fault is that one or OutOfMemory
-  pub explained : takes sixel_app words ≡ true → (topic : Option Topic)
-      → AsksFor words (option_map topic_name topic) → IsExplanationOf (option_map topic_name topic) f
+  -- if clap accepts the arguments and they ask for explanations, the fault is these or OutOfMemory
+  pub explained : takes sixel_app words ≡ true → (names : List Text) → AsksFor words names → IsExplanationOf names f
   -- if clap accepts the arguments, the fault isn't help or the version
   pub unhelped : takes sixel_app words ≡ true → IsNoHelp f

@@ -1,8 +1,10 @@
 //! Colours as the command line gives them.
 
-ghost use Rattle.std.specs.Prelude.{◌≡◌, ℕ, IfSome, IsNone};
+ghost use Rattle.std.specs.Prelude.{◌≡◌, ◌∷◌, ◌<◌, ◌≤◌, [], ℕ, IfSome, IsNone};
+ghost use Rattle.std.specs.Char.{digit_value};
 ghost use Rattle.sixel_model.specs.declared.colour.Parts.{Parts};
-ghost use Rattle.sixel_words.specs.Words.{IsColourText, IsPercentage};
+ghost use Rattle.sixel_ppm.specs.PpmReading.{percent};
+ghost use Rattle.sixel_words.specs.Words.{ArePercentages, AreSamples, IsColourText, IsPercentage, IsSample};
 
 use sixel_model::Colour;
 
@@ -21,9 +23,9 @@ fn percentage_of(text: &str) -> Option<u8>
 }
 
 /// The colour that a text such as `100,0,50` is: red, green and blue in percent.
-pub fn colour_of(text: &str) -> Option<Colour>
-    ensures some { IfSome result (IsColourText text.now) }
-    ensures none { IsNone result → (colour : Parts) → IsColourText text.now colour → ⊥ }
+fn colour_of_percentages(text: &str) -> Option<Colour>
+    ensures some { IfSome result (ArePercentages text.now) }
+    ensures none { IsNone result → (colour : Parts) → ArePercentages text.now colour → ⊥ }
 {
     let (red, rest) = text.split_once(',')?;
     let (green, blue) = rest.split_once(',')?;
@@ -32,4 +34,53 @@ pub fn colour_of(text: &str) -> Option<Colour>
         percentage_of(green)?,
         percentage_of(blue)?,
     )
+}
+
+/// The value of a hexadecimal digit.
+fn digit_of(byte: u8) -> Option<u8>
+    ensures some { IfSome result (λ n. (digit_value byte ≡ n) × (n < 16)) }
+    ensures none { IsNone result → 16 ≤ digit_value byte }
+{
+    match (byte as char).to_digit(16) {
+        Some(digit) => Some(digit as u8),
+        None => None,
+    }
+}
+
+/// The percentage that is nearest to a sample, which is two hexadecimal digits.
+fn percent_of(high: u8, low: u8) -> Option<u8>
+    ensures some { IfSome result (λ n. (sample : ℕ) × IsSample (high ∷ low ∷ []) sample × (percent 255 sample ≡ n)) }
+    ensures in_range { IfSome result (λ n. n ≤ 100) }
+    ensures none { IsNone result → (sample : ℕ) → IsSample (high ∷ low ∷ []) sample → ⊥ }
+{
+    let sample = 16 * digit_of(high)? + digit_of(low)?;
+    let share = (200 * sample as u32 + 255) / 510;
+    Some(share as u8)
+}
+
+/// The colour that a text such as `#ff0080` is: the samples of red, green and blue.
+fn colour_of_samples(text: &str) -> Option<Colour>
+    ensures some { IfSome result (AreSamples text.now) }
+    ensures none { IsNone result → (colour : Parts) → AreSamples text.now colour → ⊥ }
+{
+    match text.as_bytes() {
+        [b'#', a, b, c, d, e, f] => {
+            let red = percent_of(*a, *b)?;
+            let green = percent_of(*c, *d)?;
+            let blue = percent_of(*e, *f)?;
+            Some(Colour::of_percentages(red, green, blue))
+        }
+        _ => None,
+    }
+}
+
+/// The colour that a text is: three percentages, or `#` and three samples.
+pub fn colour_of(text: &str) -> Option<Colour>
+    ensures some { IfSome result (IsColourText text.now) }
+    ensures none { IsNone result → (colour : Parts) → IsColourText text.now colour → ⊥ }
+{
+    match colour_of_samples(text) {
+        Some(colour) => Some(colour),
+        None => colour_of_percentages(text),
+    }
 }

@@ -2,7 +2,7 @@
 
 ghost use Rattle.std.specs.Prelude.{◌≡◌, IfOk, codes, false};
 ghost use Rattle.clap.specs.Walk.{rule_of};
-ghost use Rattle.clap.specs.Simple.{app_of};
+ghost use Rattle.clap.specs.Simple.{app_of, new_app};
 ghost use Rattle.clap.specs.declared.builder.command.Command.TheViews.{out-Command as fields_of};
 ghost use Rattle.sixel_words.specs.Words.{background, check_app, explain_app, file, files, flag, mend_app, plain_app};
 ghost use Rattle.sixel_words.specs.Words.{profiled_app, quiet, scan_app, show_app, side, sixel_app, survey_app};
@@ -13,10 +13,14 @@ use clap::{Arg, ArgAction, Command};
 use sixel_run::MOST_SCREEN_SIDE;
 use std::alloc::{AllocError, Global};
 
+/// The program's name, as `--version` prints it.
+const NAME: &str = "sixel";
+
 /// What `--version` prints after the program's name.
 const VERSION: &str = "1.0.0";
 
-/// Each task is a subcommand, and so is `explain`. An option may be given again, and its last value counts.
+/// Each task is a subcommand, and so is `explain`. An option may be given again, and its last value counts. `--version`
+/// may be given before a subcommand or after it.
 pub fn sixel_command<'a>(alloc: Global) -> Result<Command<'a>, AllocError>
     ensures { IfOk result (λ c. app_of c ≡ sixel_app) }
 {
@@ -24,7 +28,9 @@ pub fn sixel_command<'a>(alloc: Global) -> Result<Command<'a>, AllocError>
         .about(
             "Checks, lists, draws, mends and writes sixel pictures, from files or standard input",
         )
+        .after_help(help::SIXEL)
         .version(VERSION)
+        .propagate_version(true)
         .subcommand_required(true)
         .args_override_self(true)
         .subcommand(list_command(alloc)?)?
@@ -38,15 +44,34 @@ pub fn sixel_command<'a>(alloc: Global) -> Result<Command<'a>, AllocError>
         .subcommand(explain_command(alloc)?)
 }
 
+/// A subcommand with its help, and without arguments. Its version is that of `sixel`.
+fn task_command<'a>(
+    alloc: Global,
+    name: &'a str,
+    about: &'a str,
+    help: &'a str,
+) -> Result<Command<'a>, AllocError>
+    ensures app { IfOk result (λ c. app_of c ≡ new_app name.entry.now) }
+    ensures local { IfOk result (λ c. (fields_of c).has_globals ≡ false) }
+{
+    Command::new(alloc, name)
+        .about(about)
+        .after_help(help)
+        .display_name(NAME)
+}
+
 /// `list`, with an optional file.
 pub fn list_command<'a>(alloc: Global) -> Result<Command<'a>, AllocError>
     ensures app { IfOk result (λ c. app_of c ≡ plain_app (codes "list")) }
     ensures local { IfOk result (λ c. (fields_of c).has_globals ≡ false) }
 {
-    Command::new(alloc, "list")
-        .about("Lists the commands of the picture, one per line")
-        .after_help(help::LIST)
-        .arg(file_arg(alloc))
+    task_command(
+        alloc,
+        "list",
+        "Lists the commands of the picture, one per line",
+        help::LIST,
+    )?
+    .arg(file_arg(alloc))
 }
 
 /// `render`, with `--wide` and an optional file.
@@ -85,69 +110,79 @@ fn profiled_command<'a>(
     ensures app { IfOk result (λ c. app_of c ≡ profiled_app name.entry.now) }
     ensures local { IfOk result (λ c. (fields_of c).has_globals ≡ false) }
 {
-    Command::new(alloc, name)
-        .about(about)
-        .after_help(help)
+    task_command(alloc, name, about, help)?
         .arg(wide_arg(alloc))?
         .arg(file_arg(alloc))
 }
 
-/// `explain`, with any number of words.
+/// `explain`, with any number of names, or the words of a line.
 pub fn explain_command<'a>(alloc: Global) -> Result<Command<'a>, AllocError>
     ensures app { IfOk result (λ c. app_of c ≡ explain_app) }
     ensures local { IfOk result (λ c. (fields_of c).has_globals ≡ false) }
 {
-    Command::new(alloc, "explain")
-        .about("Explains a rule or a refusal by its name, or lists all names")
-        .after_help(help::EXPLAIN)
-        .arg(
-            Arg::new(alloc, "name")
-                .action(ArgAction::Append)
-                .value_name("NAME")
-                .help("A name such as Uncovered or FieldCount, or a line that contains one"),
-        )
+    task_command(
+        alloc,
+        "explain",
+        "Explains rules and refusals by their names, or lists all names",
+        help::EXPLAIN,
+    )?
+    .arg(
+        Arg::new(alloc, "name")
+            .action(ArgAction::Append)
+            .value_name("NAME")
+            .help("A name such as Uncovered or FieldCount, or a line that contains one"),
+    )
 }
 
 /// `check`, with any number of files.
-fn check_command<'a>(alloc: Global) -> Result<Command<'a>, AllocError>
+pub fn check_command<'a>(alloc: Global) -> Result<Command<'a>, AllocError>
     ensures app { IfOk result (λ c. app_of c ≡ check_app) }
     ensures local { IfOk result (λ c. (fields_of c).has_globals ≡ false) }
 {
-    Command::new(alloc, "check")
-        .about("Says whether the picture is portable, or which rule it breaks first")
-        .after_help(help::CHECK)
-        .arg(wide_arg(alloc))?
-        .arg(quiet_arg(alloc))?
-        .arg(files_arg(alloc))
+    task_command(
+        alloc,
+        "check",
+        "Says whether the picture is portable, or which rule it breaks first",
+        help::CHECK,
+    )?
+    .arg(wide_arg(alloc))?
+    .arg(quiet_arg(alloc))?
+    .arg(files_arg(alloc))
 }
 
 /// `survey`, with any number of files.
-fn survey_command<'a>(alloc: Global) -> Result<Command<'a>, AllocError>
+pub fn survey_command<'a>(alloc: Global) -> Result<Command<'a>, AllocError>
     ensures app { IfOk result (λ c. app_of c ≡ survey_app) }
     ensures local { IfOk result (λ c. (fields_of c).has_globals ≡ false) }
 {
-    Command::new(alloc, "survey")
-        .about("Says which rules the picture breaks, how often, and where first")
-        .after_help(help::SURVEY)
-        .arg(wide_arg(alloc))?
-        .arg(files_arg(alloc))
+    task_command(
+        alloc,
+        "survey",
+        "Says which rules the picture breaks, how often, and where first",
+        help::SURVEY,
+    )?
+    .arg(wide_arg(alloc))?
+    .arg(files_arg(alloc))
 }
 
 /// `scan`, with two options and any number of files.
-fn scan_command<'a>(alloc: Global) -> Result<Command<'a>, AllocError>
+pub fn scan_command<'a>(alloc: Global) -> Result<Command<'a>, AllocError>
     ensures app { IfOk result (λ c. app_of c ≡ scan_app) }
     ensures local { IfOk result (λ c. (fields_of c).has_globals ≡ false) }
 {
-    Command::new(alloc, "scan")
-        .about("Checks each picture in what a program writes to a terminal")
-        .after_help(help::SCAN)
-        .arg(wide_arg(alloc))?
-        .arg(flag_arg(
-            alloc,
-            "eight-bit",
-            "Let the bytes 90 and 9C start and end a picture, too",
-        ))?
-        .arg(files_arg(alloc))
+    task_command(
+        alloc,
+        "scan",
+        "Checks each picture in what a program writes to a terminal",
+        help::SCAN,
+    )?
+    .arg(wide_arg(alloc))?
+    .arg(flag_arg(
+        alloc,
+        "eight-bit",
+        "Let the bytes 90 and 9C start and end a picture, too",
+    ))?
+    .arg(files_arg(alloc))
 }
 
 /// `show`, with seven options and an optional file.
@@ -155,35 +190,38 @@ pub fn show_command<'a>(alloc: Global) -> Result<Command<'a>, AllocError>
     ensures app { IfOk result (λ c. app_of c ≡ show_app) }
     ensures local { IfOk result (λ c. (fields_of c).has_globals ≡ false) }
 {
-    Command::new(alloc, "show")
-        .about("Draws the picture as one terminal would, and writes its screen as a PPM")
-        .after_help(help::SHOW)
-        .arg(wide_arg(alloc))?
-        .arg(flag_arg(
-            alloc,
-            "showing",
-            "Show each pixel in the final colour of its register",
-        ))?
-        .arg(flag_arg(alloc, "fill", "Fill the declared box with register 0"))?
-        .arg(flag_arg(
-            alloc,
-            "define-selects",
-            "Let a colour definition also select its register",
-        ))?
-        .arg(side_arg(
-            alloc,
-            "width",
-            "800",
-            "The screen's width in pixels, 1 to 4096",
-        ))?
-        .arg(side_arg(
-            alloc,
-            "height",
-            "480",
-            "The screen's height in pixels, 1 to 4096",
-        ))?
-        .arg(flag_arg(alloc, "box", "Make the screen as large as the declared box"))?
-        .arg(file_arg(alloc))
+    task_command(
+        alloc,
+        "show",
+        "Draws the picture as one terminal would, and writes its screen as a PPM",
+        help::SHOW,
+    )?
+    .arg(wide_arg(alloc))?
+    .arg(flag_arg(
+        alloc,
+        "showing",
+        "Show each pixel in the final colour of its register",
+    ))?
+    .arg(flag_arg(alloc, "fill", "Fill the declared box with register 0"))?
+    .arg(flag_arg(
+        alloc,
+        "define-selects",
+        "Let a colour definition also select its register",
+    ))?
+    .arg(side_arg(
+        alloc,
+        "width",
+        "800",
+        "The screen's width in pixels, 1 to 4096",
+    ))?
+    .arg(side_arg(
+        alloc,
+        "height",
+        "480",
+        "The screen's height in pixels, 1 to 4096",
+    ))?
+    .arg(flag_arg(alloc, "box", "Make the screen as large as the declared box"))?
+    .arg(file_arg(alloc))
 }
 
 /// `mend`, with four options and an optional file.
@@ -191,22 +229,25 @@ pub fn mend_command<'a>(alloc: Global) -> Result<Command<'a>, AllocError>
     ensures app { IfOk result (λ c. app_of c ≡ mend_app) }
     ensures local { IfOk result (λ c. (fields_of c).has_globals ≡ false) }
 {
-    Command::new(alloc, "mend")
-        .about("Makes a portable picture of what one terminal shows of a broken one")
-        .after_help(help::MEND)
-        .arg(wide_arg(alloc))?
-        .arg(background_arg(alloc))?
-        .arg(flag_arg(
-            alloc,
-            "showing",
-            "Show each pixel in the final colour of its register",
-        ))?
-        .arg(flag_arg(
-            alloc,
-            "define-selects",
-            "Let a colour definition also select its register",
-        ))?
-        .arg(file_arg(alloc))
+    task_command(
+        alloc,
+        "mend",
+        "Makes a portable picture of what one terminal shows of a broken one",
+        help::MEND,
+    )?
+    .arg(wide_arg(alloc))?
+    .arg(background_arg(alloc))?
+    .arg(flag_arg(
+        alloc,
+        "showing",
+        "Show each pixel in the final colour of its register",
+    ))?
+    .arg(flag_arg(
+        alloc,
+        "define-selects",
+        "Let a colour definition also select its register",
+    ))?
+    .arg(file_arg(alloc))
 }
 
 /// `--name`, without a value.
@@ -233,16 +274,16 @@ fn side_arg<'a>(alloc: Global, name: &'a str, fallback: &'a str, help: &'a str) 
         .help(help)
 }
 
-/// `--background R,G,B`, by default black.
+/// `--background COLOUR`, by default black.
 fn background_arg<'a>(alloc: Global) -> Arg<'a>
     ensures rule { rule_of result ≡ background }
     ensures local { result.global ≡ false }
 {
     Arg::new(alloc, "background")
         .long("background")
-        .value_name("R,G,B")
+        .value_name("COLOUR")
         .default_value("0,0,0")
-        .help("The colour of what isn't painted: red, green and blue in percent")
+        .help("What isn't painted: red, green and blue in percent, or '#RRGGBB'")
 }
 
 /// `--wide`, which selects the profile of 256 registers.

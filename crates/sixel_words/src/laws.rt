@@ -1,6 +1,6 @@
 //! Laws about the definitions. Each function's contract is the law.
 
-ghost use Rattle.std.specs.Prelude.{◌≡◌, ◌∷◌, ◌||◌, [], All, Contains, List, None, Some};
+ghost use Rattle.std.specs.Prelude.{◌≡◌, ◌∷◌, ◌||◌, [], All, Contains, List};
 ghost use Rattle.std.specs.Prelude.{codes, false, if◌then◌else◌, map, true};
 ghost use Rattle.sixel_model.specs.declared.colour.Parts.TheVariants.{Rgb};
 ghost use Rattle.sixel_model.specs.declared.profile.Profile.TheVariants.{Registers16, Registers256};
@@ -46,7 +46,7 @@ pub fn the_word_scan_gives_a_scan()
 {}
 
 /// `sixel mend` is accepted, and mends without any flag, with 16 registers and a black background. So is `--background`,
-/// whose colour is red, green and blue.
+/// whose colour is red, green and blue: three percentages, or `#` and three samples.
 pub fn the_word_mend_gives_a_mend()
     ensures taken { (program : Text) → takes sixel_app (program ∷ codes "mend" ∷ []) ≡ true }
     ensures task { (program : Text) →
@@ -56,6 +56,11 @@ pub fn the_word_mend_gives_a_mend()
     ensures coloured { (program : Text) →
         IsTaskOf (program ∷ codes "mend" ∷ codes "--showing" ∷ codes "--background" ∷ codes "100,50,0" ∷ [])
         (Mend Registers16 (Rgb 100 50 0) true false) }
+    ensures sampled_taken { (program : Text) →
+        takes sixel_app (program ∷ codes "mend" ∷ codes "--background" ∷ codes "#Ff8002" ∷ []) ≡ true }
+    ensures sampled { (program : Text) →
+        IsTaskOf (program ∷ codes "mend" ∷ codes "--background" ∷ codes "#Ff8002" ∷ [])
+        (Mend Registers16 (Rgb 100 50 1) false false) }
 {}
 
 /// `sixel show` is accepted, and shows without any flag, with 16 registers on a screen of 800 by 480 pixels.
@@ -78,7 +83,7 @@ pub fn the_words_show_box_give_a_box()
 {}
 
 /// clap finds that the arguments `--help`, `-h`, and `--help` after the name of each subcommand ask for help, and that
-/// `--version` and `-V` ask for the version.
+/// `--version`, `-V`, and `--version` after the name of each subcommand ask for the version.
 pub fn the_word_help_asks_for_help()
     ensures long { (program : Text) → kinds_of (program ∷ codes "--help" ∷ []) ≡ DisplayHelp ∷ [] }
     ensures short { (program : Text) → kinds_of (program ∷ codes "-h" ∷ []) ≡ DisplayHelp ∷ [] }
@@ -86,6 +91,9 @@ pub fn the_word_help_asks_for_help()
         ≡ map (λ name. DisplayHelp ∷ []) subcommands }
     ensures version { (program : Text) → kinds_of (program ∷ codes "--version" ∷ []) ≡ DisplayVersion ∷ [] }
     ensures short_version { (program : Text) → kinds_of (program ∷ codes "-V" ∷ []) ≡ DisplayVersion ∷ [] }
+    ensures version_below { (program : Text) →
+        map (λ name. kinds_of (program ∷ name ∷ codes "--version" ∷ [])) subcommands
+        ≡ map (λ name. DisplayVersion ∷ []) subcommands }
 {}
 
 /// Without arguments, with an unknown option, with a side of 0 and with a second file of a task that reads one, clap
@@ -121,7 +129,7 @@ pub fn an_option_may_come_again()
 /// `sixel explain` is accepted, and asks for the list of names.
 pub fn the_word_explain_asks_for_the_list()
     ensures taken { (program : Text) → takes sixel_app (program ∷ codes "explain" ∷ []) ≡ true }
-    ensures asked { (program : Text) → AsksFor (program ∷ codes "explain" ∷ []) None }
+    ensures asked { (program : Text) → AsksFor (program ∷ codes "explain" ∷ []) [] }
 {}
 
 /// `sixel explain NAME` is accepted for each listed name, and asks for its explanation.
@@ -129,5 +137,22 @@ pub fn each_name_can_be_asked_for()
     ensures taken { (program : Text) (topic : Topic) →
         takes sixel_app (program ∷ codes "explain" ∷ topic_name topic ∷ []) ≡ true }
     ensures asked { (program : Text) (topic : Topic) →
-        AsksFor (program ∷ codes "explain" ∷ topic_name topic ∷ []) (Some (topic_name topic)) }
+        AsksFor (program ∷ codes "explain" ∷ topic_name topic ∷ []) (topic_name topic ∷ []) }
+{}
+
+/// `sixel explain` takes several names, and asks for their explanations in their order. If one of the words is no name,
+/// wherever it is, it asks for nothing; a line asks for its last name.
+pub fn the_word_explain_takes_several_names()
+    ensures taken { (program : Text) →
+        takes sixel_app (program ∷ codes "explain" ∷ codes "Ratio" ∷ codes "boxsize" ∷ []) ≡ true }
+    ensures asked { (program : Text) →
+        AsksFor (program ∷ codes "explain" ∷ codes "Ratio" ∷ codes "boxsize" ∷ codes "Ratio" ∷ [])
+        (codes "Ratio" ∷ codes "BoxSize" ∷ codes "Ratio" ∷ []) }
+    ensures unknown_last { (program : Text) (names : List Text) →
+        AsksFor (program ∷ codes "explain" ∷ codes "Ratio" ∷ codes "plot" ∷ []) names → ⊥ }
+    ensures unknown_first { (program : Text) (names : List Text) →
+        AsksFor (program ∷ codes "explain" ∷ codes "plot" ∷ codes "Ratio" ∷ []) names → ⊥ }
+    ensures line { (program : Text) →
+        AsksFor (program ∷ codes "explain" ∷ codes "Ratio" ∷ codes "plot:" ∷ codes "BoxSize" ∷ [])
+        (codes "BoxSize" ∷ []) }
 {}

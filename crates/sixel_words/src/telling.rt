@@ -1,12 +1,12 @@
 //! What the program does if its arguments name no task.
 
-ghost use Rattle.std.specs.Prelude.{◌≡◌, IfOk, OnOk, codes, true};
+ghost use Rattle.std.specs.Prelude.{◌≡◌, ◌∷◌, IfOk, OnOk, Some, codes, true};
 ghost use Rattle.std.specs.Io.{StartsWith};
 ghost use Rattle.std.specs.String.{string_bytes};
 ghost use Rattle.sixel_io.specs.Devices.{CountsFailure, Puts, change};
-ghost use Rattle.sixel_explain.specs.Explanations.{IsExplanation};
+ghost use Rattle.sixel_explain.specs.Explanations.{AreExplanations, AreFurther, IsExplanation};
 ghost use Rattle.sixel_run.specs.Texts.{Text};
-ghost use Rattle.sixel_words.specs.Telling.{IsShown, IsUsageSaid, WordsEnd};
+ghost use Rattle.sixel_words.specs.Telling.{ExplanationEnds, IsShown, IsUsageSaid, WordsEnd};
 
 use crate::words::WordsFault;
 use clap::Error;
@@ -16,8 +16,8 @@ use sixel_program::Exit;
 use sixel_run::{RunFault, write_fault};
 use std::alloc::{AllocError, Global};
 
-/// Ends a program whose arguments name no task: it shows the help or the explanation that was asked for, or
-/// says what is wrong. An explanation that can't be written gives `Refused`; any other text that can't be made or
+/// Ends a program whose arguments name no task: it shows the help or the explanations that were asked for, or
+/// says what is wrong. Explanations that can't be written give `Refused`; any other text that can't be made or
 /// written leaves the exit status as it is.
 pub fn tell<K: Sink, E: Sink>(
     alloc: Global,
@@ -33,19 +33,27 @@ pub fn tell<K: Sink, E: Sink>(
             show(alloc, &text, output);
             Exit::Done
         }
-        WordsFault::Explanation(topic) => match write_explanation(topic, output) {
-            Ok(()) => Exit::Done,
-            Err(_) => {
-                let _ = write_fault(&RunFault::Write, errors);
-                Exit::Refused
-            }
-        },
+        WordsFault::Explanation(topics) => explain(topics.as_slice(), output, errors),
         WordsFault::Usage(text) => {
             say_usage(alloc, &text, errors);
             Exit::Usage
         }
         WordsFault::OutOfMemory => {
             let _ = write_fault(&RunFault::OutOfMemory, errors);
+            Exit::Refused
+        }
+    }
+}
+
+/// Ends a program that was asked for these explanations.
+fn explain<K: Sink, E: Sink>(topics: &[Topic], output: &mut K, errors: &mut E) -> Exit
+    ensures { (text : Text) × AreExplanations topics.now text × ExplanationEnds text result
+        (change (K.state output.old) (K.state output.new)) (change (E.state errors.old) (E.state errors.new)) }
+{
+    match write_explanations(topics, output) {
+        Ok(()) => Exit::Done,
+        Err(_) => {
+            let _ = write_fault(&RunFault::Write, errors);
             Exit::Refused
         }
     }
@@ -87,13 +95,59 @@ fn show<K: Sink>(alloc: Global, text: &Error, out: &mut K)
     }
 }
 
-/// Writes an explanation, or on an `Err` a prefix of it, and flushes.
-fn write_explanation<K: Sink>(topic: Option<Topic>, out: &mut K) -> Result<(), DeviceFault>
-    ensures bytes { (text : Text) × IsExplanation topic text
+/// Writes the explanations, or on an `Err` a prefix of them, and flushes.
+fn write_explanations<K: Sink>(topics: &[Topic], out: &mut K) -> Result<(), DeviceFault>
+    ensures bytes { (text : Text) × AreExplanations topics.now text
         × Puts result (K.state out.old).taken (K.state out.new).taken text }
     ensures failures { CountsFailure result (K.state out.old).failures (K.state out.new).failures }
     ensures flushed { OnOk result ((K.state out.new).is_flushed ≡ true) }
 {
-    put_all(out, explanation(topic).as_bytes())?;
+    put_explanations(topics, out)?;
     out.flush()
+}
+
+/// Writes the explanations, or the list of names, or on an `Err` a prefix of them.
+fn put_explanations<K: Sink>(topics: &[Topic], out: &mut K) -> Result<(), DeviceFault>
+    ensures bytes { (text : Text) × AreExplanations topics.now text
+        × Puts result (K.state out.old).taken (K.state out.new).taken text }
+    ensures failures { CountsFailure result (K.state out.old).failures (K.state out.new).failures }
+{
+    match topics.split_first() {
+        Some((first, more)) => {
+            put_explanation(Some(*first), out)?;
+            put_further(more, out)
+        }
+        None => put_explanation(None, out),
+    }
+}
+
+/// Writes the explanations of more topics, each after an empty line, or on an `Err` a prefix of them.
+fn put_further<K: Sink>(topics: &[Topic], out: &mut K) -> Result<(), DeviceFault>
+    ensures bytes { (text : Text) × AreFurther topics.now text
+        × Puts result (K.state out.old).taken (K.state out.new).taken text }
+    ensures failures { CountsFailure result (K.state out.old).failures (K.state out.new).failures }
+{
+    for topic in topics {
+        put_next(*topic, out)?;
+    }
+    Ok(())
+}
+
+/// Writes an empty line and an explanation, or on an `Err` a prefix of them.
+fn put_next<K: Sink>(topic: Topic, out: &mut K) -> Result<(), DeviceFault>
+    ensures bytes { (text : Text) × IsExplanation (Some topic) text
+        × Puts result (K.state out.old).taken (K.state out.new).taken (10 ∷ text) }
+    ensures failures { CountsFailure result (K.state out.old).failures (K.state out.new).failures }
+{
+    put_all(out, b"\n")?;
+    put_explanation(Some(topic), out)
+}
+
+/// Writes an explanation, or on an `Err` a prefix of it.
+fn put_explanation<K: Sink>(topic: Option<Topic>, out: &mut K) -> Result<(), DeviceFault>
+    ensures bytes { (text : Text) × IsExplanation topic text
+        × Puts result (K.state out.old).taken (K.state out.new).taken text }
+    ensures failures { CountsFailure result (K.state out.old).failures (K.state out.new).failures }
+{
+    put_all(out, explanation(topic).as_bytes())
 }

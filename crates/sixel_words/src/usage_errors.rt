@@ -5,16 +5,23 @@ ghost use Rattle.clap.specs.Values.{kind_of};
 ghost use Rattle.sixel_words.specs.Words.{may_get_a_tip};
 
 use crate::commands::{
-    encode_command, explain_command, list_command, mend_command, render_command, show_command,
-    sixel_command,
+    check_command, encode_command, explain_command, list_command, mend_command, render_command,
+    scan_command, show_command, sixel_command, survey_command,
 };
 use clap::error::ErrorKind;
 use clap::{Command, Error};
-use sixel_explain::nearest;
+use sixel_explain::{nearest, topics_asked};
+use sixel_run::MOST_SCREEN_SIDE;
 use std::alloc::{AllocError, Global};
 
 /// What clap's text of a usage error begins with.
 const START: &str = "error: ";
+
+/// What clap's text of a value that isn't taken has before its reason, if the option is a side.
+const SIDE: &str = " <N>': ";
+
+/// How clap's tip on `--` begins.
+const DASHES: &str = "  tip: to pass '--";
 
 /// A usage error for this reason, with the usage text of this command.
 fn error_of(
@@ -58,7 +65,8 @@ pub fn background_error(alloc: Global, value: &str) -> Result<Error, AllocError>
     ensures { IfOk result (λ e. kind_of e ≡ ErrorKind.ValueValidation) }
 {
     let reason = format!(in alloc;
-        "invalid value '{value}' for '--background <R,G,B>': expected three percentages, as in 100,50,0"
+        "invalid value '{value}' for '--background <COLOUR>': \
+        expected three percentages, as in 100,50,0, or samples, as in '#ff8000'"
     )?;
     error_of(
         mend_command(alloc)?,
@@ -68,7 +76,7 @@ pub fn background_error(alloc: Global, value: &str) -> Result<Error, AllocError>
     )
 }
 
-/// A usage error of `explain`: no word is a name. For a misspelled name it has a tip.
+/// A usage error of `explain`: a word is no name. For a misspelled name it has a tip.
 pub fn unnamed_error(alloc: Global, said: &[&str]) -> Result<Error, AllocError>
     ensures { IfOk result (λ e. kind_of e ≡ ErrorKind.ValueValidation) }
 {
@@ -82,18 +90,28 @@ pub fn unnamed_error(alloc: Global, said: &[&str]) -> Result<Error, AllocError>
 }
 
 fn unnamed_reason(alloc: Global, said: &[&str]) -> Result<String, AllocError> {
-    let unnamed = "no rule or refusal has this name; 'sixel explain' lists the names";
-    let similar = match said {
-        [word] => nearest(alloc, word)?,
-        _ => None,
-    };
-    match similar {
+    let word = first_unnamed(alloc, said)?;
+    let unnamed = format!(in alloc;
+        "no rule or refusal has the name '{word}'; 'sixel explain' lists the names"
+    )?;
+    match nearest(alloc, word)? {
         Some(name) => { format!(in alloc; "{unnamed}\n\n  tip: a similar name exists: '{name}'") }
-        None => String::from_str(alloc, unnamed),
+        None => Ok(unnamed),
     }
 }
 
-/// This usage error of clap, with a tip if a file was named that can't be read there. The kind stays.
+/// The first word that is no name.
+fn first_unnamed<'a>(alloc: Global, said: &[&'a str]) -> Result<&'a str, AllocError> {
+    for word in said {
+        if topics_asked(alloc, &[*word])?.is_none() {
+            return Ok(*word);
+        }
+    }
+    Ok("")
+}
+
+/// This usage error of clap, with a tip if a file was named that can't be read there, without clap's tip on `--`, and
+/// with the numbers that a side may have. The kind stays.
 pub fn with_tip(alloc: Global, words: &[String], error: Error) -> Error
     ensures kind { kind_of result ≡ kind_of error }
     ensures kept { may_get_a_tip (kind_of error) ≡ false → result ≡ error }
@@ -105,7 +123,7 @@ pub fn with_tip(alloc: Global, words: &[String], error: Error) -> Error
     }
 }
 
-/// The usage error with a tip, if there is one for it.
+/// The usage error with another text, if there is one for it.
 fn tipped(alloc: Global, words: &[String], error: &Error) -> Result<Option<Error>, AllocError>
     ensures kind { IfOk result (λ tipped. IfSome tipped (λ e. kind_of e ≡ kind_of error.now)) }
     ensures none { may_get_a_tip (kind_of error.now) ≡ false → IfOk result IsNone }
@@ -118,7 +136,8 @@ fn tipped(alloc: Global, words: &[String], error: &Error) -> Result<Option<Error
             let tipped = path_error(alloc, name.as_str())?;
             Ok(Some(tipped))
         }
-        ErrorKind::UnknownArgument => second_file_error(alloc, name.as_str(), error),
+        ErrorKind::UnknownArgument => unknown_error(alloc, name.as_str(), error),
+        ErrorKind::ValueValidation => side_error(alloc, error),
         _ => Ok(None),
     }
 }
@@ -143,34 +162,66 @@ fn path_error(alloc: Global, name: &str) -> Result<Error, AllocError>
     )
 }
 
-/// The error of clap for a second file, with a tip, if the subcommand reads one file.
-fn second_file_error(alloc: Global, name: &str, error: &Error) -> Result<Option<Error>, AllocError>
-    ensures { IfOk result (λ tipped. IfSome tipped (λ e. kind_of e ≡ ErrorKind.UnknownArgument)) }
+/// The error of clap for a value of a side, with the numbers that a side may have.
+fn side_error(alloc: Global, error: &Error) -> Result<Option<Error>, AllocError>
+    ensures { IfOk result (λ tipped. IfSome tipped (λ e. kind_of e ≡ ErrorKind.ValueValidation)) }
 {
     let told = format!(in alloc; "{error}")?;
-    let Some(reason) = second_file_reason(alloc, name, told.as_str())? else {
+    let Some(reason) = side_reason(alloc, told.as_str())? else {
         return Ok(None);
     };
-    let reason = reason.as_str();
-    let kind = ErrorKind::UnknownArgument;
-    let tipped = match name {
-        "list" => error_of(list_command(alloc)?, "sixel list", kind, reason)?,
-        "render" => error_of(render_command(alloc)?, "sixel render", kind, reason)?,
-        "encode" => error_of(encode_command(alloc)?, "sixel encode", kind, reason)?,
-        "show" => error_of(show_command(alloc)?, "sixel show", kind, reason)?,
-        "mend" => error_of(mend_command(alloc)?, "sixel mend", kind, reason)?,
-        _ => return Ok(None),
-    };
+    let kind = ErrorKind::ValueValidation;
+    let tipped = error_of(show_command(alloc)?, "sixel show", kind, reason.as_str())?;
     Ok(Some(tipped))
 }
 
-/// What clap's text says, with a tip, unless it is about an option.
-fn second_file_reason(alloc: Global, name: &str, told: &str) -> Result<Option<String>, AllocError> {
+/// What clap's text says of a side, with the numbers that it may have.
+fn side_reason(alloc: Global, told: &str) -> Result<Option<String>, AllocError> {
     let told = told.strip_prefix(START).unwrap_or(told);
+    let Some((value, _)) = told.split_once(SIDE) else {
+        return Ok(None);
+    };
+    let reason = format!(in alloc; "{value}{SIDE}expected a number from 1 to {MOST_SCREEN_SIDE}")?;
+    Ok(Some(reason))
+}
+
+/// The error of clap for an argument that isn't expected, if its text changes.
+fn unknown_error(alloc: Global, name: &str, error: &Error) -> Result<Option<Error>, AllocError>
+    ensures { IfOk result (λ tipped. IfSome tipped (λ e. kind_of e ≡ ErrorKind.UnknownArgument)) }
+{
+    let told = format!(in alloc; "{error}")?;
+    let Some(reason) = unknown_reason(alloc, name, told.as_str())? else {
+        return Ok(None);
+    };
+    let command = match name {
+        "list" => list_command(alloc)?,
+        "check" => check_command(alloc)?,
+        "survey" => survey_command(alloc)?,
+        "scan" => scan_command(alloc)?,
+        "render" => render_command(alloc)?,
+        "encode" => encode_command(alloc)?,
+        "show" => show_command(alloc)?,
+        "mend" => mend_command(alloc)?,
+        "explain" => explain_command(alloc)?,
+        _ => return Ok(None),
+    };
+    let called = format!(in alloc; "sixel {name}")?;
+    let kind = ErrorKind::UnknownArgument;
+    let tipped = error_of(command, called.as_str(), kind, reason.as_str())?;
+    Ok(Some(tipped))
+}
+
+/// What clap's text says: of an option that begins with `--` without the tip on `--`, and of a second file with a tip.
+fn unknown_reason(alloc: Global, name: &str, told: &str) -> Result<Option<String>, AllocError> {
+    let told = told.strip_prefix(START).unwrap_or(told);
+    let (reason, more) = told.split_once("\n\n").unwrap_or((told, ""));
+    if more.starts_with(DASHES) {
+        let plain = String::from_str(alloc, reason)?;
+        return Ok(Some(plain));
+    }
     if told.starts_with("unexpected argument '-") {
         return Ok(None);
     }
-    let (reason, _) = told.split_once("\n\n").unwrap_or((told, ""));
     let reason = format!(in alloc;
         "{reason}\n\n  tip: '{name}' reads one file; only 'check', 'survey' and 'scan' read several"
     )?;

@@ -1,7 +1,7 @@
 //! The command line, over clap.
 
 ghost use Rattle.std.specs.Prelude.{◌≡◌, ◌≤◌, ◌↔◌, ℕ, IfOk, IfErr, IfSome, IsNone, IsTrue, [], codes};
-ghost use Rattle.std.specs.Prelude.{Option, map, option_map, true};
+ghost use Rattle.std.specs.Prelude.{List, map, true};
 ghost use Rattle.clap.specs.Walk.{all_of, rows_of};
 ghost use Rattle.clap.specs.Values.{kind_of};
 ghost use Rattle.clap.specs.Matches.{found_of};
@@ -14,8 +14,7 @@ ghost use Rattle.sixel_words.specs.Words.{HasColour, HoldsError, IsExplanationOf
 ghost use Rattle.sixel_words.specs.Words.{IsRefusal, IsRequestOf, IsNoHelp, IsSortedOut, IsTask, IsTaskOf};
 ghost use Rattle.sixel_words.specs.Words.{IsUnexplained};
 ghost use Rattle.sixel_words.specs.Words.{files_of, is_given, is_named, kinds_of, profile_of};
-ghost use Rattle.sixel_explain.specs.Explanations.{Asks, topic_name};
-ghost use Rattle.sixel_explain.specs.declared.explanations.Topic.{Topic as ATopic};
+ghost use Rattle.sixel_explain.specs.Explanations.{Asks};
 
 use crate::colours::colour_of;
 use crate::commands::sixel_command;
@@ -23,7 +22,7 @@ use crate::usage_errors::{background_error, conflict_error, unnamed_error, usage
 use clap::error::ErrorKind;
 use clap::parser::ValueSource;
 use clap::{ArgMatches, Error};
-use sixel_explain::{Topic, topic_asked};
+use sixel_explain::{Topic, topics_asked};
 use sixel_model::{Colour, Profile};
 use sixel_program::Request;
 use sixel_run::{MOST_SCREEN_SIDE, Task};
@@ -36,8 +35,8 @@ pub enum WordsFault {
     Usage(Error),
     /// Help or the version was asked for.
     Help(Error),
-    /// An explanation was asked for: of a topic, or the list of names.
-    Explanation(Option<Topic>),
+    /// Explanations were asked for: of topics, or without one the list of names.
+    Explanation(Vec<Topic>),
     /// An allocation failed.
     OutOfMemory,
 }
@@ -83,9 +82,8 @@ pub fn parse_request(alloc: Global, words: &[String]) -> Result<Request, WordsFa
 fn without_task(alloc: Global, name: &str, matches: &ArgMatches<'_>) -> WordsFault
     ensures sorted { IsSortedOut result }
     ensures asked { IsAskedIn name.now (rows_of (found_of matches.now)) result }
-    ensures explained { name.now ≡ codes "explain" → (topic : Option ATopic) →
-        Asks (all_of (codes "name") (rows_of (found_of matches.now))) (option_map topic_name topic) →
-        IsExplanationOf (option_map topic_name topic) result }
+    ensures explained { name.now ≡ codes "explain" → (names : List (List ℕ)) →
+        Asks (all_of (codes "name") (rows_of (found_of matches.now))) names → IsExplanationOf names result }
     ensures unhelped { IsNoHelp result }
 {
     match name {
@@ -99,22 +97,21 @@ fn without_task(alloc: Global, name: &str, matches: &ArgMatches<'_>) -> WordsFau
 fn asked(alloc: Global, matches: &ArgMatches<'_>) -> WordsFault
     ensures sorted { IsSortedOut result }
     ensures asked { IsAskedIn (codes "explain") (rows_of (found_of matches.now)) result }
-    ensures explained { (topic : Option ATopic) →
-        Asks (all_of (codes "name") (rows_of (found_of matches.now))) (option_map topic_name topic) →
-        IsExplanationOf (option_map topic_name topic) result }
+    ensures explained { (names : List (List ℕ)) →
+        Asks (all_of (codes "name") (rows_of (found_of matches.now))) names → IsExplanationOf names result }
     ensures unhelped { IsNoHelp result }
 {
     match matches.get_raw("name") {
-        None => WordsFault::Explanation(None),
-        Some(said) => match topic_asked(alloc, said) {
-            Ok(Some(topic)) => WordsFault::Explanation(Some(topic)),
+        None => WordsFault::Explanation(Vec::new(alloc)),
+        Some(said) => match topics_asked(alloc, said) {
+            Ok(Some(topics)) => WordsFault::Explanation(topics),
             Ok(None) => unexplained(alloc, said),
             Err(_) => WordsFault::OutOfMemory,
         },
     }
 }
 
-/// A usage error: nothing to explain has this name.
+/// A usage error: not each word is a name, and the line has none.
 fn unexplained(alloc: Global, said: &[&str]) -> WordsFault
     ensures sorted { IsSortedOut result }
     ensures refusal { IsRefusal result }

@@ -1,4 +1,10 @@
-//! What the help of each subcommand says below its options. A line has at most 80 columns.
+//! What the help of `sixel` and of each subcommand says below its options. A line has at most 80 columns.
+
+pub const SIXEL: &str = "Exit status: 0 done or portable, 1 broken, 2 refused, 3 usage error.
+
+Examples: sixel check plots/*.six
+          sixel explain Uncovered
+          sixel mend plot.six > mended.six";
 
 pub const LIST: &str = "Reads sixel text from FILE or, without one, from standard input. Writes to
 standard output one line for the start, for each command and for the end: its
@@ -13,7 +19,8 @@ pub const CHECK: &str =
 Writes one line for each to standard output: `portable` and the size, or
 `broken`, the rule, the byte offset and, for two rules, a pixel. With files,
 each line starts with `FILE: `. If a file is refused, the reason goes to
-standard error, and the files after it are still checked.
+standard error, and the files after it are still checked. sixel explain NAME
+says what a rule or a refusal means, and how to fix it.
 
 Exit status: 0 portable, 1 broken, 2 refused, 3 usage error; with several files
 the greatest.
@@ -26,7 +33,8 @@ Writes a line for each broken rule to standard output: the rule, how often it is
 broken, the byte offset of the first time and, for two rules, a pixel. If none
 is broken, it writes `portable` and the size. With files, each line starts with
 `FILE: `. If a file is refused, the reason goes to standard error, and the files
-after it are still read.
+after it are still read. sixel explain NAME says what a rule or a refusal means,
+and how to fix it.
 
 Exit status: 0 portable, 1 broken, 2 refused, 3 usage error; with several files
 the greatest.
@@ -46,8 +54,8 @@ A picture starts with ESC P, numbers and q, and ends after ESC \\, before anothe
 ESC, or after the byte 18 or 1A. --eight-bit is for terminals that take the
 bytes 90 and 9C as controls; in UTF-8 they are parts of letters.
 
-Exit status: 0 all portable, 1 one isn't, 2 refused or none, 3 usage error; with
-several files the greatest.
+Exit status: 0 all portable, 1 one isn't or is refused, 2 no picture or a failed
+read, 3 usage error; with several files the greatest.
 
 Example: ./test-suite | sixel scan";
 
@@ -82,20 +90,24 @@ terminal would, and writes what that shows to standard output, as portable sixel
 text. The terminal has 256 registers, which start as the VT340's 16 colours over
 and over. The picture is as large as the declared box, and larger if something
 is painted outside it. Black ink is lost on a black background: for a plot or a
-page, choose a white one. Refused: a picture without pixels, with a side above
-2,048, or of more than 16 colours, or 256 with --wide.
+page, choose a white one. COLOUR is three percentages, as in 100,50,0, or three
+samples, as in '#ff8000', each of which becomes the nearest percentage. Refused:
+a picture without pixels, with a side above 2,048, or of more than 16 colours,
+or 256 with --wide.
 
 Exit status: 0 done, 2 refused, 3 usage error.
 
 Example: sixel mend --background 100,100,100 plot.six > mended.six";
 
 pub const EXPLAIN: &str =
-    "Reads nothing. Writes to standard output what the rule or the refusal means,
-what breaks it and how to fix it; without NAME, one line for each name. Letters
-may be in any case, and NAME may be a line of check that has broken, or one that
-says why an input was refused; put -- before a line that starts with -.
+    "Reads nothing. Writes to standard output what each rule or refusal means, what
+breaks it and how to fix it; without NAME, one line for each name. Letters may
+be in any case. In place of names there may be a line of check that has broken,
+or one that says why an input was refused; put -- before a line that starts with
+a dash.
 
 Exit status: 0 done, 2 output failed, 3 usage error or unknown name.
 
 Examples: sixel explain Uncovered
+          sixel explain Ratio BoxSize
           sixel explain plot.six: broken Register 227";

@@ -1,13 +1,12 @@
 use Rattle.std.proofs.Common.{codes}
 use Rattle.std.proofs.lemmas.Result.{IfOk-weaker}
 use Rattle.sixel_words.specs.Words.{check_app}
-use Rattle.sixel_words.proofs.CommandLemmas.{ReadsAs, app_says, begun, local_says, with_arg}
+use Rattle.sixel_words.proofs.CommandLemmas.{ReadsAs, app_says, local_says, named_only, with_arg}
 use Rattle.sixel_words.proofs.commands.check_command.Goals as goal
 
 pub returns : goal.returns
 returns c =
-    let new = begun (codes "check") c.new.result c.about.result c.after_help.result _ _ c.new.ensures.app
-    c.new.ensures.local c.about.ensures c.after_help.ensures in
+    let new = named_only (codes "check") c.in_ok-task_command.ensures.app c.in_ok-task_command.ensures.local in
     let wide = with_arg new c.wide_arg.ensures.rule c.wide_arg.ensures.local c.in_ok-arg.ensures in
     let quiet = with_arg wide c.quiet_arg.ensures.rule c.quiet_arg.ensures.local c.in_ok-arg-2.ensures in
     let whole = IfOk-weaker c.arg-3.result _ (ReadsAs check_app)

@@ -1,14 +1,13 @@
 use Rattle.std.proofs.Common.{codes}
 use Rattle.std.proofs.lemmas.Result.{IfOk-weaker}
 use Rattle.sixel_words.specs.Words.{plain_app}
-use Rattle.sixel_words.proofs.CommandLemmas.{ReadsAs, app_says, begun, local_says, with_arg}
+use Rattle.sixel_words.proofs.CommandLemmas.{ReadsAs, app_says, local_says, named_only, with_arg}
 use Rattle.sixel_words.proofs.commands.list_command.Goals as goal
 
 pub returns : goal.returns
 returns c =
     let list = plain_app (codes "list") in
-    let new = begun (codes "list") c.new.result c.about.result c.after_help.result _ _ c.new.ensures.app
-    c.new.ensures.local c.about.ensures c.after_help.ensures in
+    let new = named_only (codes "list") c.in_ok-task_command.ensures.app c.in_ok-task_command.ensures.local in
     let whole = IfOk-weaker c.arg.result _ (ReadsAs list)
     (λ r h. with_arg new c.file_arg.ensures.rule c.file_arg.ensures.local h) c.arg.ensures in
     record { app = app_says list c.arg.result whole; local = local_says list c.arg.result whole }

@@ -1,13 +1,12 @@
 use Rattle.std.proofs.Common.{codes}
 use Rattle.std.proofs.lemmas.Result.{IfOk-weaker}
 use Rattle.sixel_words.specs.Words.{mend_app}
-use Rattle.sixel_words.proofs.CommandLemmas.{ReadsAs, app_says, begun, local_says, with_arg}
+use Rattle.sixel_words.proofs.CommandLemmas.{ReadsAs, app_says, local_says, named_only, with_arg}
 use Rattle.sixel_words.proofs.commands.mend_command.Goals as goal
 
 pub returns : goal.returns
 returns c =
-    let new = begun (codes "mend") c.new.result c.about.result c.after_help.result _ _ c.new.ensures.app
-    c.new.ensures.local c.about.ensures c.after_help.ensures in
+    let new = named_only (codes "mend") c.in_ok-task_command.ensures.app c.in_ok-task_command.ensures.local in
     let wide = with_arg new c.wide_arg.ensures.rule c.wide_arg.ensures.local c.in_ok-arg.ensures in
     let background = with_arg wide c.background_arg.ensures.rule c.background_arg.ensures.local
     c.in_ok-arg-2.ensures in

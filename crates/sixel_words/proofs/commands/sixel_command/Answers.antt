@@ -6,16 +6,23 @@ use Rattle.sixel_words.proofs.commands.sixel_command.Goals as goal
 
 -- `sixel` without any subcommand
 abbrev bare : App
-bare = on_top (λ s. record s { has_version = true; subcommand_required = true; args_override_self = true })
-    (new_app (codes "sixel"))
+bare = on_top (λ s. record s {
+  has_version = true;
+  propagate_version = true;
+  subcommand_required = true;
+  args_override_self = true;
+}) (new_app (codes "sixel"))
 
 pub returns : goal.returns
 returns c =
     let about : app_of c.about.result ≡ new_app (codes "sixel") = ap app_of_fields c.about.ensures
     ∙ c.new.ensures.app in
-    let version = ap app_of_fields c.version.ensures ∙ ap (on_top (λ s. record s { has_version = true })) about in
+    let helped = ap app_of_fields c.after_help.ensures ∙ about in
+    let version = ap app_of_fields c.version.ensures ∙ ap (on_top (λ s. record s { has_version = true })) helped in
+    let passed = ap app_of_fields c.propagate_version.ensures
+    ∙ ap (on_top (λ s. record s { propagate_version = true })) version in
     let required = ap app_of_fields c.subcommand_required.ensures
-    ∙ ap (on_top (λ s. record s { subcommand_required = true })) version in
+    ∙ ap (on_top (λ s. record s { subcommand_required = true })) passed in
     let new : app_of c.args_override_self.result ≡ bare = ap app_of_fields c.args_override_self.ensures
     ∙ ap (on_top (λ s. record s { args_override_self = true })) required in
     let list = with_sub new c.in_ok-list_command.ensures.app c.in_ok-list_command.ensures.local

@@ -9,4 +9,4 @@ returns-clause-taken c = λ program. refl
 
 pub returns-clause-asked : goal.returns-clause-asked
 unfolding walked
-returns-clause-asked c = λ program. (_, refl, tt)
+returns-clause-asked c = λ program. (_, refl, refl)

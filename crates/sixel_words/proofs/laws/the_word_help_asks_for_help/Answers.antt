@@ -10,4 +10,5 @@ returns c = record {
   below = λ program. refl;
   version = λ program. refl;
   short_version = λ program. refl;
+  version_below = λ program. refl;
 }

@@ -1,5 +1,4 @@
-use Rattle.std.proofs.Common.{◌≡◌, ◌∙◌, [], None, Option, Some, ap, codes, refl, subst, sym, map, true}
-use Rattle.std.specs.Prelude.{option_map}
+use Rattle.std.proofs.Common.{◌≡◌, ◌∙◌, [], List, None, Some, ap, codes, refl, subst, sym, map, true}
 use Rattle.std.specs.String.{string_bytes}
 use Rattle.std.proofs.lemmas.Result.{IfErr-weaker, IfOk-weaker}
 use Rattle.clap.specs.Walk.{rows_of}
@@ -9,9 +8,8 @@ use Rattle.clap.specs.Faults.{fault_of, is_simple_and_free}
 use Rattle.clap.specs.Kinds.{HasKind, Kinds}
 use Rattle.clap.specs.Simple.{App, is_simple, subcommand_of, subcommand_rows_of}
 use Rattle.sixel_run.specs.declared.task.Task.{Task}
-use Rattle.sixel_explain.specs.declared.explanations.Topic.{Topic}
+use Rattle.sixel_run.specs.Texts.{Text}
 use Rattle.sixel_words.specs.Words.{AsksFor, IsExplanationOf, IsTaskOf, kinds_of, sixel_app}
-use Rattle.sixel_explain.specs.Explanations.{topic_name}
 use Rattle.sixel_words.proofs.FaultLemmas.{found_by_clap, found_in_taken, memory_is_wanted}
 use Rattle.sixel_words.proofs.ExplainLemmas.{asked_by, refused_unasked, refused_unhelped, same_wish, unasked}
 use Rattle.sixel_words.proofs.MatchLemmas.{both_parts, name_rows, none_of, not_some, request_is, same_task}
@@ -56,7 +54,7 @@ returns-in-Err-try_get_matches_from c =
             c.sorted_out.ensures.unexplained c.sorted_out.ensures.memory;
         accepted = λ taken t is. memory taken;
         asked = unasked words c.sorted_out.result c.sorted_out.ensures.unexplained;
-        explained = λ taken topic asks. rw (memory taken) tt;
+        explained = λ taken names asks. rw (memory taken) tt;
         unhelped = λ taken. rw (memory taken) tt;
       };
     }
@@ -87,10 +85,10 @@ returns-in-Some c =
     let is = met (goal.at.returns-in-Some c).In-Some in
     let none : (t : Task) → IsTaskOf words t → ⊥ = λ t wanted. c.in-None-task_of.ensures.none refl t
     (same_task (subcommand_of sixel_app words) wanted.0 name wanted.1 rows t wanted.2 is wanted.3) in
-    let explained : (topic : Option Topic) → AsksFor words (option_map topic_name topic)
-    → IsExplanationOf (option_map topic_name topic) c.without_task.result = λ topic asks.
-    let wish = same_wish words (option_map topic_name topic) name rows asks is in
-    c.without_task.ensures.explained wish.0 topic wish.1 in
+    let explained : (names : List Text) → AsksFor words names → IsExplanationOf names c.without_task.result
+    = λ names asks.
+    let wish = same_wish words names name rows asks is in
+    c.without_task.ensures.explained wish.0 names wish.1 in
     record {
       task = tt;
       request = tt;
@@ -103,7 +101,7 @@ returns-in-Some c =
             explained;
         accepted = λ taken t wanted. absurd (none t wanted);
         asked = asked_by words name rows c.without_task.result is c.without_task.ensures.asked;
-        explained = λ taken topic asks. explained topic asks;
+        explained = λ taken names asks. explained names asks;
         unhelped = λ taken. c.without_task.ensures.unhelped;
       };
     }
@@ -117,8 +115,8 @@ returns c =
     sym (given.1 ∙ ap (λ (a : App). subcommand_of a words) c.in-Ok.ensures)
     ∙ none_of (λ p. p.1) (subcommand_rows_of c.in-Ok-try_get_matches_from.matches) c.in-None.ensures.rows in
     let none : (t : Task) → IsTaskOf words t → ⊥ = λ t is. not_some _ (is.0, is.1) unmet is.2 in
-    let unwished : (topic : Option Topic) → AsksFor words (option_map topic_name topic) → ⊥ =
-    λ topic asks. not_some _ (codes "explain", asks.0) unmet asks.1 in
+    let unwished : (names : List Text) → AsksFor words names → ⊥ =
+    λ names asks. not_some _ (codes "explain", asks.0) unmet asks.1 in
     let unhelped = refused_unhelped c.unnamed.result c.unnamed.ensures.refusal in
     record {
       task = tt;
@@ -128,10 +126,10 @@ returns c =
       fault = record {
         sorted = c.unnamed.ensures.sorted;
         found = found_in_taken words c.unnamed.result (taken_by (goal.at.returns c).In-Ok-try_get_matches_from) unhelped
-            none (λ topic asks. absurd (unwished topic asks));
+            none (λ names asks. absurd (unwished names asks));
         accepted = λ taken t is. absurd (none t is);
         asked = refused_unasked words c.unnamed.result c.unnamed.ensures.refusal;
-        explained = λ taken topic asks. absurd (unwished topic asks);
+        explained = λ taken names asks. absurd (unwished names asks);
         unhelped = λ taken. unhelped;
       };
     }

@@ -1,11 +1,10 @@
 use Rattle.std.proofs.Common.{inr, refl}
 use Rattle.sixel_program.proofs.PutLemmas.{is_put}
-use Rattle.sixel_words.proofs.telling.tell.Goals as goal
+use Rattle.sixel_words.proofs.telling.explain.Goals as goal
 
 pub returns-in-Err : goal.returns-in-Err
 returns-in-Err g c =
-    let shown = c.in-Err.ensures.bytes in
-    rw c.in-Explanation.is (
+    let shown = c.in-Err.ensures.bytes in (
       shown.0,
       shown.1,
       inr (
