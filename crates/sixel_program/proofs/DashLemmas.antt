@@ -1,11 +1,15 @@
 -- Names of which one at most is that of standard input.
-use Rattle.std.proofs.Common.{◌≡◌, ◌∙◌, ◌+◌, ◌∷◌, ◌++◌, ◌||◌, ℕ, Bool, true, false, List, [], arith, cond, refl, sym, ap}
+use Rattle.std.proofs.Common.{◌≡◌, ◌∙◌, ◌+◌, ◌∷◌, ◌++◌, ◌||◌, ℕ, Bool, true, false, List, [], arith, cond, refl, sym}
+use Rattle.std.proofs.Common.{ap, map, Some}
 use Rattle.std.specs.Prelude.{count_by, nat_lt}
 use Rattle.std.specs.List.{list_any}
 use Rattle.std.proofs.lemmas.Bool.{ltb-false}
 use Rattle.std.proofs.lemmas.List.Folds.{list_any-append}
 use Rattle.std.proofs.lemmas.List.Sums.{sum_by-append, sum_by-cons}
-use Rattle.sixel_program.specs.Files.{is_dash}
+use Rattle.sixel_run.specs.declared.task.Task.{Task}
+use Rattle.sixel_run.specs.declared.task.Task.TheVariants.{Check, Scan, Survey}
+use Rattle.sixel_run.specs.LineTasks.{has_lines}
+use Rattle.sixel_program.specs.Files.{is_dash, labels_for, name_of, names_read}
 use Rattle.sixel_run.specs.Texts.{Text}
 
 -- neither of two is true
@@ -35,7 +39,8 @@ one_or_none false any n none rest = rest (omega (arith, none))
 none_counted : (names : List Text) → count_by is_dash names ≡ 0 → list_any is_dash names ≡ false
 none_counted [] none = refl
 none_counted (name ∷ more) none =
-    one_or_none (is_dash name) (list_any is_dash more) (count_by is_dash more) (sym (sum_by-cons (λ (n : Text). cond (is_dash n) 1 0) name more) ∙ none)
+    one_or_none (is_dash name) (list_any is_dash more) (count_by is_dash more)
+    (sym (sum_by-cons (λ (n : Text). cond (is_dash n) 1 0) name more) ∙ none)
     (none_counted more)
 
 -- if one at most is that of standard input, none is before it
@@ -50,3 +55,20 @@ first_dash names name more once dash =
     (sum_by-append (λ (n : Text). cond (is_dash n) 1 0) names (name ∷ [])) in
     let one : count_by is_dash (name ∷ []) ≡ 1 = ap (λ (b : Bool). 0 + cond b 1 0) dash in
     none_counted names (omega (arith, all, one, ltb-false 1 (count_by is_dash ((names ++ name ∷ []) ++ more)) once))
+
+-- ---- labels
+
+pub names_labelled : (names : List Text) → map name_of (map Some names) ≡ names
+names_labelled [] = refl
+names_labelled (name ∷ more) = ap (λ (rest : List Text). name ∷ rest) (names_labelled more)
+
+-- the labels of what a check, a survey or a scan reads are those of the names that it reads
+pub labels_read : (t : Task) (names : List Text) → has_lines t ≡ true
+    → map name_of (labels_for names) ≡ names_read t names
+labels_read (Check profile) [] has = refl
+labels_read (Check profile) (name ∷ more) has = names_labelled (name ∷ more)
+labels_read (Survey profile) [] has = refl
+labels_read (Survey profile) (name ∷ more) has = names_labelled (name ∷ more)
+labels_read (Scan profile eight) [] has = refl
+labels_read (Scan profile eight) (name ∷ more) has = names_labelled (name ∷ more)
+labels_read _ names has = absurd (let no : false ≡ true = has in cc)

@@ -1,13 +1,13 @@
 -- On checks and surveys of several files.
-use Rattle.std.proofs.Common.{◌≡◌, ◌∙◌, ◌+◌, ◌<◌, ℕ, Bool, true, false, List, [], ◌∷◌, ◌++◌, length, take}
-use Rattle.std.proofs.Common.{drop, Option, Some, None, refl, sym, ap, ap₂, subst, arith, inl, inr, flat_map}
-use Rattle.std.proofs.Common.{All, map}
+use Rattle.std.proofs.Common.{◌≡◌, ◌∙◌, ◌+◌, ◌<◌, ℕ, Bool, true, false, List, [], ◌∷◌, ◌++◌, length, take, drop, Option}
+use Rattle.std.proofs.Common.{Some, None, refl, sym, ap, ap₂, subst, arith, inl, inr, flat_map, All, map, ◌==◌}
+use Rattle.std.proofs.lemmas.Bool.{eqb-true}
 use Rattle.std.specs.Prelude.{◌⊎◌, ◌≢◌, Result, Ok, Err, IfSome, String, string_bytes}
 use Rattle.std.specs.Global.{Global}
 use Rattle.std.specs.Io.KnownBytes.{Appends, Consumes, Keeps}
 use Rattle.std.specs.Option.{option_or}
 use Rattle.std.proofs.KnownBytes.{Consumes-nil, Appends-trans}
-use Rattle.std.proofs.Common.{get_or, ◌&&◌, not, slice_get}
+use Rattle.std.proofs.Common.{get_or, slice_get}
 use Rattle.std.specs.List.{cons_option, filter_map, list_any}
 use Rattle.std.proofs.lemmas.List.{append-nil, take-append-drop, take_more}
 use Rattle.std.proofs.lemmas.List.Elements.{All-cons, All-head, All-nil, All-push, All-tail, filter_map-append}
@@ -22,8 +22,7 @@ use Rattle.sixel_grammar.specs.Reading.{NoFaultBefore}
 use Rattle.sixel_grammar.proofs.PrefixLemmas.{nothing as none_yet}
 use Rattle.sixel_grammar.proofs.ViableLemmas.{complete}
 use Rattle.sixel_model.specs.Profiles.{count_of}
-use Rattle.sixel_model.specs.declared.profile.Profile.{Profile}
-use Rattle.sixel_model.specs.declared.rule.Rule.{Rule}
+use Rattle.sixel_program.specs.declared.hints.Cause.{Cause}
 use Rattle.sixel_run.proofs.StringLemmas.{none_given}
 use Rattle.sixel_program.specs.declared.exit.Exit.{Exit}
 use Rattle.sixel_program.specs.declared.exit.Exit.TheVariants as exit
@@ -34,36 +33,27 @@ use Rattle.sixel_run.specs.declared.task.Status.TheVariants as status
 use Rattle.sixel_run.specs.declared.task.Task.{Task}
 use Rattle.sixel_run.specs.declared.task.Task.TheVariants as task
 use Rattle.sixel_run.specs.declared.task.Task.TheVariants.{Check}
-use Rattle.sixel_program.specs.Exits.{IsPut, RunEnds, complaint, exit_for_answer}
+use Rattle.sixel_program.specs.Exits.{IsPut, exit_for_answer, fault_said}
 use Rattle.sixel_program.specs.declared.formats.Format.{Format}
-use Rattle.sixel_program.specs.Formats.{IsFormat, advice_for, advice_on}
-use Rattle.sixel_program.specs.Files.{AreChecked, AreDone, ArePut, AreCut, FileEnd, IsChecked, IsFileEnd, IsFileOpening}
-use Rattle.sixel_program.specs.Files.{file_text}
-use Rattle.sixel_run.specs.LineTasks.{ReadsOver, has_lines}
-use Rattle.sixel_program.specs.Files.{FileEnds, IsRead, SaysOfCheck, is_dash, complaints_of}
-use Rattle.sixel_program.specs.Files.{SaysOfFile, exit_of_end, first_broken, files_exit, files_text}
+use Rattle.sixel_program.specs.Formats.{IsFormat, advice_on}
+use Rattle.sixel_program.specs.Files.{AreChecked, ArePut, FileEnd, FilesEnd, IsChecked, IsFileEnd, AreCut}
+use Rattle.sixel_program.specs.Files.{IsFileOpening, IsFinished, IsRead, SaysOfCheck, SaysOfFile, complaints_of}
+use Rattle.sixel_program.specs.Files.{exit_of_end, file_text, files_exit, files_text, first_wrong, is_dash, labels_for}
+use Rattle.sixel_program.specs.Files.{labels_of, name_of, said_of, said_of_check, said_of_file, text_of_end, worse}
 use Rattle.sixel_program.specs.Files.{worst}
-use Rattle.sixel_program.specs.Files.{names_of, said_of, said_of_check, said_of_file}
-use Rattle.sixel_program.specs.Files.{text_of_end, worse}
-use Rattle.sixel_program.specs.Hints.{first_rule, hint_of, rule_of}
-use Rattle.sixel_program.specs.Names.{named_fault_line, unopened_line}
-use Rattle.sixel_program.specs.Openings.{CountsOf, FailsWith, FolderView, IsOpening, bytes_of}
+use Rattle.sixel_run.specs.LineTasks.{ReadsOver, has_lines}
+use Rattle.sixel_program.specs.Hints.{first_cause, cause_of}
+use Rattle.sixel_program.specs.Names.{unopened_line}
+use Rattle.sixel_program.specs.Openings.{FailsWith, FolderView, bytes_of}
 use Rattle.sixel_program.specs.declared.folder.Unopened.{Unopened}
 use Rattle.sixel_run.specs.Outputs.{TakesMemory, Wrote, failures_by}
 use Rattle.sixel_run.specs.Texts.{IsLine, Text, fault_line}
 use Rattle.sixel_program.proofs.DashLemmas.{or_false}
 use Rattle.sixel_program.proofs.EndLemmas.{kept}
 
--- ---- what is said of one file
-
--- the message about a check of an input without a name is that about a run
-pub said_quietly : (profile : Profile) (format : Option Format) (answer : Result Status RunFault) (a b : SinkState)
-    → SaysOfCheck None format answer (change a b)
-    → IsPut (complaint (Check profile) None answer ++ advice_for format answer) (change a b)
-said_quietly profile format (Ok status.Done) a b same = rw same (inl (Appends-none a.taken, refl))
-said_quietly profile format (Ok (status.Broken finding)) a b same = rw same (inl (Appends-none a.taken, refl))
-said_quietly profile format (Ok status.Unfit) a b same = rw same (inl (Appends-none a.taken, refl))
-said_quietly profile format (Err fault) a b put = put
+-- the names of the inputs that ended so
+abbrev pub names_of : List FileEnd → List Text
+names_of ends = map name_of (labels_of ends)
 
 -- ---- what is put
 
@@ -76,19 +66,18 @@ unfolding ArePut
 one_put text a b put = (b, put, refl)
 
 -- what is said of a check was put
-pub said_put : (name : Text) (format : Option Format) (answer : Result Status RunFault) (a b : SinkState)
-    → SaysOfCheck (Some name) format answer (change a b) → ArePut (said_of_check name format answer) (change a b)
+pub said_put : (label : Option Text) (format : Option Format) (answer : Result Status RunFault) (a b : SinkState)
+    → SaysOfCheck label format answer (change a b) → ArePut (said_of_check label format answer) (change a b)
 unfolding ArePut
-said_put name format (Ok status) a b says = says
-said_put name format (Err fault) a b says =
-    one_put (named_fault_line name fault ++ advice_on format fault) a b says
+said_put label format (Ok status) a b says = says
+said_put label format (Err fault) a b says = one_put (fault_said label fault ++ advice_on format fault) a b says
 
 -- what is said of a file was put
-pub file_said_put : (name : Text) (unopened : Option Unopened) (format : Option Format)
-    (answer : Result Status RunFault) (a b : SinkState) → SaysOfFile name unopened format answer (change a b)
-    → ArePut (said_of_file name unopened format answer) (change a b)
-file_said_put name None format answer a b says = said_put name format answer a b says
-file_said_put name (Some reason) format answer a b says = one_put (unopened_line name reason) a b says
+pub file_said_put : (label : Option Text) (unopened : Option Unopened) (format : Option Format)
+    (answer : Result Status RunFault) (a b : SinkState) → SaysOfFile label unopened format answer (change a b)
+    → ArePut (said_of_file label unopened format answer) (change a b)
+file_said_put label None format answer a b says = said_put label format answer a b says
+file_said_put label (Some reason) format answer a b says = one_put (unopened_line (name_of label) reason) a b says
 
 -- texts were put, and then others
 pub put_then : (texts more : List Text) (a b c : SinkState) → ArePut texts (change a b) → ArePut more (change b c)
@@ -103,7 +92,7 @@ pub none_checked : (t : Task) (q : Bool) {O : Type 0} (folder : FolderView O) (i
     (o e : SinkState)
     → AreChecked t q folder [] [] exit.Done (change i i) (change o o) (change e e)
 none_checked t q folder i o e = record {
-  names_are = refl;
+  labels_are = refl;
   each = λ i e short. let no : ⊥ = omega (arith, short) in absurd no;
   written = λ i e short. let no : ⊥ = omega (arith, short) in absurd no;
   openings = λ i e short. let no : ⊥ = omega (arith, short) in absurd no;
@@ -111,6 +100,7 @@ none_checked t q folder i o e = record {
   exits = refl;
   lines = Appends-none o.taken;
   unfailed = refl;
+  untouched = λ quiet. refl;
   said = none_put e;
 }
 
@@ -133,13 +123,43 @@ all_names names i item name short is named =
     ∙ map-append string_bytes (take (i + 1) names) (drop (i + 1) names)
     ∙ ap (λ (ts : List Text). ts ++ map string_bytes (drop (i + 1) names)) (more_names names i item name short is named)
 
+-- without names the input has no label
+pub labels_none : (names : List (String Global)) → (length names == 0) ≡ true
+    → labels_for (map string_bytes names) ≡ None ∷ []
+labels_none [] is = refl
+labels_none (name ∷ more) is = let none : length (name ∷ more) ≡ 0 = eqb-true _ _ is in absurd (omega (arith, none))
+
+pub labels_some : (names : List (String Global)) → (length names == 0) ≡ false
+    → labels_for (map string_bytes names) ≡ map Some (map string_bytes names)
+labels_some [] is = let no : true ≡ false = is in cc
+labels_some (name ∷ more) is = refl
+
+-- the labels of the inputs so far, with one more
+pub more_labels : (names : List (String Global)) (i : ℕ) (item : String Global) (name : Text) → i < length names
+    → item ≡ get_or names i item → name ≡ string_bytes item
+    → map Some (map string_bytes (take (i + 1) names)) ≡ map Some (map string_bytes (take i names)) ++ Some name ∷ []
+more_labels names i item name short is named =
+    ap (map Some) (more_names names i item name short is named)
+    ∙ map-append Some (map string_bytes (take i names)) (name ∷ [])
+
+-- and those after it
+pub all_labels : (names : List (String Global)) (i : ℕ) (item : String Global) (name : Text) → i < length names
+    → item ≡ get_or names i item → name ≡ string_bytes item → (length names == 0) ≡ false
+    → labels_for (map string_bytes names)
+    ≡ (map Some (map string_bytes (take i names)) ++ Some name ∷ []) ++ map Some (map string_bytes (drop (i + 1) names))
+all_labels names i item name short is named some =
+    labels_some names some ∙ ap (map Some) (all_names names i item name short is named)
+    ∙ map-append Some (map string_bytes (take i names) ++ name ∷ []) (map string_bytes (drop (i + 1) names))
+    ∙ ap (λ (ls : List (Option Text)). ls ++ map Some (map string_bytes (drop (i + 1) names)))
+    (map-append Some (map string_bytes (take i names)) (name ∷ []))
+
 -- files that aren't standard input were read so, whatever was done to it after them
 reads_kept : (contents : Text → Option (List ℕ)) (i₀ i₁ i₂ : SourceState) (ends : List FileEnd)
     → list_any is_dash (names_of ends) ≡ false → All (IsRead contents (change i₀ i₁)) ends
     → All (IsRead contents (change i₀ i₂)) ends
 reads_kept contents i₀ i₁ i₂ [] none read = All-nil (IsRead contents (change i₀ i₂))
 reads_kept contents i₀ i₁ i₂ (e ∷ ends) none read =
-    let both = or_false (is_dash e.name) (list_any is_dash (names_of ends)) none in
+    let both = or_false (is_dash (name_of e.label)) (list_any is_dash (names_of ends)) none in
     All-cons (IsRead contents (change i₀ i₂)) e ends (record {
       told = (All-head (IsRead contents (change i₀ i₁)) e ends read).told;
       left = λ is. let no : true ≡ false = sym is ∙ both.0 in cc;
@@ -149,7 +169,7 @@ reads_kept contents i₀ i₁ i₂ (e ∷ ends) none read =
 
 module _ (contents : Text → Option (List ℕ)) (i₀ i₁ i₂ : SourceState) (ends : List FileEnd) (e : FileEnd)
     (read : All (IsRead contents (change i₀ i₁)) ends) (last : IsRead contents (change i₁ i₂) e) where
-  file_read : (dash : Bool) → is_dash e.name ≡ dash → (dash ≡ false → i₂ ≡ i₁)
+  file_read : (dash : Bool) → is_dash (name_of e.label) ≡ dash → (dash ≡ false → i₂ ≡ i₁)
       → (dash ≡ true → list_any is_dash (names_of ends) ≡ false)
       → (list_any is_dash (names_of ends) ≡ false → i₁ ≡ i₀)
       → All (IsRead contents (change i₀ i₂)) (ends ++ e ∷ [])
@@ -176,66 +196,79 @@ exits_more ends e =
     ap worst (map-append exit_of_end ends (e ∷ []))
     ∙ fold_push worse exit.Done (map exit_of_end ends) (exit_of_end e)
 
-names_more : (ends : List FileEnd) (e : FileEnd) → names_of (ends ++ e ∷ []) ≡ names_of ends ++ e.name ∷ []
-names_more ends e = map-append (λ e. e.name) ends (e ∷ [])
+labels_more : (ends : List FileEnd) (e : FileEnd) → labels_of (ends ++ e ∷ []) ≡ labels_of ends ++ e.label ∷ []
+labels_more ends e = map-append (λ e. e.label) ends (e ∷ [])
 
-first_of_both : (rules : List Rule) (last : Option Rule)
-    → slice_get (rules ++ cons_option last []) 0 ≡ option_or (slice_get rules 0) last
+pub from_done : (x : Exit) → worse exit.Done x ≡ x
+from_done exit.Done = refl
+from_done exit.Broken = refl
+from_done exit.Refused = refl
+from_done exit.Usage = refl
+
+first_of_both : (causes : List Cause) (last : Option Cause)
+    → slice_get (causes ++ cons_option last []) 0 ≡ option_or (slice_get causes 0) last
 first_of_both [] None = refl
 first_of_both [] (Some r) = refl
-first_of_both (r ∷ rules) last = refl
+first_of_both (c ∷ causes) last = refl
 
-first_rule_more : (answers : List (Result Status RunFault)) (last : Result Status RunFault)
-    → first_rule (answers ++ last ∷ []) ≡ option_or (first_rule answers) (rule_of last)
-first_rule_more answers last =
-    ap (λ (rules : List Rule). slice_get rules 0) (filter_map-append rule_of answers (last ∷ []))
-    ∙ first_of_both (filter_map rule_of answers) (rule_of last)
+first_cause_more : (answers : List (Result Status RunFault)) (last : Result Status RunFault)
+    → first_cause (answers ++ last ∷ []) ≡ option_or (first_cause answers) (cause_of last)
+first_cause_more answers last =
+    ap (λ (causes : List Cause). slice_get causes 0) (filter_map-append cause_of answers (last ∷ []))
+    ∙ first_of_both (filter_map cause_of answers) (cause_of last)
 
-module _ (t : Task) (q : Bool) {O : Type 0} (folder : FolderView O) (ends : List FileEnd) (names : List Text)
-    (name : Text) (x : Exit) (i₀ i₁ i₂ : SourceState) (o₀ o₁ o₂ e₀ e₁ e₂ : SinkState)
-    (before : AreChecked t q folder ends names x (change i₀ i₁) (change o₀ o₁) (change e₀ e₁))
-    (stays : is_dash name ≡ false → i₂ ≡ i₁) (first : is_dash name ≡ true → list_any is_dash names ≡ false)
-    (unread : list_any is_dash names ≡ false → i₁ ≡ i₀) where
-  all_read : (e : FileEnd) → e.name ≡ name → IsRead (bytes_of folder.opening) (change i₁ i₂) e
+module _ (t : Task) (q : Bool) {O : Type 0} (folder : FolderView O) (ends : List FileEnd)
+    (labels : List (Option Text)) (label : Option Text) (x : Exit) (i₀ i₁ i₂ : SourceState)
+    (o₀ o₁ o₂ e₀ e₁ e₂ : SinkState)
+    (before : AreChecked t q folder ends labels x (change i₀ i₁) (change o₀ o₁) (change e₀ e₁))
+    (stays : is_dash (name_of label) ≡ false → i₂ ≡ i₁)
+    (first : is_dash (name_of label) ≡ true → list_any is_dash (map name_of labels) ≡ false)
+    (unread : list_any is_dash (map name_of labels) ≡ false → i₁ ≡ i₀) where
+  all_read : (e : FileEnd) → e.label ≡ label → IsRead (bytes_of folder.opening) (change i₁ i₂) e
       → All (IsRead (bytes_of folder.opening) (change i₀ i₂)) (ends ++ e ∷ [])
   all_read e is read =
-      file_read (bytes_of folder.opening) i₀ i₁ i₂ ends e before.read read (is_dash name) (ap is_dash is) stays
-      (rw before.names_are at first) (rw before.names_are at unread)
+      file_read (bytes_of folder.opening) i₀ i₁ i₂ ends e before.read read (is_dash (name_of label))
+      (ap (λ (l : Option Text). is_dash (name_of l)) is) stays (rw before.labels_are at first)
+      (rw before.labels_are at unread)
 
   pub checked_more : {E : Type 0} (y : Result Status RunFault)
-      → IsChecked {E = E} t q folder name (Ok y) (change i₁ i₂) (change o₁ o₂) (change e₁ e₂)
-      → (all : List FileEnd) × AreChecked t q folder all (names ++ name ∷ [])
+      → IsChecked {E = E} t q folder label (Ok y) (change i₁ i₂) (change o₁ o₂) (change e₁ e₂)
+      → (all : List FileEnd) × AreChecked t q folder all (labels ++ label ∷ [])
       (worse x (exit_for_answer y)) (change i₀ i₂) (change o₀ o₂) (change e₀ e₂)
-      × (first_broken all ≡ option_or (first_broken ends) (rule_of y))
+      × (first_wrong all ≡ option_or (first_wrong ends) (cause_of y))
   checked_more y one = (
     ends ++ one.e ∷ [],
     record {
-      names_are = ap₂ (λ (ns : List Text) (n : Text). ns ++ n ∷ []) before.names_are (sym one.name_is)
-          ∙ sym (names_more ends one.e);
+      labels_are = ap₂ (λ (ls : List (Option Text)) (l : Option Text). ls ++ l ∷ []) before.labels_are
+          (sym one.label_is)
+          ∙ sym (labels_more ends one.e);
       each = All-push (IsFileEnd t) ends one.e before.each one.is_end;
       written = All-push (λ (e : FileEnd). e.answer ≢ Err run.Write) ends one.e before.written one.written;
       openings = All-push (IsFileOpening folder) ends one.e before.openings one.opening;
-      read = all_read one.e one.name_is one.read;
+      read = all_read one.e one.label_is one.read;
       exits = ap₂ worse before.exits (ap exit_for_answer one.outcome.0) ∙ sym (exits_more ends one.e);
       lines = Appends-then o₀.taken o₁.taken o₂.taken (files_text q ends) (text_of_end q one.e) _ before.lines
-          (rw one.name_is one.outcome.1) (text_more (text_of_end q) ends one.e);
+          (rw one.label_is one.outcome.1) (text_more (text_of_end q) ends one.e);
       unfailed = one.outcome.2 ∙ before.unfailed;
+      untouched = λ quiet. one.outcome.4 quiet ∙ before.untouched quiet;
       said = rw (text_more said_of ends one.e)
           (put_then (complaints_of ends) (said_of one.e) e₀ e₁ e₂ before.said
-          (file_said_put one.e.name one.e.unopened one.e.format one.e.answer e₁ e₂ (rw one.name_is one.outcome.3)));
+          (file_said_put one.e.label one.e.unopened one.e.format one.e.answer e₁ e₂
+          (rw one.label_is one.outcome.3)));
     },
-    ap first_rule (map-append (λ e. e.answer) ends (one.e ∷ []))
-        ∙ first_rule_more (map (λ e. e.answer) ends) one.e.answer
-        ∙ ap (λ (a : Result Status RunFault). option_or (first_broken ends) (rule_of a)) (sym one.outcome.0),
+    ap first_cause (map-append (λ e. e.answer) ends (one.e ∷ []))
+        ∙ first_cause_more (map (λ e. e.answer) ends) one.e.answer
+        ∙ ap (λ (a : Result Status RunFault). option_or (first_wrong ends) (cause_of a)) (sym one.outcome.0),
   )
 
-  pub cut_after : {E : Type 0} (f : E) (all rest : List Text) (e₃ : SinkState) → all ≡ (names ++ name ∷ []) ++ rest
-      → IsChecked {E = E} t q folder name (Err f) (change i₁ i₂) (change o₁ o₂) (change e₁ e₂)
+  pub cut_after : {E : Type 0} (f : E) (all rest : List (Option Text)) (e₃ : SinkState)
+      → all ≡ (labels ++ label ∷ []) ++ rest
+      → IsChecked {E = E} t q folder label (Err f) (change i₁ i₂) (change o₁ o₂) (change e₁ e₂)
       → IsPut (fault_line run.Write) (change e₂ e₃)
       → AreCut t q folder all exit.Refused (change i₀ i₂) (change o₀ o₂) (change e₀ e₃)
   cut_after f all rest e₃ is one put =
       let cut : (count : ℕ) × Appends o₁.taken o₂.taken (take count (text_of_end q one.e)) =
-      rw one.name_is one.outcome.0 in
+      rw one.label_is one.outcome.0 in
       record {
         whole = ends;
         last = Some one.e;
@@ -243,19 +276,19 @@ module _ (t : Task) (q : Bool) {O : Type 0} (folder : FolderView O) (ends : List
         at_the_end = λ is. cc;
         count = cut.0;
         wanted = one.outcome.1;
-        names_are = is ∙ ap (λ (ns : List Text). ns ++ rest)
-            (ap₂ (λ (ns : List Text) (n : Text). ns ++ n ∷ []) before.names_are (sym one.name_is)
-            ∙ sym (names_more ends one.e));
+        labels_are = is ∙ ap (λ (ls : List (Option Text)). ls ++ rest)
+            (ap₂ (λ (ls : List (Option Text)) (l : Option Text). ls ++ l ∷ []) before.labels_are (sym one.label_is)
+            ∙ sym (labels_more ends one.e));
         each = All-push (IsFileEnd t) ends one.e before.each one.is_end;
         written = before.written;
         openings = All-push (IsFileOpening folder) ends one.e before.openings one.opening;
-        read = all_read one.e one.name_is one.read;
+        read = all_read one.e one.label_is one.read;
         exits = refl;
         lines = Appends-trans o₀.taken o₁.taken o₂.taken (files_text q ends) _ before.lines
             (rw (append-nil (text_of_end q one.e)) cut.1);
         failed = one.outcome.2 ∙ ap one_more before.unfailed;
         silent = All-cons (λ (e : FileEnd). (said_of e ≡ []) ⊎ (e.answer ≡ Err run.Write)) one.e []
-            (rw one.name_is one.outcome.3)
+            (rw one.label_is one.outcome.3)
             (All-nil (λ (e : FileEnd). (said_of e ≡ []) ⊎ (e.answer ≡ Err run.Write)));
         said = put_then (complaints_of ends) (fault_line run.Write ∷ []) e₀ e₁ e₃ before.said
             (one_put (fault_line run.Write) e₁ e₃
@@ -303,9 +336,9 @@ wrote_kept t told has left answer was is same =
     kept (λ (bytes : List ℕ). Wrote t bytes left answer was is) told has same
 
 -- without lines there is no text
-pub no_text : (is_quiet : Bool) (name : Text) → file_text is_quiet name [] ≡ []
-no_text true name = refl
-no_text false name = refl
+pub no_text : (is_quiet : Bool) (label : Option Text) → file_text is_quiet label [] ≡ []
+no_text true label = refl
+no_text false label = refl
 
 -- a file was opened without a failure; if calls on an input over it failed, calls on it did
 pub fails_with : {O : Type 0} (folder : FolderView O) (name : Text) (answer : Result Status RunFault) (opened ended : O)
@@ -321,9 +354,9 @@ none_given_yet : (bytes : List ℕ) → NoFaultBefore (Some bytes) bytes
 none_given_yet bytes = ([], refl, omega arith, ([], complete NothingYet none_yet))
 
 -- a file that couldn't be opened
-pub unopened : (t : Task) → has_lines t ≡ true → (name : Text) (reason : Unopened) (told : Option (List ℕ))
+pub unopened : (t : Task) → has_lines t ≡ true → (label : Option Text) (reason : Unopened) (told : Option (List ℕ))
     → IsFileEnd t (record {
-      name = name;
+      label = label;
       unopened = Some reason;
       told = told;
       left = told;
@@ -331,7 +364,7 @@ pub unopened : (t : Task) → has_lines t ≡ true → (name : Text) (reason : U
       lines = [];
       answer = Err run.Read;
     })
-unopened t has name reason told = record {
+unopened t has label reason told = record {
   wrote = nothing t has told;
   are_lines = All-nil IsLine;
   memory = λ is. cc;
@@ -349,109 +382,74 @@ unopened t has name reason told = record {
     nothing (task.Scan profile eight) has (Some bytes) = ([], none_given eight (count_of profile) bytes, refl)
     nothing _ has (Some bytes) = absurd (let no : false ≡ true = has in cc)
 
--- ---- when all files are checked
+-- ---- when all inputs are checked
 
-module _ (t : Task) (q : Bool) {O : Type 0} (folder : FolderView O) (ends : List FileEnd) (names : List Text)
-    (x : Exit) (i : Change SourceState) (o₀ o₁ o₂ e₀ e₁ : SinkState)
-    (before : AreChecked t q folder ends names x i (change o₀ o₁) (change e₀ e₁)) where
-  pub checked_flushed : Keeps o₁.taken o₂.taken → o₂.failures ≡ o₁.failures
-      → AreChecked t q folder ends names x i (change o₀ o₂) (change e₀ e₁)
-  checked_flushed kept same = record {
-    names_are = before.names_are;
-    each = before.each;
-    written = before.written;
-    openings = before.openings;
-    read = before.read;
-    exits = before.exits;
-    lines = Appends-keeps o₀.taken o₁.taken o₂.taken (files_text q ends) before.lines kept;
-    unfailed = same ∙ before.unfailed;
-    said = before.said;
-  }
-
-  pub done_hinted : (h : Bool) (e₂ : SinkState) → Keeps o₁.taken o₂.taken → o₂.failures ≡ o₁.failures
-      → (q ≡ false → o₂.is_flushed ≡ true) → IsPut (hint_of (not q && h) t (first_broken ends)) (change e₁ e₂)
-      → AreDone t q h folder names x i (change o₀ o₂) (change e₀ e₂)
-  done_hinted h e₂ kept same flushed put = record {
-    ends = ends;
-    between = e₁;
-    checked = checked_flushed kept same;
-    flushed = flushed;
-    hinted = put;
-  }
-
-  pub cut_at_flush : (e₂ : SinkState) → q ≡ false → Keeps o₁.taken o₂.taken → o₂.failures ≡ one_more o₁.failures
-      → IsPut (fault_line run.Write) (change e₁ e₂)
-      → AreCut t q folder names exit.Refused i (change o₀ o₂) (change e₀ e₂)
-  cut_at_flush e₂ wanted kept failed put =
+module _ (t : Task) (q h : Bool) {O : Type 0} (folder : FolderView O) (ends : List FileEnd)
+    (labels : List (Option Text)) (x y : Exit) (cause : Option Cause) (i : Change SourceState)
+    (o₀ o₁ o₂ e₀ e₁ e₂ : SinkState)
+    (before : AreChecked t q folder ends labels x i (change o₀ o₁) (change e₀ e₁)) where
+  pub ended : cause ≡ first_wrong ends → IsFinished t q h x cause y (change o₁ o₂) (change e₁ e₂)
+      → FilesEnd t q h folder labels y i (change o₀ o₂) (change e₀ e₂)
+  ended first (inl (is, kept, same, flushed, untouched, put)) =
+      inl (record {
+        ends = ends;
+        between = e₁;
+        checked = rw is (record {
+          labels_are = before.labels_are;
+          each = before.each;
+          written = before.written;
+          openings = before.openings;
+          read = before.read;
+          exits = before.exits;
+          lines = Appends-keeps o₀.taken o₁.taken o₂.taken (files_text q ends) before.lines kept;
+          unfailed = same ∙ before.unfailed;
+          untouched = λ quiet. untouched quiet ∙ before.untouched quiet;
+          said = before.said;
+        });
+        flushed = flushed;
+        hinted = rw first at put;
+      })
+  ended first (inr (is, kept, failed, wanted, put)) =
       let none : ends ++ [] ≡ ends = append-nil ends in
-      record {
+      inr (record {
         whole = ends;
         last = None;
         rest = [];
         at_the_end = λ is. refl;
         count = 0;
         wanted = wanted;
-        names_are = before.names_are ∙ sym (append-nil (names_of (ends ++ [])) ∙ ap names_of none);
+        labels_are = before.labels_are ∙ sym (append-nil (labels_of (ends ++ [])) ∙ ap labels_of none);
         each = rw none before.each;
         written = before.written;
         openings = rw none before.openings;
         read = rw none before.read;
-        exits = refl;
+        exits = is;
         lines = rw (append-nil (files_text q ends))
             (Appends-keeps o₀.taken o₁.taken o₂.taken (files_text q ends) before.lines kept);
         failed = failed ∙ ap one_more before.unfailed;
         silent = All-nil (λ (e : FileEnd). (said_of e ≡ []) ⊎ (e.answer ≡ Err run.Write));
         said = put_then (complaints_of ends) (fault_line run.Write ∷ []) e₀ e₁ e₂ before.said
             (one_put (fault_line run.Write) e₁ e₂ put);
-      }
+      })
 
--- ---- a task over a file
+-- one input alone
+module _ (t : Task) (q h : Bool) {O : Type 0} (folder : FolderView O) (label : Option Text) (i₀ i₁ : SourceState)
+    (o₀ o₁ o₂ e₀ e₁ e₂ : SinkState) (stays : is_dash (name_of label) ≡ false → i₁ ≡ i₀) where
+  pub one_ended : {E : Type 0} (answer : Result Status RunFault) (x y : Exit) (cause : Option Cause)
+      → IsChecked {E = E} t q folder label (Ok answer) (change i₀ i₁) (change o₀ o₁) (change e₀ e₁)
+      → x ≡ exit_for_answer answer → cause ≡ cause_of answer
+      → IsFinished t q h x cause y (change o₁ o₂) (change e₁ e₂)
+      → FilesEnd t q h folder (label ∷ []) y (change i₀ i₁) (change o₀ o₂) (change e₀ e₂)
+  one_ended answer x y cause one is found finished =
+      let all = checked_more t q folder [] [] label exit.Done i₀ i₀ i₁ o₀ o₀ o₁ e₀ e₀ e₁
+      (none_checked t q folder i₀ o₀ e₀) stays (λ dash. refl) (λ none. refl) answer one in
+      ended t q h folder all.0 (label ∷ []) x y cause (change i₀ i₁) o₀ o₁ o₂ e₀ e₁ e₂
+      (rw (is ∙ sym (from_done (exit_for_answer answer))) all.1) (found ∙ sym all.2) finished
 
-module _ (t : Task) (h : Bool) {O : Type 0} (folder : FolderView O) (name : Text) (o e : Change SinkState) where
-  pub dash_ends : (x : Exit) (i : Change SourceState) → is_dash name ≡ true → RunEnds t h (Some name) x i o e
-      → FileEnds t h folder name x i o e
-  dash_ends x i dash ended = record {
-    file = i;
-    told = rw dash refl;
-    is_input = λ is. refl;
-    stays = λ is. let no : true ≡ false = sym dash ∙ is in cc;
-    ended = inl (
-      ended,
-      record {
-        opening = λ is. let no : true ≡ false = sym dash ∙ is in cc;
-        counted = λ is. let no : true ≡ false = sym dash ∙ is in cc;
-      },
-    );
-  }
-
-  pub file_ends : (x : Exit) (i : SourceState) (file : Change SourceState) → is_dash name ≡ false
-      → file.old.remaining ≡ bytes_of folder.opening name → IsOpening (folder.opening name) name None
-      → CountsOf folder name file → RunEnds t h (Some name) x file o e → FileEnds t h folder name x (change i i) o e
-  file_ends x i file other told opens counts ended = record {
-    file = file;
-    told = rw other told;
-    is_input = λ is. let no : true ≡ false = sym is ∙ other in cc;
-    stays = λ is. refl;
-    ended = inl (ended, record { opening = λ is. opens; counted = λ is. counts });
-  }
-
-pub unopened_ends : (t : Task) (h : Bool) {O : Type 0} (folder : FolderView O) (name : Text) (i : SourceState)
-    (o : SinkState) (e : Change SinkState) (reason : Unopened) → is_dash name ≡ false
-    → IsOpening (folder.opening name) name (Some reason) → IsPut (unopened_line name reason) e
-    → FileEnds t h folder name exit.Refused (change i i) (change o o) e
-unopened_ends t h folder name i o e reason file opens put =
-    let unread : SourceState = record { remaining = bytes_of folder.opening name; failures = 0 } in
-    record {
-      file = change unread unread;
-      told = rw file refl;
-      is_input = λ is. let no : true ≡ false = sym is ∙ file in cc;
-      stays = λ is. refl;
-      ended = inr (record {
-        reason = reason;
-        file = file;
-        opening = opens;
-        ends = refl;
-        silent = refl;
-        said = put;
-      });
-    }
+  pub one_cut : {E : Type 0} (f : E)
+      → IsChecked {E = E} t q folder label (Err f) (change i₀ i₁) (change o₀ o₁) (change e₀ e₁)
+      → IsPut (fault_line run.Write) (change e₁ e₂)
+      → FilesEnd t q h folder (label ∷ []) exit.Refused (change i₀ i₁) (change o₀ o₁) (change e₀ e₂)
+  one_cut f one put =
+      inr (cut_after t q folder [] [] label exit.Done i₀ i₀ i₁ o₀ o₀ o₁ e₀ e₀ e₁ (none_checked t q folder i₀ o₀ e₀)
+      stays (λ dash. refl) (λ none. refl) f (label ∷ []) [] e₂ refl one put)

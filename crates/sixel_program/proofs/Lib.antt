@@ -4,6 +4,7 @@ pub mod PutLemmas
 pub mod EndLemmas
 pub mod DashLemmas
 pub mod FilesLemmas
+pub mod OneFileLemmas
 pub mod NamedLemmas
 pub mod EntryLemmas
 pub mod StringLineLemmas

@@ -1,38 +1,36 @@
 -- How the check, the survey or the scan of an input ends, quiet or not.
-use Rattle.std.proofs.Common.{◌≡◌, ◌∙◌, ℕ, Bool, true, false, List, [], ◌∷◌, Option, Some, None, flat_map, inl, inr, refl}
-use Rattle.std.proofs.Common.{subst, sym, take}
+use Rattle.std.proofs.Common.{◌≡◌, ◌∙◌, ℕ, Bool, true, false, List, [], ◌∷◌, Option, Some, None, flat_map, inl, inr}
+use Rattle.std.proofs.Common.{refl, subst, sym, take}
 use Rattle.std.specs.Prelude.{◌⊎◌, ◌≢◌, Result, Ok, Err, if◌then◌else◌}
 use Rattle.std.specs.Io.KnownBytes.{Appends, Keeps}
-use Rattle.sixel_io.specs.Devices.{Change, ReadsToEnd, SinkState, SourceState, change, one_more}
+use Rattle.sixel_io.specs.Devices.{Change, SinkState, SourceState, change, one_more}
 use Rattle.sixel_io.proofs.SinkLemmas.{Appends-none}
-use Rattle.sixel_model.specs.declared.profile.Profile.{Profile}
 use Rattle.sixel_run.specs.declared.fault.RunFault.{RunFault}
 use Rattle.sixel_run.specs.declared.fault.RunFault.TheVariants as run
 use Rattle.sixel_run.specs.declared.task.Status.{Status}
 use Rattle.sixel_run.specs.declared.task.Task.{Task}
-use Rattle.sixel_run.specs.declared.task.Task.TheVariants.{Check}
-use Rattle.sixel_run.specs.LineTasks.{EndsAs, PutsText, ReadsOver, WritesLines}
+use Rattle.sixel_run.specs.LineTasks.{EndsAs, PutsText, WritesLines}
 use Rattle.sixel_run.specs.Outputs.{CountsWrites, failures_by}
 use Rattle.sixel_run.specs.Texts.{Text}
 use Rattle.sixel_run.proofs.LineTaskLemmas.{same_found}
 use Rattle.sixel_program.specs.declared.formats.Format.{Format}
 use Rattle.sixel_program.specs.Files.{IsFileEnd, IsNamedEnd, SaysOfCheck, file_text, said_of_file}
+use Rattle.sixel_program.specs.Exits.{labelled}
 use Rattle.sixel_program.specs.Formats.{IsFormat}
-use Rattle.sixel_program.specs.Names.{named}
 use Rattle.sixel_program.proofs.FilesLemmas.{memory_kept, over_kept, wrote_kept}
 
--- what is written for a line of the file with this name
-abbrev pub named_unless : Bool → Text → Text → Text
-named_unless is_quiet name line = if is_quiet then [] else named name line
+-- what is written for a line of the input with this label
+abbrev pub labelled_unless : Bool → Option Text → Text → Text
+labelled_unless is_quiet label line = if is_quiet then [] else labelled label line
 
 nothing_written : (lines : List Text) → flat_map (λ (line : Text). let none : Text = [] in none) lines ≡ []
 nothing_written [] = refl
 nothing_written (line ∷ lines) = nothing_written lines
 
-text_of_file : (is_quiet : Bool) (name : Text) (lines : List Text)
-    → flat_map (named_unless is_quiet name) lines ≡ file_text is_quiet name lines
-text_of_file true name lines = nothing_written lines
-text_of_file false name lines = refl
+text_of_input : (is_quiet : Bool) (label : Option Text) (lines : List Text)
+    → flat_map (labelled_unless is_quiet label) lines ≡ file_text is_quiet label lines
+text_of_input true label lines = nothing_written lines
+text_of_input false label lines = refl
 
 -- ---- the answer
 
@@ -64,10 +62,10 @@ none_unwritten answer old new first last counts is =
 -- ---- quiet or not
 
 -- the lines were put to such a sink, and nothing was put to the output
-pub quiet_lines : (t : Task) (name : Text) (answer : Result Status RunFault) (i : Change SourceState)
-    (nowhere : Change SinkState) (o : SinkState) → WritesLines t (named name) answer i nowhere
-    → answer ≢ Err run.Write → WritesLines t (named_unless true name) answer i (change o o)
-quiet_lines t name answer i nowhere o k other = record {
+pub quiet_lines : (t : Task) (written : Text → Text) (label : Option Text) (answer : Result Status RunFault)
+    (i : Change SourceState) (nowhere : Change SinkState) (o : SinkState) → WritesLines t written answer i nowhere
+    → answer ≢ Err run.Write → WritesLines t (labelled_unless true label) answer i (change o o)
+quiet_lines t written label answer i nowhere o k other = record {
   found = k.found;
   lines = k.lines;
   wrote = k.wrote;
@@ -75,7 +73,7 @@ quiet_lines t name answer i nowhere o k other = record {
   refused = k.refused;
   unwritten = k.unwritten;
   ends = k.ends;
-  put = puts_unfailed answer o.taken o.taken (flat_map (named_unless true name) k.lines) other
+  put = puts_unfailed answer o.taken o.taken (flat_map (labelled_unless true label) k.lines) other
       (subst (Appends o.taken o.taken) (sym (nothing_written k.lines)) (Appends-none o.taken));
   memory = k.memory;
   over = k.over;
@@ -94,10 +92,11 @@ cut_count : (answer : Result Status RunFault) (old new : ℕ) → answer ≡ Err
 cut_count answer old new is counts = rw is at counts
 
 -- if the output failed, there was nothing to say of the input
-none_said : (name : Text) (format : Option Format) (found answer : Result Status RunFault) → EndsAs found answer
-    → answer ≡ Err run.Write → (said_of_file name None format found ≡ []) ⊎ (found ≡ Err run.Write)
-none_said name format found answer (inl same) is = inr (sym same ∙ is)
-none_said name format found answer (inr cut) is = inl (rw cut.1 refl)
+none_said : (label : Option Text) (format : Option Format) (found answer : Result Status RunFault)
+    → EndsAs found answer → answer ≡ Err run.Write
+    → (said_of_file label None format found ≡ []) ⊎ (found ≡ Err run.Write)
+none_said label format found answer (inl same) is = inr (sym same ∙ is)
+none_said label format found answer (inr cut) is = inl (rw cut.1 refl)
 
 not_quiet : (q : Bool) (answer : Result Status RunFault) → (q ≡ true → answer ≢ Err run.Write)
     → answer ≡ Err run.Write → q ≡ false
@@ -105,12 +104,12 @@ not_quiet true answer loud is = absurd (loud refl is)
 not_quiet false answer loud is = refl
 
 -- the task wrote the lines of an input, of whose bytes some were looked at
-module _ (t : Task) (q : Bool) (name : Text) (format : Option Format) (answer : Result Status RunFault)
+module _ (t : Task) (q : Bool) (label : Option Text) (format : Option Format) (answer : Result Status RunFault)
     (old : SourceState) (i : Change SourceState) (o : Change SinkState)
-    (k : WritesLines t (named_unless q name) answer i o) (same : Keeps old.remaining i.old.remaining)
+    (k : WritesLines t (labelled_unless q label) answer i o) (same : Keeps old.remaining i.old.remaining)
     (counted : i.old.failures ≡ old.failures) (is_format : IsFormat old.remaining format) where
   file_end : IsFileEnd t (record {
-    name = name;
+    label = label;
     unopened = None;
     told = old.remaining;
     left = i.new.remaining;
@@ -134,7 +133,7 @@ module _ (t : Task) (q : Bool) (name : Text) (format : Option Format) (answer : 
   -- the output failed
   pub named_cut : {E : Type 0} (f : E) (e : SinkState) → answer ≡ Err run.Write
       → (q ≡ true → answer ≢ Err run.Write)
-      → IsNamedEnd {E = E} t q name (Err f) (change old i.new) o (change e e)
+      → IsNamedEnd {E = E} t q label (Err f) (change old i.new) o (change e e)
   named_cut f e is loud = record {
     format = format;
     lines = k.lines;
@@ -143,20 +142,20 @@ module _ (t : Task) (q : Bool) (name : Text) (format : Option Format) (answer : 
     counted = reads_all;
     written = tt;
     outcome = (
-      subst (λ (text : Text). (n : ℕ) × Appends o.old.taken o.new.taken (take n text)) (text_of_file q name k.lines)
-          (cut_put answer o.old.taken o.new.taken (flat_map (named_unless q name) k.lines) is k.put),
+      subst (λ (text : Text). (n : ℕ) × Appends o.old.taken o.new.taken (take n text)) (text_of_input q label k.lines)
+          (cut_put answer o.old.taken o.new.taken (flat_map (labelled_unless q label) k.lines) is k.put),
       not_quiet q answer loud is,
       cut_count answer o.old.failures o.new.failures is k.writes,
-      none_said name format k.found answer k.ends is,
+      none_said label format k.found answer k.ends is,
       refl,
     );
   }
 
   -- or it didn't, and the message was put
   pub named_said : {E : Type 0} (answered : Result Status RunFault) (e : Change SinkState) → answer ≢ Err run.Write
-      → answered ≡ answer → SaysOfCheck (Some name) format answer e
-      → IsNamedEnd {E = E} t q name (Ok answered) (change old i.new) o e
-  named_said answered e other is says =
+      → answered ≡ answer → SaysOfCheck label format answer e → (q ≡ true → o.new ≡ o.old)
+      → IsNamedEnd {E = E} t q label (Ok answered) (change old i.new) o e
+  named_said answered e other is says untouched =
       let found : answer ≡ k.found = same_found k.found answer k.ends other in
       record {
         format = format;
@@ -167,16 +166,10 @@ module _ (t : Task) (q : Bool) (name : Text) (format : Option Format) (answer : 
         written = λ write. other (found ∙ write);
         outcome = (
           is ∙ found,
-          subst (Appends o.old.taken o.new.taken) (text_of_file q name k.lines)
-              (unfailed_put answer o.old.taken o.new.taken (flat_map (named_unless q name) k.lines) other k.put),
+          subst (Appends o.old.taken o.new.taken) (text_of_input q label k.lines)
+              (unfailed_put answer o.old.taken o.new.taken (flat_map (labelled_unless q label) k.lines) other k.put),
           unfailed_count answer o.old.failures o.new.failures other k.writes,
           rw found at says,
+          untouched,
         );
       }
-
--- a check reads to the end
-pub check_to_end : (profile : Profile) (answer : Result Status RunFault) (told has left : Option (List ℕ))
-    → Keeps told has → ReadsOver (Check profile) answer has left → ReadsToEnd answer told left
-check_to_end profile answer told has left same over =
-    let kept = over_kept (Check profile) answer told has left same over in
-    record { read = (kept.bytes, kept.read); ended = kept.ended }

@@ -1,7 +1,6 @@
 -- On the exit status of a request, and on what it read.
-use Rattle.std.proofs.Common.{◌≡◌, ◌∙◌, ℕ, Bool, true, false, List, [], ◌∷◌}
-use Rattle.std.proofs.Common.{codes, Option, Some, None, refl, sym, subst, inl, inr}
-use Rattle.std.proofs.Common.{fold, map}
+use Rattle.std.proofs.Common.{◌≡◌, ◌∙◌, ℕ, Bool, true, false, List, [], ◌∷◌, codes, Option, Some, None, refl, sym}
+use Rattle.std.proofs.Common.{subst, inl, inr, fold, map}
 use Rattle.std.specs.Prelude.{◌≢◌, ◌⊎◌, Result, Ok, Err, IfSome, if◌then◌else◌}
 use Rattle.sixel_io.specs.Devices.{Change, SinkState, SourceState}
 use Rattle.sixel_program.specs.declared.exit.Exit.{Exit}
@@ -12,16 +11,13 @@ use Rattle.sixel_run.specs.declared.task.Status.{Status}
 use Rattle.sixel_run.specs.declared.task.Status.TheVariants as status
 use Rattle.sixel_run.specs.declared.task.Task.{Task}
 use Rattle.sixel_run.specs.declared.task.Task.TheVariants as task
-use Rattle.sixel_run.specs.declared.task.Task.TheVariants.{Check}
 use Rattle.sixel_program.specs.Exits.{RunEnds, exit_for_answer}
-use Rattle.sixel_program.specs.Files.{FileEnd}
-use Rattle.sixel_program.specs.Files.{FileEnds, FilesEnd, RequestEnds}
-use Rattle.sixel_program.specs.Files.{exit_of_end}
-use Rattle.sixel_program.specs.Files.{names_read}
-use Rattle.sixel_program.specs.Files.{told_of, worse}
+use Rattle.sixel_program.specs.Files.{FileEnd, FileEnds, FilesEnd, RequestEnds, exit_of_end, labels_for, name_of}
+use Rattle.sixel_program.specs.Files.{names_read, told_of, worse}
 use Rattle.sixel_program.specs.Openings.{FolderView, bytes_of}
 use Rattle.sixel_run.specs.Outputs.{Wrote}
 use Rattle.sixel_run.specs.Texts.{Text}
+use Rattle.sixel_program.proofs.DashLemmas.{labels_read}
 
 -- ---- what is asked for
 
@@ -32,84 +28,60 @@ IsRunOver t x told = (answer : Result Status RunFault) × (x ≡ exit_for_answer
     × (x ≢ exit.Refused → (left : Option (List ℕ)) × (had : Option (List ℕ)) × (has : Option (List ℕ))
     × IfSome told (λ bytes. Wrote t bytes left answer had has))
 
-run_ends : (t : Task) (h : Bool) (name : Option Text) (x : Exit) (i : Change SourceState)
-    (o e : Change SinkState) → RunEnds t h name x i o e → IsRunOver t x i.old.remaining
-run_ends t h name x i o e ended =
+run_ends : (t : Task) (name : Option Text) (x : Exit) (i : Change SourceState) (o e : Change SinkState)
+    → RunEnds t name x i o e → IsRunOver t x i.old.remaining
+run_ends t name x i o e ended =
     (ended.answer, ended.ends, λ judged. (i.new.remaining, o.old.taken, o.new.taken, ended.wrote))
 
-file_run : {O : Type 0} (folder : FolderView O) (t : Task) (h : Bool) (name : Text) (x : Exit)
-    (i : Change SourceState) (o e : Change SinkState) → FileEnds t h folder name x i o e
+file_run : {O : Type 0} (folder : FolderView O) (t : Task) (name : Text) (x : Exit)
+    (i : Change SourceState) (o e : Change SinkState) → FileEnds t folder name x i o e
     → IsRunOver t x (told_of (bytes_of folder.opening) i.old.remaining name)
-file_run folder t h name x i o e ended =
+file_run folder t name x i o e ended =
     subst (λ (told : Option (List ℕ)). IsRunOver t x told) ended.told (elim ended.ended [
-      | inl ran ↦ run_ends t h (Some name) x ended.file o e ran.0
+      | inl ran ↦ run_ends t (Some name) x ended.file o e ran.0
       | inr unopened ↦ (Err run.Read, unopened.ends, λ judged. absurd (judged unopened.ends))
     ])
 
 module _ {O : Type 0} (folder : FolderView O) (x : Exit) (i : Change SourceState)
     (o e : Change SinkState) where
-  -- one input was read, or files were checked or surveyed
-  abbrev pub HasRead : Task → Bool → Bool → List Text → Type 0
-  HasRead t q h names =
+  -- one input was read, or inputs were checked, surveyed or scanned
+  abbrev pub HasRead : Task → Bool → List Text → Type 0
+  HasRead t h names =
       ((name : Text) × (names_read t names ≡ name ∷ [])
       × IsRunOver t x (told_of (bytes_of folder.opening) i.old.remaining name))
-      ⊎ ((r : Bool) × (names_read t names ≡ names) × FilesEnd t r h folder names x i o e)
+      ⊎ ((r : Bool) × (names_read t names ≡ map name_of (labels_for names))
+      × FilesEnd t r h folder (labels_for names) x i o e)
 
-  pub request_read : (t : Task) (q h : Bool) (names : List Text)
-      → RequestEnds t q h names folder x i o e → HasRead t q h names
-  request_read (task.Check profile) true h [] ended =
-      inl (
-        codes "-",
-        refl,
-        (
-          ended.0.answer,
-          ended.0.ends,
-          λ judged. (
-            i.new.remaining,
-            Some [],
-            Some ended.0.line,
-            ended.0.wrote,
-          ),
-        ),
-      )
-  request_read (task.Check profile) false h [] ended =
-      inl (codes "-", refl, run_ends (Check profile) h None x i o e ended)
-  request_read (task.Check profile) q h (name ∷ more) ended = inr (q, refl, ended)
-  request_read (task.Survey profile) q h [] ended =
-      inl (codes "-", refl, run_ends (task.Survey profile) h None x i o e ended)
-  request_read (task.Survey profile) q h (name ∷ more) ended = inr (false, refl, ended)
-  request_read (task.Scan profile eight) q h [] ended =
-      inl (codes "-", refl, run_ends (task.Scan profile eight) h None x i o e ended)
-  request_read (task.Scan profile eight) q h (name ∷ more) ended = inr (false, refl, ended)
-  request_read task.List q h [] ended =
-      inl (codes "-", refl, run_ends task.List h None x i o e ended)
-  request_read task.List q h (name ∷ more) ended =
-      inl (name, refl, file_run folder task.List h name x i o e ended)
+  pub request_read : (t : Task) (q h : Bool) (names : List Text) → RequestEnds t q h names folder x i o e
+      → HasRead t h names
+  request_read (task.Check profile) q h names ended =
+      inr (q, sym (labels_read (task.Check profile) names refl), ended)
+  request_read (task.Survey profile) q h names ended =
+      inr (false, sym (labels_read (task.Survey profile) names refl), ended)
+  request_read (task.Scan profile eight) q h names ended =
+      inr (false, sym (labels_read (task.Scan profile eight) names refl), ended)
+  request_read task.List q h [] ended = inl (codes "-", refl, run_ends task.List None x i o e ended)
+  request_read task.List q h (name ∷ more) ended = inl (name, refl, file_run folder task.List name x i o e ended)
   request_read (task.Render profile) q h [] ended =
-      inl (codes "-", refl, run_ends (task.Render profile) h None x i o e ended)
+      inl (codes "-", refl, run_ends (task.Render profile) None x i o e ended)
   request_read (task.Render profile) q h (name ∷ more) ended =
-      inl (name, refl, file_run folder (task.Render profile) h name x i o e ended)
+      inl (name, refl, file_run folder (task.Render profile) name x i o e ended)
   request_read (task.Encode profile) q h [] ended =
-      inl (codes "-", refl, run_ends (task.Encode profile) h None x i o e ended)
+      inl (codes "-", refl, run_ends (task.Encode profile) None x i o e ended)
   request_read (task.Encode profile) q h (name ∷ more) ended =
-      inl (name, refl, file_run folder (task.Encode profile) h name x i o e ended)
+      inl (name, refl, file_run folder (task.Encode profile) name x i o e ended)
   request_read (task.Show profile showing fill selects width height) q h [] ended =
-      inl (codes "-", refl, run_ends (task.Show profile showing fill selects width height) h None x i o e ended)
+      inl (codes "-", refl, run_ends (task.Show profile showing fill selects width height) None x i o e ended)
   request_read (task.Show profile showing fill selects width height) q h (name ∷ more) ended =
-      inl (
-        name,
-        refl,
-        file_run folder (task.Show profile showing fill selects width height) h name x i o e
-            ended,
-      )
+      inl (name, refl, file_run folder (task.Show profile showing fill selects width height) name x i o e ended)
   request_read (task.ShowBox profile showing fill selects) q h [] ended =
-      inl (codes "-", refl, run_ends (task.ShowBox profile showing fill selects) h None x i o e ended)
+      inl (codes "-", refl, run_ends (task.ShowBox profile showing fill selects) None x i o e ended)
   request_read (task.ShowBox profile showing fill selects) q h (name ∷ more) ended =
-      inl (name, refl, file_run folder (task.ShowBox profile showing fill selects) h name x i o e ended)
+      inl (name, refl, file_run folder (task.ShowBox profile showing fill selects) name x i o e ended)
   request_read (task.Mend profile background showing selects) q h [] ended =
-      inl (codes "-", refl, run_ends (task.Mend profile background showing selects) h None x i o e ended)
+      inl (codes "-", refl, run_ends (task.Mend profile background showing selects) None x i o e ended)
   request_read (task.Mend profile background showing selects) q h (name ∷ more) ended =
-      inl (name, refl, file_run folder (task.Mend profile background showing selects) h name x i o e ended)
+      inl (name, refl, file_run folder (task.Mend profile background showing selects) name x i o e ended)
 
 answer_no_usage : (a : Result Status RunFault) → exit_for_answer a ≢ exit.Usage
 answer_no_usage (Ok status.Done) = λ (is : exit.Done ≡ exit.Usage). cc
@@ -127,11 +99,11 @@ greatest_no_usage x [] other = other
 greatest_no_usage x (e ∷ ends) other =
     greatest_no_usage (worse x (exit_of_end e)) ends (one_of_two _ x (exit_of_end e) other (answer_no_usage e.answer))
 
-files_no_usage : (t : Task) (q h : Bool) {O : Type 0} (folder : FolderView O) (names : List Text) (x : Exit)
-    (i : Change SourceState) (o e : Change SinkState) → FilesEnd t q h folder names x i o e → x ≢ exit.Usage
-files_no_usage t q h folder names x i o e (inl done) is =
+files_no_usage : (t : Task) (q h : Bool) {O : Type 0} (folder : FolderView O) (labels : List (Option Text)) (x : Exit)
+    (i : Change SourceState) (o e : Change SinkState) → FilesEnd t q h folder labels x i o e → x ≢ exit.Usage
+files_no_usage t q h folder labels x i o e (inl done) is =
     greatest_no_usage exit.Done done.ends (λ (none : exit.Done ≡ exit.Usage). cc) (sym done.checked.exits ∙ is)
-files_no_usage t q h folder names x i o e (inr cut) is =
+files_no_usage t q h folder labels x i o e (inr cut) is =
     let no : exit.Refused ≡ exit.Usage = sym cut.exits ∙ is in cc
 
 pub request_no_usage : (t : Task) (q h : Bool) (names : List Text) {O : Type 0} (folder : FolderView O)
@@ -140,5 +112,5 @@ pub request_no_usage : (t : Task) (q h : Bool) (names : List Text) {O : Type 0} 
 request_no_usage t q h names folder x i o e ended is =
     elim (request_read folder x i o e t q h names ended) [
       | inl one ↦ answer_no_usage one.2.0 (sym one.2.1 ∙ is)
-      | inr checked ↦ files_no_usage t checked.0 h folder names x i o e checked.2 is
+      | inr checked ↦ files_no_usage t checked.0 h folder (labels_for names) x i o e checked.2 is
     ]

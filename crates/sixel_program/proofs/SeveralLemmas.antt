@@ -1,7 +1,7 @@
 -- The exit statuses of several files, and the line of each.
-use Rattle.std.proofs.Common.{ap, append_assoc, Err, ◌++◌}
-use Rattle.std.proofs.Common.{◌≡◌, ◌≤◌, ◌∷◌, ℕ, Bool, true, false, List, [], Option, Some, arith, refl, sym, fold, length, map}
-use Rattle.std.proofs.Common.{slice_index_or, subst, suc, zero, inl, inr, ◌<◌, ◌+◌, ◌-◌, ◌^◌, ◌∙◌}
+use Rattle.std.proofs.Common.{ap, append_assoc, Err, ◌++◌, ◌≡◌, ◌≤◌, ◌∷◌, ℕ, Bool, true, false, List, [], Option, Some}
+use Rattle.std.proofs.Common.{arith, refl, sym, fold, length, map, slice_index_or, subst, suc, zero, inl, inr, ◌<◌, ◌+◌}
+use Rattle.std.proofs.Common.{◌-◌, ◌^◌, ◌∙◌}
 use Rattle.std.specs.Prelude.{◌⊎◌, ◌≢◌, All, Contains, Ok, nat_lt, if◌then◌else◌}
 use Rattle.std.specs.List.{concat}
 use Rattle.std.proofs.lemmas.List.{append-nil}
@@ -18,7 +18,7 @@ use Rattle.sixel_run.specs.declared.fault.RunFault.TheVariants as run
 use Rattle.sixel_run.specs.declared.task.Status.{Status}
 use Rattle.sixel_program.specs.Exits.{IsPut, exit_code, exit_for_answer}
 use Rattle.sixel_program.specs.Files.{ArePut, FileEnd, IsFileEnd, IsSaid, exit_of_end, file_text, files_exit}
-use Rattle.sixel_program.proofs.FilesLemmas.{no_text}
+use Rattle.sixel_program.proofs.FilesLemmas.{from_done, no_text}
 use Rattle.sixel_program.specs.Files.{files_text, worse}
 use Rattle.sixel_run.specs.LineTasks.{has_lines, scans}
 use Rattle.sixel_run.proofs.StringLemmas.{not_a_fault}
@@ -88,12 +88,6 @@ fold_reached x (y ∷ exits) = elim (one_of (nat_lt (exit_code x) (exit_code y))
       (contains_later x (fold worse y exits) (y ∷ exits) (fold_reached y exits))
 ]
 
-from_done : (x : Exit) → worse exit.Done x ≡ x
-from_done exit.Done = refl
-from_done exit.Broken = refl
-from_done exit.Refused = refl
-from_done exit.Usage = refl
-
 pub reached : (e : FileEnd) (more : List FileEnd) → Contains (map exit_of_end (e ∷ more)) (files_exit (e ∷ more))
 reached e more =
     let exits = map exit_of_end more in
@@ -148,8 +142,8 @@ said_whole texts sink are =
 pub refused : (t : Task) (is_quiet : Bool) (e : FileEnd) (fault : RunFault) → IsFileEnd t e
     → scans t ≡ false → e.answer ≡ Err fault → files_text is_quiet (e ∷ []) ≡ []
 refused t is_quiet e fault is found answer =
-    append-nil (file_text is_quiet e.name e.lines)
-    ∙ ap (file_text is_quiet e.name) (is.refused found fault answer) ∙ no_text is_quiet e.name
+    append-nil (file_text is_quiet e.label e.lines)
+    ∙ ap (file_text is_quiet e.label) (is.refused found fault answer) ∙ no_text is_quiet e.label
 
 pub quiet : (ends : List FileEnd) → files_text true ends ≡ []
 quiet [] = refl

@@ -1,6 +1,6 @@
 -- What an exit status says of each file that was read.
-use Rattle.std.proofs.Common.{◌≡◌, ◌∙◌, ◌≤◌, ◌∷◌, ℕ, Bool, List, [], Option, Some, None, arith, inl, inr}
-use Rattle.std.proofs.Common.{map, refl, subst, suc, sym, zero}
+use Rattle.std.proofs.Common.{◌≡◌, ◌∙◌, ◌≤◌, ◌∷◌, ℕ, Bool, List, [], Option, Some, None, arith, inl, inr, ap, map, refl}
+use Rattle.std.proofs.Common.{subst, suc, sym, zero}
 use Rattle.std.specs.List.{concat}
 use Rattle.std.specs.Prelude.{All, Contains, Err, IfSome, Ok, Result, slice_index_or}
 use Rattle.std.proofs.lemmas.List.Elements.{All-cons, All-head, All-nil, All-tail}
@@ -13,10 +13,9 @@ use Rattle.sixel_run.specs.declared.task.Status.TheVariants as status
 use Rattle.sixel_run.specs.declared.task.Task.{Task}
 use Rattle.sixel_program.specs.Exits.{exit_code, exit_for_answer}
 use Rattle.sixel_run.specs.Outputs.{Wrote}
-use Rattle.sixel_program.specs.Files.{FileEnd, FilesEnd, IsBrokenOver, IsDoneOver, IsFileEnd, IsJudgedOver}
-use Rattle.sixel_program.specs.Files.{IsRead, RequestEnds, exit_of_end, files_exit}
-use Rattle.sixel_program.specs.Files.{names_of, names_read}
-use Rattle.sixel_program.specs.Files.{told_of}
+use Rattle.sixel_program.specs.Files.{FileEnd, FilesEnd, IsBrokenOver, IsDoneOver, IsFileEnd, IsJudgedOver, IsRead}
+use Rattle.sixel_program.specs.Files.{RequestEnds, exit_of_end, files_exit, labels_for, name_of, names_read, told_of}
+use Rattle.sixel_program.proofs.FilesLemmas.{names_of}
 use Rattle.sixel_program.specs.Openings.{FolderView, bytes_of}
 use Rattle.sixel_run.specs.Texts.{Text}
 use Rattle.sixel_program.proofs.EndLemmas.{broken_gives, done_gives}
@@ -31,7 +30,7 @@ told_each : (P : Option (List ℕ) → Type 0) (contents : Text → Option (List
     → All (λ name. P (told_of contents i.old.remaining name)) (names_of ends)
 told_each P contents i [] read each = All-nil (λ name. P (told_of contents i.old.remaining name))
 told_each P contents i (e ∷ rest) read each =
-    All-cons (λ name. P (told_of contents i.old.remaining name)) e.name (names_of rest)
+    All-cons (λ name. P (told_of contents i.old.remaining name)) (name_of e.label) (names_of rest)
     (subst P (All-head (IsRead contents i) e rest read).told (All-head (λ e. P e.told) e rest each))
     (told_each P contents i rest (All-tail (IsRead contents i) e rest read) (All-tail (λ e. P e.told) e rest each))
 
@@ -76,7 +75,7 @@ told_broken : (t : Task) (contents : Text → Option (List ℕ)) (i : Change Sou
     → (name : Text) × Contains (names_of ends) name × IsBrokenOver t (told_of contents i.old.remaining name)
 told_broken t contents i [] read each (k, short, is) = absurd (omega (arith, short))
 told_broken t contents i (e ∷ rest) read each (zero, short, is) = (
-  e.name,
+  name_of e.label,
   (0, omega arith, refl),
   subst (IsBrokenOver t) (All-head (IsRead contents i) e rest read).told
       (broken_gives t e.told e.left e.answer (Some []) (Some (concat e.lines))
@@ -85,39 +84,41 @@ told_broken t contents i (e ∷ rest) read each (zero, short, is) = (
 told_broken t contents i (e ∷ rest) read each (suc k, short, is) =
     let found = told_broken t contents i rest (All-tail (IsRead contents i) e rest read)
     (All-tail (IsFileEnd t) e rest each) (k, omega (arith, short), is) in
-    (found.0, contains_later e.name found.0 (names_of rest) found.1, found.2)
+    (found.0, contains_later (name_of e.label) found.0 (names_of rest) found.1, found.2)
 
 one_broken : (ends : List FileEnd) → files_exit ends ≡ exit.Broken → Contains (map exit_of_end ends) exit.Broken
 one_broken [] is = let no : exit.Done ≡ exit.Broken = is in cc
 one_broken (e ∷ more) is = subst (Contains (map exit_of_end (e ∷ more))) is (reached e more)
 
-module _ (t : Task) (q h : Bool) {O : Type 0} (folder : FolderView O) (names : List Text) (x : Exit)
-    (i : Change SourceState) (o e : Change SinkState) where
-  files_done : FilesEnd t q h folder names x i o e → x ≡ exit.Done
-      → All (λ name. IsDoneOver t (told_of (bytes_of folder.opening) i.old.remaining name)) names
+module _ (t : Task) (q h : Bool) {O : Type 0} (folder : FolderView O) (labels : List (Option Text))
+    (x : Exit) (i : Change SourceState) (o e : Change SinkState) where
+  files_done : FilesEnd t q h folder labels x i o e → x ≡ exit.Done
+      → All (λ name. IsDoneOver t (told_of (bytes_of folder.opening) i.old.remaining name)) (map name_of labels)
   files_done (inl done) is =
       let are = done.checked in
       subst (All (λ name. IsDoneOver t (told_of (bytes_of folder.opening) i.old.remaining name)))
-      (sym are.names_are)
-      (told_each (IsDoneOver t) (bytes_of folder.opening) i done.ends are.read (each_done t done.ends are.each (sym are.exits ∙ is)))
+      (ap (map name_of) (sym are.labels_are))
+      (told_each (IsDoneOver t) (bytes_of folder.opening) i done.ends are.read
+      (each_done t done.ends are.each (sym are.exits ∙ is)))
   files_done (inr cut) is = let no : exit.Refused ≡ exit.Done = sym cut.exits ∙ is in cc
 
-  files_judged : FilesEnd t q h folder names x i o e → x ≡ exit.Broken
-      → All (λ name. IsJudgedOver t (told_of (bytes_of folder.opening) i.old.remaining name)) names
+  files_judged : FilesEnd t q h folder labels x i o e → x ≡ exit.Broken
+      → All (λ name. IsJudgedOver t (told_of (bytes_of folder.opening) i.old.remaining name)) (map name_of labels)
   files_judged (inl done) is =
       let are = done.checked in
       subst (All (λ name. IsJudgedOver t (told_of (bytes_of folder.opening) i.old.remaining name)))
-      (sym are.names_are)
-      (told_each (IsJudgedOver t) (bytes_of folder.opening) i done.ends are.read (each_judged t done.ends are.each (sym are.exits ∙ is)))
+      (ap (map name_of) (sym are.labels_are))
+      (told_each (IsJudgedOver t) (bytes_of folder.opening) i done.ends are.read
+      (each_judged t done.ends are.each (sym are.exits ∙ is)))
   files_judged (inr cut) is = let no : exit.Refused ≡ exit.Broken = sym cut.exits ∙ is in cc
 
-  files_broken : FilesEnd t q h folder names x i o e → x ≡ exit.Broken
-      → (name : Text) × Contains names name
+  files_broken : FilesEnd t q h folder labels x i o e → x ≡ exit.Broken
+      → (name : Text) × Contains (map name_of labels) name
       × IsBrokenOver t (told_of (bytes_of folder.opening) i.old.remaining name)
   files_broken (inl done) is =
       let are = done.checked in
       subst (λ (ns : List Text). (name : Text) × Contains ns name
-      × IsBrokenOver t (told_of (bytes_of folder.opening) i.old.remaining name)) (sym are.names_are)
+      × IsBrokenOver t (told_of (bytes_of folder.opening) i.old.remaining name)) (ap (map name_of) (sym are.labels_are))
       (told_broken t (bytes_of folder.opening) i done.ends are.read are.each
       (one_broken done.ends (sym are.exits ∙ is)))
   files_broken (inr cut) is = let no : exit.Refused ≡ exit.Broken = sym cut.exits ∙ is in cc
@@ -141,7 +142,7 @@ module _ (t : Task) (q h : Bool) (names : List Text) {O : Type 0} (folder : Fold
         rw one.1 (all_of_one (IsDoneOver t) one.0
         (done_gives t _ run.0 one.2.0 run.1 run.2 run.3 (sym one.2.1 ∙ is)))
     | inr checked ↦
-        rw checked.1 (files_done t checked.0 h folder names x i o e checked.2 is)
+        rw checked.1 (files_done t checked.0 h folder (labels_for names) x i o e checked.2 is)
   ]
 
   pub all_read_judged : x ≡ exit.Broken
@@ -153,7 +154,7 @@ module _ (t : Task) (q h : Bool) (names : List Text) {O : Type 0} (folder : Fold
         rw one.1 (all_of_one (IsJudgedOver t) one.0
         (judged_gives t _ run.0 one.2.0 run.1 run.2 run.3 (rw ends (omega arith))))
     | inr checked ↦
-        rw checked.1 (files_judged t checked.0 h folder names x i o e checked.2 is)
+        rw checked.1 (files_judged t checked.0 h folder (labels_for names) x i o e checked.2 is)
   ]
 
   pub one_read_broken : x ≡ exit.Broken → (name : Text)
@@ -166,5 +167,5 @@ module _ (t : Task) (q h : Bool) (names : List Text) {O : Type 0} (folder : Fold
           broken_gives t _ run.0 one.2.0 run.1 run.2 run.3 (sym one.2.1 ∙ is),
         )
     | inr checked ↦
-        rw checked.1 (files_broken t checked.0 h folder names x i o e checked.2 is)
+        rw checked.1 (files_broken t checked.0 h folder (labels_for names) x i o e checked.2 is)
   ]

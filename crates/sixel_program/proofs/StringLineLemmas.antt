@@ -6,17 +6,17 @@ use Rattle.sixel_judge.specs.declared.verdict.Finding.{Finding}
 use Rattle.sixel_scan.specs.declared.answer.Answer.TheVariants.{Broken, Refused}
 use Rattle.sixel_run.specs.Texts.{Text, finding_line, reason_name, refusal_line, rule_name, spaced, string_line}
 use Rattle.sixel_explain.specs.declared.explanations.Topic.TheVariants as topic
-use Rattle.sixel_explain.specs.Explanations.{ArePasted, line_of, name_in}
+use Rattle.sixel_explain.specs.Explanations.{ArePasted, line_of, names_in}
 use Rattle.sixel_explain.proofs.PastedLemmas.{finding_pasted, line_after, low, low_number, name_before_number}
 use Rattle.sixel_explain.proofs.PastedLemmas.{number_nameless, pasted}
 
 -- the line of a string that is no document, whatever is before it
 refusal_pasted : (before : Text) (f : Fault) (said : List Text) → ArePasted said (before ++ refusal_line f)
-    → name_in (line_of said) ≡ Some (reason_name f.reason)
+    → names_in (line_of said) ≡ Some (reason_name f.reason ∷ [])
 refusal_pasted before f said are =
     let parts = reason_name f.reason ∷ decimal f.place ∷ [] in
     let text = low (32 ∷ (before ++ codes "refused")) in
-    ap name_in
+    ap names_in
     (pasted said (before ++ codes "refused") parts
     (are ∙ ap (λ (t : Text). 32 ∷ t) (line_after before (codes "refused") parts))
     ∙ ap (λ (d : Text). text ++ spaced (low (reason_name f.reason) ∷ d ∷ [])) (low_number f.place))
@@ -31,14 +31,14 @@ after_place before place line =
 
 pub string_finding_pasted : (before : Text) (place : ℕ) (f : Finding) (said : List Text)
     → ArePasted said (before ++ string_line (record { place = place; answer = Broken f }))
-    → name_in (line_of said) ≡ Some (rule_name f.rule)
+    → names_in (line_of said) ≡ Some (rule_name f.rule ∷ [])
 string_finding_pasted before place f said are =
     finding_pasted (before ++ (decimal place ++ 32 ∷ [])) f said
     (are ∙ ap (λ (t : Text). 32 ∷ t) (after_place before place (finding_line f)))
 
 pub string_refusal_pasted : (before : Text) (place : ℕ) (f : Fault) (said : List Text)
     → ArePasted said (before ++ string_line (record { place = place; answer = Refused f }))
-    → name_in (line_of said) ≡ Some (reason_name f.reason)
+    → names_in (line_of said) ≡ Some (reason_name f.reason ∷ [])
 string_refusal_pasted before place f said are =
     refusal_pasted (before ++ (decimal place ++ 32 ∷ [])) f said
     (are ∙ ap (λ (t : Text). 32 ∷ t) (after_place before place (refusal_line f)))

@@ -1,8 +1,8 @@
 -- How a run ends: exit statuses and messages.
-use Rattle.std.specs.Prelude.{◌≡◌, ◌≢◌, ◌⊎◌, ◌++◌, ℕ, [], Bool, false, true, take, IfSome, Result, Ok}
-use Rattle.std.specs.Prelude.{Err, None, Option, Some, if◌then◌else◌}
+use Rattle.std.specs.Prelude.{◌≡◌, ◌≢◌, ◌⊎◌, ◌++◌, ℕ, [], Bool, false, true, take, IfSome, Result, Ok, Err, None}
+use Rattle.std.specs.Prelude.{Option, Some, if◌then◌else◌}
 use Rattle.std.specs.Io.KnownBytes.{Appends}
-use Rattle.sixel_io.specs.Devices.{Change, SinkState, SourceState, change, one_more}
+use Rattle.sixel_io.specs.Devices.{Change, SinkState, SourceState, one_more}
 use Rattle.sixel_program.specs.declared.exit.Exit.{Exit}
 use Rattle.sixel_program.specs.declared.exit.Exit.TheVariants.{Done, Broken, Refused, Usage}
 use Rattle.sixel_run.specs.declared.fault.RunFault.{RunFault}
@@ -13,7 +13,6 @@ use Rattle.sixel_run.specs.declared.task.Task.TheVariants as task
 use Rattle.sixel_run.specs.declared.fault.RunFault.TheVariants as run
 use Rattle.sixel_program.specs.declared.formats.Format.{Format}
 use Rattle.sixel_program.specs.Formats.{IsFormat, advice_for}
-use Rattle.sixel_program.specs.Hints.{hint_after}
 use Rattle.sixel_program.specs.Names.{named, named_fault_line}
 use Rattle.sixel_run.specs.Outputs.{CountsReads, CountsWrites, TakesMemory, Wrote}
 use Rattle.sixel_run.specs.Texts.{Text, fault_line, finding_line}
@@ -63,11 +62,10 @@ IsPut text sink =
 
 -- how a run of the task ended, over an input that has this name or none. The run had some answer. The input and the
 -- output are as after a run with this answer, the exit status is that of the answer, and the errors got the message
--- about it and the advice on an input of this format, and then the hint, if hints are shown
-pub record RunEnds (t : Task) (is_shown : Bool) (name : Option Text) (exit : Exit) (input : Change SourceState)
+-- about it and the advice on an input of this format
+pub record RunEnds (t : Task) (name : Option Text) (exit : Exit) (input : Change SourceState)
     (output errors : Change SinkState) : Type 0 where
   pub answer : Result Status RunFault
-  pub between : SinkState
   pub format : Option Format
   pub is_format : IsFormat input.old.remaining format
   pub wrote : IfSome input.old.remaining
@@ -77,5 +75,4 @@ pub record RunEnds (t : Task) (is_shown : Bool) (name : Option Text) (exit : Exi
   pub written : CountsWrites answer output.old.failures output.new.failures
   pub flushed : answer ≢ Err run.Write → output.new.is_flushed ≡ true
   pub ends : exit ≡ exit_for_answer answer
-  pub said : IsPut (complaint t name answer ++ advice_for format answer) (change errors.old between)
-  pub hinted : IsPut (hint_after is_shown t answer) (change between errors.new)
+  pub said : IsPut (complaint t name answer ++ advice_for format answer) errors

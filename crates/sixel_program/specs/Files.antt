@@ -2,12 +2,11 @@
 use Rattle.std.specs.Prelude.{◌≡◌, ◌≢◌, ◌⊎◌, ◌-◌, ◌^◌, ◌<◌, ◌&&◌, ◌||◌, ◌∷◌, ◌++◌, ℕ, Bool, not, true, false, List, []}
 use Rattle.std.specs.Prelude.{Option, Some, None, IfSome, Result, Ok, Err, codes, flat_map, fold, map, take, nat_lt}
 use Rattle.std.specs.Prelude.{◌≤◌, OnOk, count_by, length, option_to_list, if◌then◌else◌, ⊤}
-use Rattle.std.specs.Io.KnownBytes.{Appends}
+use Rattle.std.specs.Io.KnownBytes.{Appends, Keeps}
 use Rattle.std.specs.List.{All, concat, list_any}
 use Rattle.std.specs.Str.{bytes_eq}
-use Rattle.sixel_io.specs.Devices.{Change, ReadsToEnd, SinkState, SourceState, change, one_more}
-use Rattle.sixel_model.specs.declared.profile.Profile.{Profile}
-use Rattle.sixel_model.specs.declared.rule.Rule.{Rule}
+use Rattle.sixel_io.specs.Devices.{Change, SinkState, SourceState, change, one_more}
+use Rattle.sixel_program.specs.declared.hints.Cause.{Cause}
 use Rattle.sixel_program.specs.declared.exit.Exit.{Exit}
 use Rattle.sixel_program.specs.declared.folder.Unopened.{Unopened}
 use Rattle.sixel_program.specs.declared.exit.Exit.TheVariants.{Done, Refused}
@@ -20,12 +19,12 @@ use Rattle.sixel_run.specs.declared.task.Task.{Task}
 use Rattle.sixel_run.specs.declared.task.Task.TheVariants.{Check, Encode, Render, Scan, Show, ShowBox, Survey}
 use Rattle.sixel_program.specs.declared.formats.Format.{Format}
 use Rattle.sixel_program.specs.declared.terminals.Terminals.{Terminals}
-use Rattle.sixel_program.specs.Formats.{IsFormat, advice_for, advice_on}
-use Rattle.sixel_program.specs.Exits.{IsPut, RunEnds, complaint, exit_code, exit_for_answer, fault_said}
+use Rattle.sixel_program.specs.Formats.{IsFormat, advice_on}
+use Rattle.sixel_program.specs.Exits.{IsPut, RunEnds, exit_code, exit_for_answer, fault_said, labelled}
 use Rattle.sixel_run.specs.LineTasks.{ReadsOver, scans}
 use Rattle.sixel_run.specs.Outputs.{Gives, TakesMemory, Wrote, failures_by}
-use Rattle.sixel_program.specs.Hints.{first_rule, hint_of}
-use Rattle.sixel_program.specs.Names.{named, named_fault_line, unopened_line}
+use Rattle.sixel_program.specs.Hints.{first_cause, hint_of}
+use Rattle.sixel_program.specs.Names.{unopened_line}
 use Rattle.sixel_program.specs.Openings.{CountsOf, FailsWith, FolderView, IsOpening, Told, bytes_of}
 use Rattle.sixel_run.specs.Texts.{IsLine, Text, fault_line}
 
@@ -34,6 +33,17 @@ use Rattle.sixel_run.specs.Texts.{IsLine, Text, fault_line}
 -- whether this name is that of standard input
 abbrev pub is_dash : Text → Bool
 is_dash name = bytes_eq name (codes "-")
+
+-- the labels of the inputs of a check, a survey or a scan: the names; without names there is one input, standard input,
+-- and it has none
+abbrev pub labels_for : List Text → List (Option Text)
+labels_for [] = None ∷ []
+labels_for (name ∷ more) = map Some (name ∷ more)
+
+-- the name of the input with this label, or `-` without one
+abbrev pub name_of : Option Text → Text
+name_of None = codes "-"
+name_of (Some name) = name
 
 -- the bytes that are read for a name, if they are known: what standard input has left, or the file's
 abbrev pub told_of : (Text → Option (List ℕ)) → Option (List ℕ) → Text → Option (List ℕ)
@@ -134,21 +144,21 @@ pub record IsOpened {O : Type 0} (folder : FolderView O) (name : Text) (input : 
 
 -- how a task over the file with this name ended. If the name is that of standard input, the file is `input`. Otherwise
 -- `input` is unchanged, and the file was read or couldn't be opened
-pub record FileEnds {O : Type 0} (t : Task) (is_shown : Bool) (folder : FolderView O) (name : Text) (exit : Exit)
+pub record FileEnds {O : Type 0} (t : Task) (folder : FolderView O) (name : Text) (exit : Exit)
     (input : Change SourceState) (output errors : Change SinkState) : Type 0 where
   pub file : Change SourceState
   pub told : file.old.remaining ≡ told_of (bytes_of folder.opening) input.old.remaining name
   pub is_input : is_dash name ≡ true → file ≡ input
   pub stays : is_dash name ≡ false → input.new ≡ input.old
-  pub ended : (RunEnds t is_shown (Some name) exit file output errors × IsOpened folder name file)
+  pub ended : (RunEnds t (Some name) exit file output errors × IsOpened folder name file)
       ⊎ IsUnopened (folder.opening name) name exit output errors
 
--- ---- checks, surveys and scans of several files
+-- ---- checks, surveys and scans
 
--- how the check, the survey or the scan of a file ended: why it couldn't be opened, if it couldn't; the file's bytes
--- and what it had left, if they are known; its format; the lines found; and the answer
+-- how the check, the survey or the scan of an input ended: its label; why it couldn't be opened, if it couldn't; its
+-- bytes and what it had left, if they are known; its format; the lines found; and the answer
 pub record FileEnd : Type 0 where
-  pub name : Text
+  pub label : Option Text
   pub unopened : Option Unopened
   pub told : Option (List ℕ)
   pub left : Option (List ℕ)
@@ -170,36 +180,38 @@ pub record IsFileEnd (t : Task) (e : FileEnd) : Type 0 where
 
 -- the file was opened, or couldn't be, which counts as a failed read. Standard input is never opened
 pub record IsFileOpening {O : Type 0} (folder : FolderView O) (e : FileEnd) : Type 0 where
-  pub input : is_dash e.name ≡ true → e.unopened ≡ None
-  pub opening : is_dash e.name ≡ false → IsOpening (folder.opening e.name) e.name e.unopened
+  pub input : is_dash (name_of e.label) ≡ true → e.unopened ≡ None
+  pub opening : is_dash (name_of e.label) ≡ false
+      → IsOpening (folder.opening (name_of e.label)) (name_of e.label) e.unopened
   pub unread : (reason : Unopened) → e.unopened ≡ Some reason → e.answer ≡ Err run.Read
-  pub counted : is_dash e.name ≡ false → e.unopened ≡ None → FailsWith folder e.name e.answer
+  pub counted : is_dash (name_of e.label) ≡ false → e.unopened ≡ None → FailsWith folder (name_of e.label) e.answer
 
--- the output for a file: each line after the file's name; nothing if the task is quiet
-abbrev pub file_text : Bool → Text → List Text → Text
-file_text is_quiet name lines = if is_quiet then [] else flat_map (named name) lines
+-- the output for an input: each line after its label, if it has one; nothing if the task is quiet
+abbrev pub file_text : Bool → Option Text → List Text → Text
+file_text is_quiet label lines = if is_quiet then [] else flat_map (labelled label) lines
 
 abbrev pub text_of_end : Bool → FileEnd → Text
-text_of_end is_quiet e = file_text is_quiet e.name e.lines
+text_of_end is_quiet e = file_text is_quiet e.label e.lines
 
--- the output for several files
+-- the output for several inputs
 abbrev pub files_text : Bool → List FileEnd → Text
 files_text is_quiet ends = flat_map (text_of_end is_quiet) ends
 
--- the messages about the check of the file with this name and this format: if it is refused one, with the advice on it
-abbrev pub said_of_check : Text → Option Format → Result Status RunFault → List Text
-said_of_check name format (Ok status) = []
-said_of_check name format (Err fault) = (named_fault_line name fault ++ advice_on format fault) ∷ []
+-- the messages about the check of the input with this label and this format: if it is refused one, with the advice on
+-- it
+abbrev pub said_of_check : Option Text → Option Format → Result Status RunFault → List Text
+said_of_check label format (Ok status) = []
+said_of_check label format (Err fault) = (fault_said label fault ++ advice_on format fault) ∷ []
 
--- the messages about the file with this name and this format: one if it couldn't be opened or is refused
-abbrev pub said_of_file : Text → Option Unopened → Option Format → Result Status RunFault → List Text
-said_of_file name None format answer = said_of_check name format answer
-said_of_file name (Some reason) format answer = unopened_line name reason ∷ []
+-- the messages about the input with this label and this format: one if it couldn't be opened or is refused
+abbrev pub said_of_file : Option Text → Option Unopened → Option Format → Result Status RunFault → List Text
+said_of_file label None format answer = said_of_check label format answer
+said_of_file label (Some reason) format answer = unopened_line (name_of label) reason ∷ []
 
 abbrev pub said_of : FileEnd → List Text
-said_of e = said_of_file e.name e.unopened e.format e.answer
+said_of e = said_of_file e.label e.unopened e.format e.answer
 
--- the messages about several files
+-- the messages about several inputs
 abbrev pub complaints_of : List FileEnd → List Text
 complaints_of ends = flat_map said_of ends
 
@@ -217,12 +229,12 @@ exit_of_end e = exit_for_answer e.answer
 abbrev pub files_exit : List FileEnd → Exit
 files_exit ends = worst (map exit_of_end ends)
 
--- the rule of the first broken verdict
-abbrev pub first_broken : List FileEnd → Option Rule
-first_broken ends = first_rule (map (λ e. e.answer) ends)
+-- what was found wrong first
+abbrev pub first_wrong : List FileEnd → Option Cause
+first_wrong ends = first_cause (map (λ e. e.answer) ends)
 
-abbrev pub names_of : List FileEnd → List Text
-names_of ends = map (λ e. e.name) ends
+abbrev pub labels_of : List FileEnd → List (Option Text)
+labels_of ends = map (λ e. e.label) ends
 
 -- the texts were put to a sink in turn, each whole, or a prefix of it if a call failed. A failure doesn't stop the next
 -- text
@@ -236,42 +248,45 @@ abbrev pub SaysOfCheck : Option Text → Option Format → Result Status RunFaul
 SaysOfCheck name format (Ok status) errors = errors.new ≡ errors.old
 SaysOfCheck name format (Err fault) errors = IsPut (fault_said name fault ++ advice_on format fault) errors
 
--- the message about the file with this name and this format was put to a sink
-abbrev pub SaysOfFile : Text → Option Unopened → Option Format → Result Status RunFault → Change SinkState → Type 0
-SaysOfFile name None format answer errors = SaysOfCheck (Some name) format answer errors
-SaysOfFile name (Some reason) format answer errors = IsPut (unopened_line name reason) errors
+-- the message about the input with this label and this format was put to a sink
+abbrev pub SaysOfFile : Option Text → Option Unopened → Option Format → Result Status RunFault → Change SinkState
+    → Type 0
+SaysOfFile label None format answer errors = SaysOfCheck label format answer errors
+SaysOfFile label (Some reason) format answer errors = IsPut (unopened_line (name_of label) reason) errors
 
--- what the task over the file with this name and this format did to the two sinks, given its lines and its answer.
--- `Ok`: the text for the file was appended to the output, and the message about it was put to the errors. `Err`: the
--- output failed after a prefix of that text, and nothing was put to the errors: there was nothing to say of the file,
--- or the task wrote while it read. This can't happen if the task is quiet
-abbrev pub IsOutcome : {E : Type 0} → Bool → Text → Option Unopened → Option Format → List Text
+-- what the task over the input with this label and this format did to the two sinks, given its lines and its answer.
+-- `Ok`: the text for the input was appended to the output, which a quiet task leaves as it was, and the message about
+-- it was put to the errors. `Err`: the output failed after a prefix of that text, and nothing was put to the errors:
+-- there was nothing to say of the input, or the task wrote while it read. This can't happen if the task is quiet
+abbrev pub IsOutcome : {E : Type 0} → Bool → Option Text → Option Unopened → Option Format → List Text
     → Result Status RunFault → Result (Result Status RunFault) E → Change SinkState → Change SinkState → Type 0
-IsOutcome is_quiet name unopened format lines answer (Ok answered) output errors =
+IsOutcome is_quiet label unopened format lines answer (Ok answered) output errors =
     (answered ≡ answer)
-    × Appends output.old.taken output.new.taken (file_text is_quiet name lines)
-    × (output.new.failures ≡ output.old.failures) × SaysOfFile name unopened format answer errors
-IsOutcome is_quiet name unopened format lines answer (Err fault) output errors =
-    ((count : ℕ) × Appends output.old.taken output.new.taken (take count (file_text is_quiet name lines)))
+    × Appends output.old.taken output.new.taken (file_text is_quiet label lines)
+    × (output.new.failures ≡ output.old.failures) × SaysOfFile label unopened format answer errors
+    × (is_quiet ≡ true → output.new ≡ output.old)
+IsOutcome is_quiet label unopened format lines answer (Err fault) output errors =
+    ((count : ℕ) × Appends output.old.taken output.new.taken (take count (file_text is_quiet label lines)))
     × (is_quiet ≡ false) × (output.new.failures ≡ one_more output.old.failures)
-    × ((said_of_file name unopened format answer ≡ []) ⊎ (answer ≡ Err run.Write)) × (errors.new ≡ errors.old)
+    × ((said_of_file label unopened format answer ≡ []) ⊎ (answer ≡ Err run.Write)) × (errors.new ≡ errors.old)
 
--- the file is what has its name: standard input with the bytes that it had, or the file's bytes, if they are known. If
--- it is standard input, then what that has left, and how many calls on it have failed, is as after this file
+-- the input is what has its name: standard input with the bytes that it had, or the file's bytes, if they are known. If
+-- it is standard input, then what that has left, and how many calls on it have failed, is as after this input
 pub record IsRead (contents : Text → Option (List ℕ)) (input : Change SourceState) (e : FileEnd) : Type 0 where
-  pub told : e.told ≡ told_of contents input.old.remaining e.name
-  pub left : is_dash e.name ≡ true → input.new.remaining ≡ e.left
-  pub counted : is_dash e.name ≡ true → input.new.failures ≡ failures_by run.Read e.answer input.old.failures
+  pub told : e.told ≡ told_of contents input.old.remaining (name_of e.label)
+  pub left : is_dash (name_of e.label) ≡ true → input.new.remaining ≡ e.left
+  pub counted : is_dash (name_of e.label) ≡ true
+      → input.new.failures ≡ failures_by run.Read e.answer input.old.failures
 
--- how the task over an open file, or over standard input by its name, ended, and what it did to the two sinks
-pub record IsNamedEnd {E : Type 0} (t : Task) (is_quiet : Bool) (name : Text)
+-- how the task over an open file, or over standard input, ended, and what it did to the two sinks
+pub record IsNamedEnd {E : Type 0} (t : Task) (is_quiet : Bool) (label : Option Text)
     (result : Result (Result Status RunFault) E) (input : Change SourceState) (output errors : Change SinkState)
     : Type 0 where
   pub format : Option Format
   pub lines : List Text
   pub answer : Result Status RunFault
   pub is_end : IsFileEnd t (record {
-    name = name;
+    label = label;
     unopened = None;
     told = input.old.remaining;
     left = input.new.remaining;
@@ -281,19 +296,19 @@ pub record IsNamedEnd {E : Type 0} (t : Task) (is_quiet : Bool) (name : Text)
   })
   pub counted : input.new.failures ≡ failures_by run.Read answer input.old.failures
   pub written : OnOk result (answer ≢ Err run.Write)
-  pub outcome : IsOutcome is_quiet name None format lines answer result output errors
+  pub outcome : IsOutcome is_quiet label None format lines answer result output errors
 
--- how the task over the file with this name ended, beside standard input, and what it did to the two sinks
+-- how the task over the input with this label ended, beside standard input, and what it did to the two sinks
 pub record IsChecked {O E : Type 0} (t : Task) (is_quiet : Bool) (folder : FolderView O)
-    (name : Text) (result : Result (Result Status RunFault) E) (input : Change SourceState)
+    (label : Option Text) (result : Result (Result Status RunFault) E) (input : Change SourceState)
     (output errors : Change SinkState) : Type 0 where
   pub e : FileEnd
-  pub name_is : e.name ≡ name
+  pub label_is : e.label ≡ label
   pub read : IsRead (bytes_of folder.opening) input e
   pub is_end : IsFileEnd t e
   pub opening : IsFileOpening folder e
   pub written : OnOk result (e.answer ≢ Err run.Write)
-  pub outcome : IsOutcome is_quiet name e.unopened e.format e.lines e.answer result output errors
+  pub outcome : IsOutcome is_quiet label e.unopened e.format e.lines e.answer result output errors
 
 -- a call on a sink failed: its count of failures rose, or is the greatest `u64`
 abbrev pub HasFailed : Change SinkState → Type 0
@@ -304,10 +319,11 @@ abbrev pub IsSaid : Text → Change SinkState → Type 0
 IsSaid text sink =
     (Appends sink.old.taken sink.new.taken text × (sink.new.failures ≡ sink.old.failures)) ⊎ HasFailed sink
 
--- all files with these names were checked in turn and ended so
+-- all inputs with these labels were checked in turn and ended so
 pub record AreChecked {O : Type 0} (t : Task) (is_quiet : Bool) (folder : FolderView O) (ends : List FileEnd)
-    (names : List Text) (exit : Exit) (input : Change SourceState) (output errors : Change SinkState) : Type 0 where
-  pub names_are : names ≡ names_of ends
+    (labels : List (Option Text)) (exit : Exit) (input : Change SourceState) (output errors : Change SinkState)
+    : Type 0 where
+  pub labels_are : labels ≡ labels_of ends
   pub each : All (IsFileEnd t) ends
   pub written : All (λ e. e.answer ≢ Err run.Write) ends
   pub openings : All (IsFileOpening folder) ends
@@ -315,19 +331,20 @@ pub record AreChecked {O : Type 0} (t : Task) (is_quiet : Bool) (folder : Folder
   pub exits : exit ≡ files_exit ends
   pub lines : Appends output.old.taken output.new.taken (files_text is_quiet ends)
   pub unfailed : output.new.failures ≡ output.old.failures
+  pub untouched : is_quiet ≡ true → output.new ≡ output.old
   pub said : ArePut (complaints_of ends) errors
 
--- the output failed at one of the files, the last that was read, or when it was flushed. The lines of the files before
--- it were written, and a prefix of its own line
-pub record AreCut {O : Type 0} (t : Task) (is_quiet : Bool) (folder : FolderView O) (names : List Text)
+-- the output failed at one of the inputs, the last that was read, or when it was flushed. The lines of the inputs
+-- before it were written, and a prefix of its own
+pub record AreCut {O : Type 0} (t : Task) (is_quiet : Bool) (folder : FolderView O) (labels : List (Option Text))
     (exit : Exit) (input : Change SourceState) (output errors : Change SinkState) : Type 0 where
   pub whole : List FileEnd
   pub last : Option FileEnd
-  pub rest : List Text
+  pub rest : List (Option Text)
   pub count : ℕ
   pub wanted : is_quiet ≡ false
-  pub names_are : names ≡ names_of (whole ++ option_to_list last) ++ rest
-  -- if the output failed at no file, it failed at the flush, after all files
+  pub labels_are : labels ≡ labels_of (whole ++ option_to_list last) ++ rest
+  -- if the output failed at no input, it failed at the flush, after all of them
   pub at_the_end : last ≡ None → rest ≡ []
   pub each : All (IsFileEnd t) (whole ++ option_to_list last)
   pub written : All (λ e. e.answer ≢ Err run.Write) whole
@@ -337,60 +354,54 @@ pub record AreCut {O : Type 0} (t : Task) (is_quiet : Bool) (folder : FolderView
   pub lines : Appends output.old.taken output.new.taken
       (files_text is_quiet whole ++ take count (files_text is_quiet (option_to_list last)))
   pub failed : output.new.failures ≡ one_more output.old.failures
-  -- there was nothing to say of the last file, or the task wrote while it read
+  -- there was nothing to say of the last input, or the task wrote while it read
   pub silent : All (λ e. (said_of e ≡ []) ⊎ (e.answer ≡ Err run.Write)) (option_to_list last)
   pub said : ArePut (complaints_of whole ++ fault_line run.Write ∷ []) errors
 
--- all files were checked, and the output is flushed unless the task is quiet. Then the errors got the hint on the first
--- broken file's rule, if hints are shown and the task isn't quiet
+-- all inputs were checked, and the output is flushed unless the task is quiet. Then the errors got the hint on what
+-- was found wrong first, if hints are shown and the task isn't quiet
 pub record AreDone {O : Type 0} (t : Task) (is_quiet is_shown : Bool) (folder : FolderView O)
-    (names : List Text) (exit : Exit) (input : Change SourceState) (output errors : Change SinkState) : Type 0 where
+    (labels : List (Option Text)) (exit : Exit) (input : Change SourceState) (output errors : Change SinkState)
+    : Type 0 where
   pub ends : List FileEnd
   pub between : SinkState
-  pub checked : AreChecked t is_quiet folder ends names exit input output (change errors.old between)
+  pub checked : AreChecked t is_quiet folder ends labels exit input output (change errors.old between)
   pub flushed : is_quiet ≡ false → output.new.is_flushed ≡ true
-  pub hinted : IsPut (hint_of (not is_quiet && is_shown) t (first_broken ends)) (change between errors.new)
+  pub hinted : IsPut (hint_of (not is_quiet && is_shown) t (first_wrong ends)) (change between errors.new)
 
--- all files were checked, or the output failed
-abbrev pub FilesEnd : {O : Type 0} → Task → Bool → Bool → FolderView O → List Text → Exit → Change SourceState
-    → Change SinkState → Change SinkState → Type 0
-FilesEnd t is_quiet is_shown folder names exit input output errors =
-    AreDone t is_quiet is_shown folder names exit input output errors
-    ⊎ AreCut t is_quiet folder names exit input output errors
+-- a check, a survey or a scan with this exit status, which found this wrong first, came to its end: the output was
+-- flushed unless the task is quiet, and the errors got the hint; or that flush failed
+abbrev pub IsFinished : Task → Bool → Bool → Exit → Option Cause → Exit → Change SinkState → Change SinkState → Type 0
+IsFinished t is_quiet is_shown found cause exit output errors =
+    ((exit ≡ found) × Keeps output.old.taken output.new.taken × (output.new.failures ≡ output.old.failures)
+    × (is_quiet ≡ false → output.new.is_flushed ≡ true) × (is_quiet ≡ true → output.new ≡ output.old)
+    × IsPut (hint_of (not is_quiet && is_shown) t cause) errors)
+    ⊎ ((exit ≡ Refused) × Keeps output.old.taken output.new.taken
+    × (output.new.failures ≡ one_more output.old.failures) × (is_quiet ≡ false)
+    × IsPut (fault_line run.Write) errors)
+
+-- all inputs were checked, or the output failed
+abbrev pub FilesEnd : {O : Type 0} → Task → Bool → Bool → FolderView O → List (Option Text) → Exit
+    → Change SourceState → Change SinkState → Change SinkState → Type 0
+FilesEnd t is_quiet is_shown folder labels exit input output errors =
+    AreDone t is_quiet is_shown folder labels exit input output errors
+    ⊎ AreCut t is_quiet folder labels exit input output errors
 
 -- ---- requests
 
--- how a quiet check of standard input ended, which has this format. `line` is the verdict's line, which isn't written
-pub record QuietEnds (profile : Profile) (exit : Exit) (input : Change SourceState) (errors : Change SinkState)
-    : Type 0 where
-  pub answer : Result Status RunFault
-  pub format : Option Format
-  pub is_format : IsFormat input.old.remaining format
-  pub line : Text
-  pub wrote : IfSome input.old.remaining
-      (λ bytes. Wrote (Check profile) bytes input.new.remaining answer (Some []) (Some line))
-  pub memory : answer ≡ Err run.OutOfMemory → TakesMemory (Check profile) input.old.remaining
-  pub reads : ReadsToEnd answer input.old.remaining input.new.remaining
-  pub read : input.new.failures ≡ failures_by run.Read answer input.old.failures
-  pub written : answer ≢ Err run.Write
-  pub ends : exit ≡ exit_for_answer answer
-  pub said : IsPut (complaint (Check profile) None answer ++ advice_for format answer) errors
-
--- how a request ended. Without names the task is over standard input. Otherwise a check, a survey or a scan is of all
--- files that are named, and any other task is over the first. A survey and a scan are never quiet
+-- how a request ended. A check, a survey or a scan is of all files that are named, and any other task of the first;
+-- without names it is of standard input. A survey and a scan are never quiet
 abbrev pub RequestEnds : {O : Type 0} → Task → Bool → Bool → List Text → FolderView O → Exit → Change SourceState
     → Change SinkState → Change SinkState → Type 0
-RequestEnds (Check profile) true is_shown [] folder exit input output errors =
-    QuietEnds profile exit input errors × (output.new ≡ output.old)  -- nothing was written
-RequestEnds t is_quiet is_shown [] folder exit input output errors = RunEnds t is_shown None exit input output errors
-RequestEnds (Check profile) is_quiet is_shown (name ∷ more) folder exit input output errors =
-    FilesEnd (Check profile) is_quiet is_shown folder (name ∷ more) exit input output errors
-RequestEnds (Survey profile) is_quiet is_shown (name ∷ more) folder exit input output errors =
-    FilesEnd (Survey profile) false is_shown folder (name ∷ more) exit input output errors
-RequestEnds (Scan profile eight) is_quiet is_shown (name ∷ more) folder exit input output errors =
-    FilesEnd (Scan profile eight) false is_shown folder (name ∷ more) exit input output errors
+RequestEnds (Check profile) is_quiet is_shown names folder exit input output errors =
+    FilesEnd (Check profile) is_quiet is_shown folder (labels_for names) exit input output errors
+RequestEnds (Survey profile) is_quiet is_shown names folder exit input output errors =
+    FilesEnd (Survey profile) false is_shown folder (labels_for names) exit input output errors
+RequestEnds (Scan profile eight) is_quiet is_shown names folder exit input output errors =
+    FilesEnd (Scan profile eight) false is_shown folder (labels_for names) exit input output errors
+RequestEnds t is_quiet is_shown [] folder exit input output errors = RunEnds t None exit input output errors
 RequestEnds t is_quiet is_shown (name ∷ more) folder exit input output errors =
-    FileEnds t is_shown folder name exit input output errors
+    FileEnds t folder name exit input output errors
 
 -- a request ended so, after its notice
 abbrev pub NoticedEnds : {O : Type 0} → Text → Task → Bool → Bool → List Text → FolderView O → Exit

@@ -1,15 +1,14 @@
-//! Checks, surveys and scans of files, and quiet checks of standard input.
+//! Checks, surveys and scans, of files or of standard input.
 
-ghost use Rattle.std.specs.Prelude.{◌≡◌, ◌≢◌, ◌&&◌, [], Err, IfErr, None, OnOk, count_by, false, if◌then◌else◌, map};
-ghost use Rattle.std.specs.Prelude.{nat_lt, not, option_copied, true};
+ghost use Rattle.std.specs.Prelude.{◌≡◌, ◌≢◌, ◌&&◌, ◌∷◌, [], Err, IfErr, None, OnOk, count_by, false, if◌then◌else◌};
+ghost use Rattle.std.specs.Prelude.{map, nat_lt, not, option_copied, true};
 ghost use Rattle.std.specs.Io.KnownBytes.{Keeps};
-ghost use Rattle.std.specs.List.{list_any};
 ghost use Rattle.std.specs.String.{string_bytes};
 ghost use Rattle.sixel_io.specs.Devices.{CountsFailure, change};
-ghost use Rattle.sixel_program.specs.Exits.{IsPut};
-ghost use Rattle.sixel_program.specs.Files.{FilesEnd, IsChecked, IsNamedEnd, QuietEnds, SaysOfCheck, is_dash, worse};
+ghost use Rattle.sixel_program.specs.Exits.{IsPut, labelled};
+ghost use Rattle.sixel_program.specs.Files.{FilesEnd, IsChecked, IsFinished, IsNamedEnd, SaysOfCheck, is_dash};
+ghost use Rattle.sixel_program.specs.Files.{labels_for, name_of, reads_input, worse};
 ghost use Rattle.sixel_program.specs.Formats.{IsFormat};
-ghost use Rattle.sixel_program.specs.Names.{named};
 ghost use Rattle.sixel_program.specs.Openings.{folder_view};
 ghost use Rattle.sixel_run.specs.LineTasks.{WritesLines, has_lines, scans};
 ghost use Rattle.sixel_run.specs.Texts.{fault_line};
@@ -17,13 +16,12 @@ ghost use Rattle.sixel_run.specs.Texts.{fault_line};
 use crate::exit::{Exit, code_of, exit_of};
 use crate::folder::{Folder, open_file};
 use crate::formats::Format;
-use crate::hints::{put_hint, rule_of};
+use crate::hints::{Cause, cause_of, put_hint};
 use crate::names::AfterName;
 use crate::nowhere::Nowhere;
 use crate::peeked::Peeked;
 use crate::saying::{put_refusal, put_unopened};
 use sixel_io::{DeviceFault, PIECE, Sink, Source};
-use sixel_model::Profile;
 use sixel_run::{Plain, RunFault, Status, Task, write_fault, write_lines};
 use std::alloc::Global;
 
@@ -36,7 +34,7 @@ fn scans(task: &Task) -> bool
 
 /// The format of the input of a task, told by its first bytes. A scan has no use for it, and doesn't look: a string may
 /// end in these bytes, and its line is written before more are read.
-pub fn format_for<S: Source>(task: &Task, input: &mut Peeked<S>) -> Option<Format>
+fn format_for<S: Source>(task: &Task, input: &mut Peeked<S>) -> Option<Format>
     ensures told { Keeps (⟦<Peeked<S> as Source>⟧.state input.old).remaining
         (⟦<Peeked<S> as Source>⟧.state input.new).remaining }
     ensures failures { (⟦<Peeked<S> as Source>⟧.state input.new).failures
@@ -48,74 +46,49 @@ pub fn format_for<S: Source>(task: &Task, input: &mut Peeked<S>) -> Option<Forma
     if is_scan { None } else { input.format() }
 }
 
-/// Writes why an input was refused, if it was. The input has this name or none, and this format. Returns the answer of
+/// Writes why an input was refused, if it was. The input has this label or none, and this format. Returns the answer of
 /// the task.
 fn say_answer<E: Sink>(
-    name: Option<&str>,
+    label: Option<&str>,
     format: Option<Format>,
     answer: Result<Status, RunFault>,
     errors: &mut E,
 ) -> Result<Status, RunFault>
     ensures answer { result ≡ answer }
-    ensures said { SaysOfCheck (option_copied name.entry) format answer
+    ensures said { SaysOfCheck (option_copied label.entry) format answer
         (change (E.state errors.old) (E.state errors.new)) }
 {
     match answer {
         Ok(status) => Ok(status),
         Err(fault) => {
-            let _ = put_refusal(name, format, &fault, errors);
+            let _ = put_refusal(label, format, &fault, errors);
             Err(fault)
         }
     }
 }
 
-/// Checks standard input without writing the verdict.
-///
-/// It isn't inlined, or its room would be on the stack of every task.
-#[inline(never)]
-pub fn check_quietly<S: Source, E: Sink>(
-    alloc: Global,
-    profile: Profile,
-    input: &mut Peeked<S>,
-    errors: &mut E,
-) -> Exit
-    ensures { QuietEnds profile result
-        (change (⟦<Peeked<S> as Source>⟧.state input.old) (⟦<Peeked<S> as Source>⟧.state input.new))
-        (change (E.state errors.old) (E.state errors.new)) }
-{
-    let task = Task::Check { profile };
-    let format = input.format();
-    let answer = write_lines(
-        alloc,
-        task,
-        &Plain,
-        input,
-        &mut [0u8; PIECE],
-        &mut Nowhere::new(),
-    );
-    exit_of(say_answer(None, format, answer, errors))
-}
-
-/// Writes the lines of an input, each after its name; none if the task is quiet.
-fn write_named<S: Source, K: Sink>(
+/// Writes the lines of an input, each after its label, if it has one; none if the task is quiet.
+fn write_labelled<S: Source, K: Sink>(
     alloc: Global,
     task: &Task,
     is_quiet: bool,
-    name: &str,
+    label: Option<&str>,
     input: &mut S,
     piece: &mut [u8; PIECE],
     output: &mut K,
 ) -> Result<Status, RunFault>
     requires { has_lines task.now ≡ true }
-    ensures lines { WritesLines task.now (λ line. if is_quiet then [] else named name.now line) result
-        (change (S.state input.old) (S.state input.new)) (change (K.state output.old) (K.state output.new)) }
+    ensures lines { WritesLines task.now (λ line. if is_quiet then [] else labelled (option_copied label.entry) line)
+        result (change (S.state input.old) (S.state input.new)) (change (K.state output.old) (K.state output.new)) }
     ensures loud { is_quiet ≡ true → result ≢ Err RunFault.Write }
+    ensures untouched { is_quiet ≡ true → output.new ≡ output.old }
 {
-    let label = AfterName { name };
     if is_quiet {
-        write_lines(alloc, *task, &label, input, piece, &mut Nowhere::new())
-    } else {
-        write_lines(alloc, *task, &label, input, piece, output)
+        return write_lines(alloc, *task, &Plain, input, piece, &mut Nowhere::new());
+    }
+    match label {
+        Some(name) => write_lines(alloc, *task, &AfterName { name }, input, piece, output),
+        None => write_lines(alloc, *task, &Plain, input, piece, output),
     }
 }
 
@@ -127,38 +100,47 @@ fn is_unwritten(answer: &Result<Status, RunFault>) -> bool
     matches!(answer, Err(RunFault::Write))
 }
 
-/// Checks, surveys or scans an open file, or standard input by its name. Returns the answer, or an `Err` if `output`
-/// failed.
-fn answer_named<S: Source, K: Sink, E: Sink>(
+/// Checks, surveys or scans an open file, or standard input. Returns the answer, or an `Err` if `output` failed.
+fn answer_labelled<S: Source, K: Sink, E: Sink>(
     alloc: Global,
     task: &Task,
     is_quiet: bool,
-    name: &str,
+    label: Option<&str>,
     input: &mut Peeked<S>,
     piece: &mut [u8; PIECE],
     output: &mut K,
     errors: &mut E,
 ) -> Result<Result<Status, RunFault>, DeviceFault>
     requires { has_lines task.now ≡ true }
-    ensures { IsNamedEnd task.now is_quiet name.now result
+    ensures { IsNamedEnd task.now is_quiet (option_copied label.entry) result
         (change (⟦<Peeked<S> as Source>⟧.state input.old) (⟦<Peeked<S> as Source>⟧.state input.new))
         (change (K.state output.old) (K.state output.new)) (change (E.state errors.old) (E.state errors.new)) }
 {
     let format = format_for(task, input);
-    let answer = write_named(alloc, task, is_quiet, name, input, piece, output);
+    let answer = write_labelled(alloc, task, is_quiet, label, input, piece, output);
     if is_unwritten(&answer) {
         return Err(DeviceFault);
     }
-    Ok(say_answer(Some(name), format, answer, errors))
+    Ok(say_answer(label, format, answer, errors))
 }
 
-/// Checks, surveys or scans the file with this name, or standard input if the name is `-`. Returns the answer, or an
-/// `Err` if `output` failed.
+/// The name of the input with this label: `-` without one.
+fn name_of(label: Option<&str>) -> &str
+    ensures { result.now ≡ name_of (option_copied label.entry) }
+{
+    match label {
+        Some(name) => name,
+        None => "-",
+    }
+}
+
+/// Checks, surveys or scans the file with this label, or standard input if that is `-` or there is none. Returns the
+/// answer, or an `Err` if `output` failed.
 fn check_file<F: Folder, S: Source, K: Sink, E: Sink>(
     alloc: Global,
     task: &Task,
     is_quiet: bool,
-    name: &str,
+    label: Option<&str>,
     folder: &F,
     input: &mut Peeked<S>,
     piece: &mut [u8; PIECE],
@@ -166,19 +148,21 @@ fn check_file<F: Folder, S: Source, K: Sink, E: Sink>(
     errors: &mut E,
 ) -> Result<Result<Status, RunFault>, DeviceFault>
     requires { has_lines task.now ≡ true }
-    ensures checked { IsChecked task.now is_quiet (folder_view (F.opening folder.now) F.Opened.state) name.now result
+    ensures checked { IsChecked task.now is_quiet (folder_view (F.opening folder.now) F.Opened.state)
+        (option_copied label.entry) result
         (change (⟦<Peeked<S> as Source>⟧.state input.old) (⟦<Peeked<S> as Source>⟧.state input.new))
         (change (K.state output.old) (K.state output.new)) (change (E.state errors.old) (E.state errors.new)) }
-    ensures unread { is_dash name.now ≡ false → input.new ≡ input.old }
+    ensures unread { is_dash (name_of (option_copied label.entry)) ≡ false → input.new ≡ input.old }
 {
+    let name = name_of(label);
     if name == "-" {
-        return answer_named(alloc, task, is_quiet, name, input, piece, output, errors);
+        return answer_labelled(alloc, task, is_quiet, label, input, piece, output, errors);
     }
     match open_file(folder, name) {
         Ok(file) => {
             let mut file = Peeked::new(file);
-            answer_named(
-                alloc, task, is_quiet, name, &mut file, piece, output, errors,
+            answer_labelled(
+                alloc, task, is_quiet, label, &mut file, piece, output, errors,
             )
         }
         Err(reason) => {
@@ -211,6 +195,7 @@ fn flush_verdicts<K: Sink>(is_quiet: bool, output: &mut K) -> Result<(), DeviceF
     ensures failures { CountsFailure result (K.state output.old).failures (K.state output.new).failures }
     ensures flushed { is_quiet ≡ false → OnOk result ((K.state output.new).is_flushed ≡ true) }
     ensures loud { IfErr result (λ _. is_quiet ≡ false) }
+    ensures untouched { is_quiet ≡ true → output.new ≡ output.old }
 {
     if is_quiet { Ok(()) } else { output.flush() }
 }
@@ -222,9 +207,70 @@ fn has_hint(is_quiet: bool, is_shown: bool) -> bool
     !is_quiet && is_shown
 }
 
-/// Checks, surveys or scans the files with these names in turn; one `-` at most is among them. A refused file doesn't end
-/// this, but a failed write does. The exit status is the greatest of theirs. If hints are shown (`is_shown`), one on the
-/// first broken file's rule comes last, but not after a quiet check or a scan.
+/// Ends a check, a survey or a scan with this exit status: flushes the output, and writes the hint on what was found
+/// wrong first, if hints are shown.
+fn finish<K: Sink, E: Sink>(
+    task: &Task,
+    is_quiet: bool,
+    is_shown: bool,
+    exit: Exit,
+    cause: Option<Cause>,
+    output: &mut K,
+    errors: &mut E,
+) -> Exit
+    ensures { IsFinished task.now is_quiet is_shown exit cause result
+        (change (K.state output.old) (K.state output.new)) (change (E.state errors.old) (E.state errors.new)) }
+{
+    match flush_verdicts(is_quiet, output) {
+        Ok(()) => {
+            put_hint(has_hint(is_quiet, is_shown), *task, cause, errors);
+            exit
+        }
+        Err(_) => unwritten(errors),
+    }
+}
+
+/// Checks, surveys or scans standard input.
+fn check_input<F: Folder, S: Source, K: Sink, E: Sink>(
+    alloc: Global,
+    task: &Task,
+    is_quiet: bool,
+    is_shown: bool,
+    folder: &F,
+    input: &mut Peeked<S>,
+    piece: &mut [u8; PIECE],
+    output: &mut K,
+    errors: &mut E,
+) -> Exit
+    requires { has_lines task.now ≡ true }
+    ensures { FilesEnd task.now is_quiet is_shown (folder_view (F.opening folder.now) F.Opened.state)
+        (None ∷ []) result
+        (change (⟦<Peeked<S> as Source>⟧.state input.old) (⟦<Peeked<S> as Source>⟧.state input.new))
+        (change (K.state output.old) (K.state output.new)) (change (E.state errors.old) (E.state errors.new)) }
+{
+    match check_file(
+        alloc, task, is_quiet, None, folder, input, piece, output, errors,
+    ) {
+        Ok(answer) => {
+            let cause = cause_of(&answer);
+            finish(
+                task,
+                is_quiet,
+                is_shown,
+                exit_of(answer),
+                cause,
+                output,
+                errors,
+            )
+        }
+        Err(_) => unwritten(errors),
+    }
+}
+
+/// Checks, surveys or scans the files with these names in turn; one `-` at most is among them. Without names it is over
+/// standard input. A refused file doesn't end this, but a failed write does. The exit status is the greatest of theirs.
+/// If hints are shown (`is_shown`), one on what was found wrong first comes last, but not after a quiet check or a
+/// scan.
 ///
 /// It isn't inlined, or its room would be on the stack of every task.
 #[inline(never)]
@@ -242,39 +288,30 @@ pub fn check_files<F: Folder, S: Source, K: Sink, E: Sink>(
     requires lines { has_lines task.now ≡ true }
     requires once { nat_lt 1 (count_by is_dash (map string_bytes names.now)) ≡ false }
     ensures checked { FilesEnd task.now is_quiet is_shown (folder_view (F.opening folder.now) F.Opened.state)
-        (map string_bytes names.now) result
+        (labels_for (map string_bytes names.now)) result
         (change (⟦<Peeked<S> as Source>⟧.state input.old) (⟦<Peeked<S> as Source>⟧.state input.new))
         (change (K.state output.old) (K.state output.new)) (change (E.state errors.old) (E.state errors.new)) }
-    ensures unread { list_any is_dash (map string_bytes names.now) ≡ false → input.new ≡ input.old }
+    ensures unread { reads_input task.now (map string_bytes names.now) ≡ false → input.new ≡ input.old }
 {
     let mut piece = [0u8; PIECE];
+    if names.is_empty() {
+        return check_input(
+            alloc, task, is_quiet, is_shown, folder, input, &mut piece, output, errors,
+        );
+    }
     let mut exit = Exit::Done;
-    let mut broken = None;
+    let mut cause = None;
     for name in names {
+        let label = Some(name.as_str());
         match check_file(
-            alloc,
-            task,
-            is_quiet,
-            name.as_str(),
-            folder,
-            input,
-            &mut piece,
-            output,
-            errors,
+            alloc, task, is_quiet, label, folder, input, &mut piece, output, errors,
         ) {
             Ok(answer) => {
-                broken = broken.or(rule_of(&answer));
+                cause = cause.or(cause_of(&answer));
                 exit = worse(exit, exit_of(answer));
             }
             Err(_) => return unwritten(errors),
         }
     }
-    match flush_verdicts(is_quiet, output) {
-        Ok(()) => {
-            let has_hint = has_hint(is_quiet, is_shown);
-            put_hint(has_hint, *task, broken, errors);
-            exit
-        }
-        Err(_) => unwritten(errors),
-    }
+    finish(task, is_quiet, is_shown, exit, cause, output, errors)
 }

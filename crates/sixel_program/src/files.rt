@@ -8,10 +8,9 @@ ghost use Rattle.sixel_program.specs.Files.{FileEnds, RequestEnds, is_dash, name
 ghost use Rattle.sixel_program.specs.Openings.{folder_view};
 ghost use Rattle.sixel_run.specs.Outputs.{HasSides};
 
-use crate::checks::{check_files, check_quietly, format_for};
+use crate::checks::check_files;
 use crate::exit::{Exit, exit_of};
 use crate::folder::{Folder, open_file};
-use crate::hints::put_hint_after;
 use crate::peeked::Peeked;
 use crate::request::Request;
 use crate::saying::{put_said, put_unopened};
@@ -21,26 +20,24 @@ use sixel_run::{Task, run};
 use std::alloc::Global;
 
 /// Runs a task over an input, which has this name or none. Writes to `errors` why the input was refused, or which rule
-/// kept its picture from being rendered, and how to convert an input of another format; and after a check the hint on a
-/// broken rule, if hints are shown (`is_shown`). If that can't be written, the exit status stays the same.
+/// kept its picture from being rendered, and how to convert an input of another format. If that can't be written, the
+/// exit status stays the same.
 fn report<S: Source, K: Sink, E: Sink>(
     alloc: Global,
     task: &Task,
-    is_shown: bool,
     name: Option<&str>,
     input: &mut Peeked<S>,
     output: &mut K,
     errors: &mut E,
 ) -> Exit
     requires { HasSides task.now }
-    ensures { RunEnds task.now is_shown (option_copied name.entry) result
+    ensures { RunEnds task.now (option_copied name.entry) result
         (change (⟦<Peeked<S> as Source>⟧.state input.old) (⟦<Peeked<S> as Source>⟧.state input.new))
         (change (K.state output.old) (K.state output.new)) (change (E.state errors.old) (E.state errors.new)) }
 {
-    let format = format_for(task, input);
+    let format = input.format();
     let answer = run(alloc, *task, input, output);
     let _ = put_said(task, name, format, &answer, errors);
-    put_hint_after(is_shown, task, &answer, errors);
     exit_of(answer)
 }
 
@@ -48,7 +45,6 @@ fn report<S: Source, K: Sink, E: Sink>(
 fn report_file<F: Folder, S: Source, K: Sink, E: Sink>(
     alloc: Global,
     task: &Task,
-    is_shown: bool,
     name: &str,
     folder: &F,
     input: &mut Peeked<S>,
@@ -56,18 +52,18 @@ fn report_file<F: Folder, S: Source, K: Sink, E: Sink>(
     errors: &mut E,
 ) -> Exit
     requires { HasSides task.now }
-    ensures ends { FileEnds task.now is_shown (folder_view (F.opening folder.now) F.Opened.state) name.now result
+    ensures ends { FileEnds task.now (folder_view (F.opening folder.now) F.Opened.state) name.now result
         (change (⟦<Peeked<S> as Source>⟧.state input.old) (⟦<Peeked<S> as Source>⟧.state input.new))
         (change (K.state output.old) (K.state output.new)) (change (E.state errors.old) (E.state errors.new)) }
     ensures unread { is_dash name.now ≡ false → input.new ≡ input.old }
 {
     if name == "-" {
-        return report(alloc, task, is_shown, Some(name), input, output, errors);
+        return report(alloc, task, Some(name), input, output, errors);
     }
     match open_file(folder, name) {
         Ok(file) => {
             let mut file = Peeked::new(file);
-            report(alloc, task, is_shown, Some(name), &mut file, output, errors)
+            report(alloc, task, Some(name), &mut file, output, errors)
         }
         Err(reason) => {
             let _ = put_unopened(name, reason, errors);
@@ -77,7 +73,8 @@ fn report_file<F: Folder, S: Source, K: Sink, E: Sink>(
 }
 
 /// Carries out a request that names standard input once at most. A check, a survey and a scan read all files that are
-/// named; any other task reads the first. A check and a survey end with a hint on the first broken rule if `errors` is a terminal and the check isn't quiet.
+/// named; any other task reads the first. Without names standard input is read. A check and a survey end with a hint on
+/// what is wrong first, if `errors` is a terminal and the check isn't quiet.
 pub fn answer<F: Folder, S: Source, K: Sink, E: Sink>(
     alloc: Global,
     request: &Request,
@@ -101,17 +98,13 @@ pub fn answer<F: Folder, S: Source, K: Sink, E: Sink>(
     let is_quiet = request.is_quiet;
     let is_shown = terminals.errors;
     match (request.task, names) {
-        (Task::Check { profile }, []) if is_quiet => check_quietly(alloc, profile, input, errors),
-        (_, []) => report(alloc, task, is_shown, None, input, output, errors),
         (Task::Check { .. }, _) => check_files(
             alloc, task, is_quiet, is_shown, names, folder, input, output, errors,
         ),
         (Task::Survey { .. } | Task::Scan { .. }, _) => check_files(
             alloc, task, false, is_shown, names, folder, input, output, errors,
         ),
-        (_, [name, ..]) => {
-            let name = name.as_str();
-            report_file(alloc, task, is_shown, name, folder, input, output, errors)
-        }
+        (_, []) => report(alloc, task, None, input, output, errors),
+        (_, [name, ..]) => report_file(alloc, task, name.as_str(), folder, input, output, errors),
     }
 }

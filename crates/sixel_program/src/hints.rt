@@ -1,93 +1,108 @@
-//! The hint after a check or a survey that found a broken rule.
+//! The hint after a check or a survey of an input that isn't portable.
 
-ghost use Rattle.std.specs.Prelude.{◌≡◌, Some, true};
+ghost use Rattle.std.specs.Prelude.{◌≡◌, ◌+◌, ◌≤◌, ◌++◌, Some, length, true};
+ghost use Rattle.arrayvec.specs.ArrayVec.{array_vec_len};
 ghost use Rattle.sixel_io.specs.Devices.{change};
 ghost use Rattle.sixel_program.specs.Exits.{IsPut};
-ghost use Rattle.sixel_program.specs.Hints.{hint, hint_after, hint_of, rule_of};
+ghost use Rattle.sixel_program.specs.Hints.{cause_name, cause_of, hint, hint_of, option_hint};
 
+use arrayvec::ArrayVec;
 use sixel_check::Rule;
+use sixel_grammar::Reason;
 use sixel_io::{Sink, put_all};
 use sixel_model::Profile;
-use sixel_run::{RunFault, Status, Task};
+use sixel_run::{RunFault, Status, Task, reason_name, rule_name};
 
-/// The rule that a run found broken.
-pub fn rule_of(answer: &Result<Status, RunFault>) -> Option<Rule>
-    ensures { result ≡ rule_of answer.now }
+/// What is wrong with an input.
+#[derive(Clone, Copy, Debug, PartialEq, Eq, Drop)]
+pub enum Cause {
+    /// This rule is broken.
+    Rule(Rule),
+    /// It is no sixel text.
+    Refusal(Reason),
+}
+
+/// What a run found wrong with its input.
+pub fn cause_of(answer: &Result<Status, RunFault>) -> Option<Cause>
+    ensures { result ≡ cause_of answer.now }
 {
     match answer {
-        Ok(Status::Broken(finding)) => Some(finding.rule),
+        Ok(Status::Broken(finding)) => Some(Cause::Rule(finding.rule)),
+        Err(RunFault::Grammar(fault)) => Some(Cause::Refusal(fault.reason)),
         _ => None,
     }
 }
 
-/// The hint on `Register`: in the profile of 16 registers the register is above 15.
-fn register_hint(profile: Profile) -> &'static str
-    ensures { result.now ≡ hint true profile (Some Rule.Register) }
+/// The name that `explain` knows it by.
+fn cause_name(cause: Cause) -> &'static str
+    ensures text { result.now ≡ cause_name cause }
+    ensures short { length result.now ≤ 14 }
 {
-    match profile {
-        Profile::Registers16 => {
-            "sixel: 'sixel explain Register' tells how to fix it; '--wide' checks for 256 registers\n"
-        }
-        Profile::Registers256 => "sixel: 'sixel explain Register' tells how to fix it\n",
+    match cause {
+        Cause::Rule(rule) => rule_name(rule),
+        Cause::Refusal(reason) => reason_name(reason),
     }
 }
 
-/// The hint on a broken rule: which explanation helps, and for a register above 15 which option.
-fn rule_hint(profile: Profile, rule: Rule) -> &'static str
-    ensures { result.now ≡ hint true profile (Some rule) }
+/// For a register above 15 there is an option.
+fn option_hint(cause: Cause, profile: Profile) -> &'static str
+    ensures text { result.now ≡ option_hint cause profile }
+    ensures short { length result.now ≤ 36 }
 {
-    match rule {
-        Rule::RasterFirst => "sixel: 'sixel explain RasterFirst' tells how to fix it\n",
-        Rule::RasterTwice => "sixel: 'sixel explain RasterTwice' tells how to fix it\n",
-        Rule::Ratio => "sixel: 'sixel explain Ratio' tells how to fix it\n",
-        Rule::BoxSize => "sixel: 'sixel explain BoxSize' tells how to fix it\n",
-        Rule::Register => register_hint(profile),
-        Rule::ColourValue => "sixel: 'sixel explain ColourValue' tells how to fix it\n",
-        Rule::RepeatZero => "sixel: 'sixel explain RepeatZero' tells how to fix it\n",
-        Rule::Unselected => "sixel: 'sixel explain Unselected' tells how to fix it\n",
-        Rule::Undefined => "sixel: 'sixel explain Undefined' tells how to fix it\n",
-        Rule::Redefined => "sixel: 'sixel explain Redefined' tells how to fix it\n",
-        Rule::Outside => "sixel: 'sixel explain Outside' tells how to fix it\n",
-        Rule::Uncovered => "sixel: 'sixel explain Uncovered' tells how to fix it\n",
-        Rule::EightBit => "sixel: 'sixel explain EightBit' tells how to fix it\n",
-    }
-}
-
-/// The hint on a broken rule, if there is one and hints are shown.
-fn hint(is_shown: bool, profile: Profile, broken: Option<Rule>) -> &'static str
-    ensures { result.now ≡ hint is_shown profile broken }
-{
-    match broken {
-        Some(rule) if is_shown => rule_hint(profile, rule),
+    match (cause, profile) {
+        (Cause::Rule(Rule::Register), Profile::Registers16) =>
+            "; '--wide' checks for 256 registers",
         _ => "",
     }
 }
 
-/// The hint of a task on a broken rule, if there is one and hints are shown. Only a check and a survey have one.
-fn hint_of(is_shown: bool, task: Task, broken: Option<Rule>) -> &'static str
-    ensures { result.now ≡ hint_of is_shown task broken }
+/// A hint, with its line feed: at most 94 bytes.
+type Hint = ArrayVec<u8, 96>;
+
+fn push_all(line: &mut Hint, text: &[u8])
+    requires { array_vec_len line.old + length text.now ≤ 96 }
+    ensures items { line.new.items ≡ line.old.items ++ text.now }
+    ensures len { array_vec_len line.new ≡ array_vec_len line.old + length text.now }
+{
+    let _ = line.try_extend_from_slice(text);
+}
+
+/// Which explanation helps, and for a register above 15 which option.
+fn cause_hint(profile: Profile, cause: Cause) -> Hint
+    ensures { result.items ≡ hint true profile (Some cause) }
+{
+    let mut line = ArrayVec::new();
+    push_all(&mut line, b"sixel: 'sixel explain ");
+    push_all(&mut line, cause_name(cause).as_bytes());
+    push_all(&mut line, b"' tells how to fix it");
+    push_all(&mut line, option_hint(cause, profile).as_bytes());
+    line.push(b'\n');
+    line
+}
+
+/// The hint on what was found wrong, if hints are shown.
+fn hint(is_shown: bool, profile: Profile, cause: Option<Cause>) -> Hint
+    ensures { result.items ≡ hint is_shown profile cause }
+{
+    match cause {
+        Some(cause) if is_shown => cause_hint(profile, cause),
+        _ => ArrayVec::new(),
+    }
+}
+
+/// The hint of a task, if hints are shown. Only a check and a survey have one.
+fn hint_of(is_shown: bool, task: Task, cause: Option<Cause>) -> Hint
+    ensures { result.items ≡ hint_of is_shown task cause }
 {
     match task {
-        Task::Check { profile } | Task::Survey { profile } => hint(is_shown, profile, broken),
-        _ => "",
+        Task::Check { profile } | Task::Survey { profile } => hint(is_shown, profile, cause),
+        _ => ArrayVec::new(),
     }
 }
 
-/// Writes the hint of a task on a broken rule, if there is one.
-pub fn put_hint<E: Sink>(is_shown: bool, task: Task, broken: Option<Rule>, errors: &mut E)
-    ensures { IsPut (hint_of is_shown task broken) (change (E.state errors.old) (E.state errors.new)) }
+/// Writes the hint of a task on what was found wrong, if it has one.
+pub fn put_hint<E: Sink>(is_shown: bool, task: Task, cause: Option<Cause>, errors: &mut E)
+    ensures { IsPut (hint_of is_shown task cause) (change (E.state errors.old) (E.state errors.new)) }
 {
-    let _ = put_all(errors, hint_of(is_shown, task, broken).as_bytes());
-}
-
-/// Writes the hint after a run over one input, if it has one.
-pub fn put_hint_after<E: Sink>(
-    is_shown: bool,
-    task: &Task,
-    answer: &Result<Status, RunFault>,
-    errors: &mut E,
-)
-    ensures { IsPut (hint_after is_shown task.now answer.now) (change (E.state errors.old) (E.state errors.new)) }
-{
-    put_hint(is_shown, *task, rule_of(answer), errors);
+    let _ = put_all(errors, hint_of(is_shown, task, cause).as_slice());
 }

@@ -29,16 +29,17 @@ ghost use Rattle.sixel_scan.specs.declared.answer.Answer.TheVariants.{Broken, Re
 ghost use Rattle.sixel_survey.specs.declared.entry.Entry.{Entry};
 
 /// The output of a check, a survey or a scan of several files is their lines joined. Each line begins with the file's
-/// name, and without it they are the lines that the task writes over only this file's bytes. A file that a check or a
-/// survey refuses has no line, and a grammar fault is the one that the task finds in only this file's bytes. A scan that
-/// wasn't done has the lines of the strings that it found, and the status of a refusal. A quiet check writes no lines.
-/// The exit status is the greatest: it is that of one of the files, and no file has a greater one. Texts that were put
-/// to a sink in turn are appended to it joined, unless a call on the sink failed.
+/// name, if it was given, and without it they are the lines that the task writes over only this file's bytes. A file
+/// that a check or a survey refuses has no line, and a grammar fault is the one that the task finds in only this file's
+/// bytes. A scan that wasn't done has the lines of the strings that it found, and the status of a refusal. A quiet check
+/// writes no lines. The exit status is the greatest: it is that of one of the files, and no file has a greater one.
+/// Texts that were put to a sink in turn are appended to it joined, unless a call on the sink failed.
 pub fn several_files_are_checked_one_by_one()
     ensures joined { (is_quiet : Bool) (prefix rest : List FileEnd) →
         files_text is_quiet (prefix ++ rest) ≡ files_text is_quiet prefix ++ files_text is_quiet rest }
-    ensures named { (e : FileEnd) →
-        files_text false (e ∷ []) ≡ flat_map (λ line. printed e.name ++ codes ": " ++ line) e.lines }
+    ensures named { (e : FileEnd) (name : Text) → e.label ≡ Some name →
+        files_text false (e ∷ []) ≡ flat_map (λ line. printed name ++ codes ": " ++ line) e.lines }
+    ensures unnamed { (e : FileEnd) → e.label ≡ None → files_text false (e ∷ []) ≡ concat e.lines }
     ensures lines { (task : Task) (e : FileEnd) → IsFileEnd task e → All IsLine e.lines }
     ensures alone { (task : Task) (e : FileEnd) (bytes : List ℕ) (status : Status) → IsFileEnd task e →
         e.told ≡ Some bytes → e.answer ≡ Ok status → Gives task bytes (concat e.lines) (Ok status) }
@@ -71,17 +72,17 @@ pub fn names_are_printed_without_controls()
 /// file's name and those without one.
 pub fn each_line_can_be_explained()
     ensures broken { (name : Option Text) (finding : Finding) (said : List Text) →
-        ArePasted said (labelled name (finding_line finding)) → Asks (Some said) (Some (rule_name finding.rule)) }
+        ArePasted said (labelled name (finding_line finding)) → Asks (Some said) (rule_name finding.rule ∷ []) }
     ensures surveyed { (name : Option Text) (entry : Entry) (said : List Text) →
-        ArePasted said (labelled name (entry_line entry)) → Asks (Some said) (Some (rule_name entry.rule)) }
+        ArePasted said (labelled name (entry_line entry)) → Asks (Some said) (rule_name entry.rule ∷ []) }
     ensures scanned { (name : Option Text) (place : ℕ) (finding : Finding) (said : List Text) →
         ArePasted said (labelled name (string_line (record { place = place; answer = Broken finding }))) →
-        Asks (Some said) (Some (rule_name finding.rule)) }
+        Asks (Some said) (rule_name finding.rule ∷ []) }
     ensures scan_refused { (name : Option Text) (place : ℕ) (fault : Fault) (said : List Text) →
         ArePasted said (labelled name (string_line (record { place = place; answer = Refused fault }))) →
-        Asks (Some said) (Some (reason_name fault.reason)) }
+        Asks (Some said) (reason_name fault.reason ∷ []) }
     ensures refused { (name : Option Text) (fault : RunFault) (said : List Text) →
-        ArePasted said (fault_said name fault) → Asks (Some said) (Some (topic_name (topic_of fault))) }
+        ArePasted said (fault_said name fault) → Asks (Some said) (topic_name (topic_of fault) ∷ []) }
     ensures unopened { (name : Text) (reason : Unopened) (said : List Text) →
-        ArePasted said (unopened_line name reason) → Asks (Some said) (Some (topic_name Read)) }
+        ArePasted said (unopened_line name reason) → Asks (Some said) (topic_name Read ∷ []) }
 {}

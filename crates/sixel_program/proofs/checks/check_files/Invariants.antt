@@ -1,8 +1,8 @@
-use Rattle.std.proofs.Common.{◌≡◌, List, drop, false, map, take}
+use Rattle.std.proofs.Common.{◌≡◌, List, Some, drop, false, map, take}
 use Rattle.std.specs.List.{list_any}
 use Rattle.std.specs.String.{string_bytes}
 use Rattle.sixel_io.specs.Devices.{change}
-use Rattle.sixel_program.specs.Files.{AreChecked, FileEnd, first_broken, is_dash}
+use Rattle.sixel_program.specs.Files.{AreChecked, FileEnd, first_wrong, is_dash}
 use Rattle.sixel_program.specs.Openings.{folder_view}
 use Rattle.sixel_program.specs.Peeked.{peeked_state}
 use Rattle.sixel_program.proofs.checks.check_files.Given as goal
@@ -10,12 +10,12 @@ use Rattle.sixel_program.proofs.checks.check_files.Given as goal
 abbrev pub invariant-loop-name : goal.invariant-loop-name
 invariant-loop-name g l = ((ends : List FileEnd) × AreChecked l.task l.is_quiet
     (folder_view (g.F.Folder.opening l.folder) g.F.Opened.Source.state) ends
-    (map string_bytes (take l.name-index l.names)) l.exit
+    (map Some (map string_bytes (take l.name-index l.names))) l.exit
     (change (peeked_state (drop l.fn.input.given l.fn.input.prefix.items) l.fn.input.after
     (g.S.Source.state l.fn.input.rest) l.fn.input.failures)
     (peeked_state (drop l.input.given l.input.prefix.items) l.input.after (g.S.Source.state l.input.rest)
     l.input.failures))
     (change (g.K.Sink.state l.fn.output) (g.K.Sink.state l.output))
     (change (g.E.Sink.state l.fn.errors) (g.E.Sink.state l.errors))
-    × (l.broken ≡ first_broken ends))
+    × (l.cause ≡ first_wrong ends))
     × (list_any is_dash (map string_bytes (take l.name-index l.names)) ≡ false → l.input ≡ l.fn.input)

@@ -1,4 +1,4 @@
-use Rattle.std.proofs.Common.{◌≡◌, ◌∙◌, ◌∷◌, ◌++◌, ℕ, [], List, None, Option, Some, ap, append_assoc, codes, sym}
+use Rattle.std.proofs.Common.{◌≡◌, ◌∙◌, ◌∷◌, ◌++◌, ℕ, [], List, None, Option, Some, ap, append_assoc, codes, refl, sym}
 use Rattle.sixel_grammar.specs.declared.fault.Fault.{Fault}
 use Rattle.sixel_judge.specs.declared.verdict.Finding.{Finding}
 use Rattle.sixel_run.specs.declared.fault.RunFault.{RunFault}
@@ -7,7 +7,7 @@ use Rattle.sixel_survey.specs.declared.entry.Entry.{Entry}
 use Rattle.sixel_scan.specs.declared.answer.Answer.TheVariants.{Broken, Refused}
 use Rattle.sixel_run.specs.Texts.{Text, entry_line, finding_line, reason_name, rule_name, string_line}
 use Rattle.sixel_explain.specs.declared.explanations.Topic.TheVariants.{Read}
-use Rattle.sixel_explain.specs.Explanations.{ArePasted, line_of, name_in, topic_name, topic_of}
+use Rattle.sixel_explain.specs.Explanations.{ArePasted, line_of, names_in, topic_name, topic_of}
 use Rattle.sixel_explain.proofs.PastedLemmas.{ending_pasted, fault_pasted, finding_pasted, is_a_folder, no_such_file}
 use Rattle.sixel_explain.proofs.PastedLemmas.{not_utf8, permission_denied, read_failed}
 use Rattle.sixel_program.proofs.EntryLemmas.{entry_pasted, entry_pasted_after}
@@ -26,13 +26,13 @@ begun name = codes "sixel: " ++ printed name ++ codes ":"
 
 broken : (name : Option Text) (finding : Finding) (said : List Text)
     → ArePasted said (labelled name (finding_line finding))
-    → name_in (line_of said) ≡ Some (rule_name finding.rule)
+    → names_in (line_of said) ≡ Some (rule_name finding.rule ∷ [])
 broken None finding said are = finding_pasted [] finding said are
 broken (Some name) finding said are = finding_pasted (printed name ++ codes ": ") finding said are
 
 surveyed : (name : Option Text) (entry : Entry) (said : List Text)
     → ArePasted said (labelled name (entry_line entry))
-    → name_in (line_of said) ≡ Some (rule_name entry.rule)
+    → names_in (line_of said) ≡ Some (rule_name entry.rule ∷ [])
 surveyed None entry said are = entry_pasted entry said are
 surveyed (Some name) entry said are =
     entry_pasted_after (printed name ++ codes ":") entry said
@@ -42,34 +42,34 @@ surveyed (Some name) entry said are =
 
 scanned : (name : Option Text) (place : ℕ) (finding : Finding) (said : List Text)
     → ArePasted said (labelled name (string_line (record { place = place; answer = Broken finding })))
-    → name_in (line_of said) ≡ Some (rule_name finding.rule)
+    → names_in (line_of said) ≡ Some (rule_name finding.rule ∷ [])
 scanned None place finding said are = string_finding_pasted [] place finding said are
 scanned (Some name) place finding said are =
     string_finding_pasted (printed name ++ codes ": ") place finding said are
 
 scan_refused : (name : Option Text) (place : ℕ) (f : Fault) (said : List Text)
     → ArePasted said (labelled name (string_line (record { place = place; answer = Refused f })))
-    → name_in (line_of said) ≡ Some (reason_name f.reason)
+    → names_in (line_of said) ≡ Some (reason_name f.reason ∷ [])
 scan_refused None place f said are = string_refusal_pasted [] place f said are
 scan_refused (Some name) place f said are = string_refusal_pasted (printed name ++ codes ": ") place f said are
 
 refused : (name : Option Text) (f : RunFault) (said : List Text) → ArePasted said (fault_said name f)
-    → name_in (line_of said) ≡ Some (topic_name (topic_of f))
-refused None f said are = fault_pasted (codes "sixel:") f said are
-refused (Some name) fault.Write said are = fault_pasted (codes "sixel:") fault.Write said are
-refused (Some name) (fault.Grammar f) said are = fault_pasted (begun name) (fault.Grammar f) said are
-refused (Some name) (fault.Ppm reason place) said are = fault_pasted (begun name) (fault.Ppm reason place) said are
-refused (Some name) fault.NotRgb said are = fault_pasted (begun name) fault.NotRgb said are
-refused (Some name) fault.NoBox said are = fault_pasted (begun name) fault.NoBox said are
-refused (Some name) fault.NoString said are = fault_pasted (begun name) fault.NoString said are
-refused (Some name) fault.Empty said are = fault_pasted (begun name) fault.Empty said are
-refused (Some name) fault.TooLarge said are = fault_pasted (begun name) fault.TooLarge said are
-refused (Some name) fault.TooManyColours said are = fault_pasted (begun name) fault.TooManyColours said are
-refused (Some name) fault.OutOfMemory said are = fault_pasted (begun name) fault.OutOfMemory said are
-refused (Some name) fault.Read said are = fault_pasted (begun name) fault.Read said are
+    → names_in (line_of said) ≡ Some (topic_name (topic_of f) ∷ [])
+refused None f said are = fault_pasted (codes "sixel:") f said refl are
+refused (Some name) fault.Write said are = fault_pasted (codes "sixel:") fault.Write said refl are
+refused (Some name) (fault.Grammar f) said are = fault_pasted (begun name) (fault.Grammar f) said refl are
+refused (Some name) (fault.Ppm reason place) said are = fault_pasted (begun name) (fault.Ppm reason place) said refl are
+refused (Some name) fault.NotRgb said are = fault_pasted (begun name) fault.NotRgb said refl are
+refused (Some name) fault.NoBox said are = fault_pasted (begun name) fault.NoBox said refl are
+refused (Some name) fault.NoString said are = fault_pasted (begun name) fault.NoString said refl are
+refused (Some name) fault.Empty said are = fault_pasted (begun name) fault.Empty said refl are
+refused (Some name) fault.TooLarge said are = fault_pasted (begun name) fault.TooLarge said refl are
+refused (Some name) fault.TooManyColours said are = fault_pasted (begun name) fault.TooManyColours said refl are
+refused (Some name) fault.OutOfMemory said are = fault_pasted (begun name) fault.OutOfMemory said refl are
+refused (Some name) fault.Read said are = fault_pasted (begun name) fault.Read said refl are
 
 unopened : (name : Text) (reason : Unopened) (said : List Text) → ArePasted said (unopened_line name reason)
-    → name_in (line_of said) ≡ Some (topic_name Read)
+    → names_in (line_of said) ≡ Some (topic_name Read ∷ [])
 unopened name NotFound said are = ending_pasted (begun name) (reason_text NotFound) Read said no_such_file are
 unopened name PermissionDenied said are =
     ending_pasted (begun name) (reason_text PermissionDenied) Read said permission_denied are
