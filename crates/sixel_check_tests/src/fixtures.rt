@@ -1,8 +1,8 @@
 //! What the tests share: documents with `E` for ESC, answers as text, and the pictures of documents.
 
-use sixel_check::{Finding, Outcome, Verdict, check, check_bytes, outcome};
+use sixel_check::{Finding, Outcome, Verdict, check, check_bytes, outcome_with};
 use sixel_grammar::{Fault, InputFault, Placed, read_all};
-use sixel_io::SliceSource;
+use sixel_io::{PIECE, SliceSource};
 use sixel_model::{Parts, Picture, Profile};
 use std::alloc::{AllocError, Global};
 use std::process::Abort;
@@ -121,7 +121,7 @@ pub(crate) fn agrees_in(
     let mut source = SliceSource::new(bytes, piece.max(1), None);
     let answer = check(rt.alloc(), profile, &mut source);
     let mut again = SliceSource::new(bytes, piece.max(1), None);
-    let brief = outcome(rt.alloc(), profile, &mut again);
+    let brief = outcome_with(rt.alloc(), profile, &mut again, &mut [0u8; PIECE]);
     Ok(is_said(rt, &answer, expected)? && outcome_in_words(rt, &brief)?.as_str() == expected)
 }
 

@@ -2,17 +2,18 @@
 
 use crate::readers::{fed, read_pieces, reader_after};
 use crate::words::{PICTURE, PICTURE_IN_WORDS, all_in_words, answer_in_words, in_words};
-use arrayvec::ArrayVec;
 use sixel_grammar::{Command, Completed, Event, Fault, InputFault, Placed, Plain, Reader, Reason};
-use std::process::Abort;
+use sixel_test_devices::filled;
 use std::test::Fail;
 
 fn fault(reason: Reason, place: u64) -> Option<Fault> {
     Some(Fault { reason, place })
 }
 
-/// A row: the bytes, the events as text, the reason and the place of the fault.
-type Row = (&'static [u8], &'static str, Option<(Reason, u64)>);
+/// Whether these events have these words.
+fn say(rt: &impl AllocGlobal, events: &[Placed], words: &str) -> Result<bool, Fail> {
+    Ok(all_in_words(rt, events)?.as_str() == words)
+}
 
 /// Whether the bytes, fed one by one, have these events, and this fault or none.
 fn agrees_fed(
@@ -22,7 +23,7 @@ fn agrees_fed(
     expected: Option<Fault>,
 ) -> Result<bool, Fail> {
     let (events, found) = fed(rt, bytes)?;
-    Ok(all_in_words(rt, events.as_slice())?.as_str() == words && found == expected)
+    Ok(say(rt, events.as_slice(), words)? && found == expected)
 }
 
 /// Whether the bytes, read in pieces of this size, have these events, or this fault.
@@ -34,21 +35,19 @@ fn agrees_read(
     expected: Option<Fault>,
 ) -> Result<bool, Fail> {
     match read_pieces(rt, bytes, piece) {
-        Ok(events) => {
-            Ok(all_in_words(rt, events.as_slice())?.as_str() == words && expected.is_none())
-        }
+        Ok(events) => Ok(say(rt, events.as_slice(), words)? && expected.is_none()),
         Err(InputFault::Grammar(found)) => Ok(Some(found) == expected),
         Err(InputFault::OutOfMemory | InputFault::Read) => Ok(false),
     }
 }
 
-/// Whether `feed`, and `read_all` in pieces of 1, 5 and 64 bytes, give what the row says.
-fn agrees(rt: &impl AllocGlobal, row: &Row) -> Result<bool, Fail> {
-    let (bytes, words, refusal) = row;
-    let expected = match refusal {
-        Some((reason, place)) => fault(*reason, *place),
-        None => None,
-    };
+/// Whether `feed`, and `read_all` in pieces of 1, 5 and 64 bytes, give these events, and this fault or none.
+fn agrees(
+    rt: &impl AllocGlobal,
+    bytes: &[u8],
+    words: &str,
+    expected: Option<Fault>,
+) -> Result<bool, Fail> {
     for piece in [1, 5, 64] {
         if !agrees_read(rt, bytes, piece, words, expected)? {
             return Ok(false);
@@ -57,138 +56,140 @@ fn agrees(rt: &impl AllocGlobal, row: &Row) -> Result<bool, Fail> {
     agrees_fed(rt, bytes, words, expected)
 }
 
-/// Each row agrees.
-fn agree(rt: &(impl Abort + AllocGlobal), rows: &[Row]) -> Result<(), Fail> {
-    for (index, row) in rows.iter().enumerate() {
-        assert!(rt; agrees(rt, row)?, "row {index}");
-    }
-    Ok(())
-}
-
-/// Documents.
-const DOCUMENTS: &[Row] = &[
+/// Documents, and their events as text.
+const DOCUMENTS: &[(&[u8], &str)] = &[
     (
         b"\x1bPq@\x1b\\",
         "0 start false [0], 3 sixel 1, 4 finish false",
-        None,
     ),
     (
         b" \x1bPq\n~$-?\x1b\\\n",
         "1 start false [0], 5 sixel 63, 6 return, 7 newline, 8 sixel 0, 9 finish false",
-        None,
     ),
-    (PICTURE, PICTURE_IN_WORDS, None),
+    (PICTURE, PICTURE_IN_WORDS),
     (
         b"\x90q\"1;1;1;1#0;2;0;0;0#0@\x9c",
         "0 start true [0], 2 raster 1 1 1 1, 10 define 0 2 0 0 0, 20 select 0, 22 sixel 1, 23 finish true",
-        None,
     ),
     (
         b"\x1bPq!12~\x1b\\",
         "0 start false [0], 3 repeat 12 63, 7 finish false",
-        None,
     ),
     (
         b"\x1bP007;;3q\x1b\\",
         "0 start false [7, 0, 3], 9 finish false",
-        None,
     ),
     (
         b"\x1bP0;0;0;q\x1b\\",
         "0 start false [0, 0, 0], 9 finish false",
-        None,
     ),
     (
         b"\x1bPq#;;;;\x1b\\",
         "0 start false [0], 3 define 0 0 0 0 0, 8 finish false",
-        None,
     ),
     (
         b"\x1bPq\"\x1b\\",
         "0 start false [0], 3 raster 0 0 0 0, 4 finish false",
-        None,
     ),
     (
         b"\x1bPq!~\x1b\\",
         "0 start false [0], 3 repeat 0 63, 5 finish false",
-        None,
     ),
     (
         b"\x1bPq#1~#2\t$\x9c",
         "0 start false [0], 3 select 1, 5 sixel 63, 6 select 2, 9 return, 10 finish true",
-        None,
     ),
-    (b"\x90q\x1b\\", "0 start true [0], 2 finish false", None),
+    (b"\x90q\x1b\\", "0 start true [0], 2 finish false"),
 ];
 
 const START: &str = "0 start false [0]";
 
-/// Bytes that are no documents.
-const NO_DOCUMENTS: &[Row] = &[
-    (b"", "", Some((Reason::Truncated, 0))),
-    (b"x", "", Some((Reason::NotSixel, 0))),
-    (b"\x1bPp", "", Some((Reason::NotSixel, 2))),
+/// Bytes that are no document, the events before the fault, its reason and its place.
+type Refused = (&'static [u8], &'static str, Reason, u64);
+
+const NO_DOCUMENTS: &[Refused] = &[
+    (b"", "", Reason::Truncated, 0),
+    (b"x", "", Reason::NotSixel, 0),
+    (b"\x1bPp", "", Reason::NotSixel, 2),
     (
         b"\x1bPq@",
         "0 start false [0], 3 sixel 1",
-        Some((Reason::Truncated, 4)),
+        Reason::Truncated,
+        4,
     ),
     (
         b"\x1bPq$\x1b]",
         "0 start false [0], 3 return",
-        Some((Reason::BadTerminator, 5)),
+        Reason::BadTerminator,
+        5,
     ),
     (
         b"\x1bPq\x1b\\x",
         "0 start false [0], 3 finish false",
-        Some((Reason::Trailing, 5)),
+        Reason::Trailing,
+        5,
     ),
-    (b"\x1bPq!", START, Some((Reason::Truncated, 4))),
-    (b"\x1bPq!65536~", START, Some((Reason::NumberTooLarge, 8))),
-    (b"\x1bPq#1;2~", START, Some((Reason::FieldCount, 7))),
-    (b"\x1bPq\"1;1;1;1;", START, Some((Reason::FieldCount, 11))),
-    (b"\x1bP1;2;3;4q", "", Some((Reason::FieldCount, 8))),
-    (b"\x1bP0;0;0;;", "", Some((Reason::FieldCount, 8))),
-    (b"\x1bP0;0;0;x", "", Some((Reason::NotSixel, 8))),
-    (b"\x1bP0;0;0;", "", Some((Reason::Truncated, 8))),
-    (b"\x1bPq!3 ~", START, Some((Reason::BadRepeat, 5))),
-    (b"\x1bPq#0\x18", START, Some((Reason::BadByte, 5))),
-    (b"\x1bPq\"1;1", START, Some((Reason::Truncated, 7))),
-    (b"\x1bP1;2;3;65536", "", Some((Reason::FieldCount, 8))),
-    (b"\x1bP65536q", "", Some((Reason::NumberTooLarge, 6))),
-    (b"\x1bPq#1;2;3\"", START, Some((Reason::FieldCount, 9))),
-    (b"\x1bPq#1;2;3;4;5;", START, Some((Reason::FieldCount, 13))),
+    (b"\x1bPq!", START, Reason::Truncated, 4),
+    (b"\x1bPq!65536~", START, Reason::NumberTooLarge, 8),
+    (b"\x1bPq#1;2~", START, Reason::FieldCount, 7),
+    (b"\x1bPq\"1;1;1;1;", START, Reason::FieldCount, 11),
+    (b"\x1bP1;2;3;4q", "", Reason::FieldCount, 8),
+    (b"\x1bP0;0;0;;", "", Reason::FieldCount, 8),
+    (b"\x1bP0;0;0;x", "", Reason::NotSixel, 8),
+    (b"\x1bP0;0;0;", "", Reason::Truncated, 8),
+    (b"\x1bPq!3 ~", START, Reason::BadRepeat, 5),
+    (b"\x1bPq#0\x18", START, Reason::BadByte, 5),
+    (b"\x1bPq\"1;1", START, Reason::Truncated, 7),
+    (b"\x1bP1;2;3;65536", "", Reason::FieldCount, 8),
+    (b"\x1bP65536q", "", Reason::NumberTooLarge, 6),
+    (b"\x1bPq#1;2;3\"", START, Reason::FieldCount, 9),
+    (b"\x1bPq#1;2;3;4;5;", START, Reason::FieldCount, 13),
     (
         b"\x1bPq~\x80",
         "0 start false [0], 3 sixel 63",
-        Some((Reason::BadByte, 4)),
+        Reason::BadByte,
+        4,
     ),
-    (b"\x1bP q", "", Some((Reason::NotSixel, 2))),
+    (b"\x1bP q", "", Reason::NotSixel, 2),
     (
         b"\x1bPq#7\x9c\x1b",
         "0 start false [0], 3 select 7, 5 finish true",
-        Some((Reason::Trailing, 6)),
+        Reason::Trailing,
+        6,
     ),
 ];
 
-/// The documents. A function, so the proof of a test doesn't read the table.
-fn documents() -> &'static [Row] {
+/// The tables. Functions, so the proof of a test doesn't read them.
+fn documents() -> &'static [(&'static [u8], &'static str)] {
     DOCUMENTS
 }
 
-/// The bytes that are no documents. A function, so the proof of a test doesn't read the table.
-fn no_documents() -> &'static [Row] {
+fn no_documents() -> &'static [Refused] {
     NO_DOCUMENTS
 }
 
 #[test]
 fn documents_say_their_events(rt: HostRuntime) -> Result<(), Fail> {
-    agree(&rt, documents())
+    for (bytes, words) in documents() {
+        assert!(rt; agrees(&rt, bytes, words, None)?, "{bytes:?}");
+    }
+    Ok(())
 }
 
 #[test]
 fn what_is_no_document_has_its_fault(rt: HostRuntime) -> Result<(), Fail> {
-    agree(&rt, no_documents())
+    for (bytes, words, reason, place) in no_documents() {
+        let expected = fault(*reason, *place);
+        assert!(rt; agrees(&rt, bytes, words, expected)?, "{bytes:?}");
+    }
+    Ok(())
+}
+
+fn step(place: u64, command: Command) -> Placed {
+    Placed {
+        place,
+        event: Event::Step(command),
+    }
 }
 
 /// Whether the byte completes two commands after these bytes.
@@ -264,25 +265,9 @@ fn commands_are_read_quickly(rt: HostRuntime) -> Result<(), Fail> {
     Ok(())
 }
 
-/// A prefix, one byte `count` times, and the rest.
-fn filled(
-    rt: &impl AllocGlobal,
-    prefix: &[u8],
-    byte: u8,
-    count: u32,
-    back: &[u8],
-) -> Result<Vec<u8>, Fail> {
-    let mut bytes = prefix.to_vec(rt.alloc())?;
-    for _ in 0..count {
-        bytes.push(byte)?;
-    }
-    bytes.extend_from_slice(back)?;
-    Ok(bytes)
-}
-
 #[test]
 fn many_leading_zeros_are_one_number(rt: HostRuntime) -> Result<(), Fail> {
-    let bytes = filled(&rt, b"\x1bPq!", b'0', 100_000, b"3~\x1b\\")?;
+    let bytes = filled(rt.alloc(), b"\x1bPq!", b"0", 100_000, b"3~\x1b\\")?;
     let answer = read_pieces(&rt, bytes.as_slice(), 65_536);
     let words = answer_in_words(&rt, &answer)?;
     assert!(rt;
@@ -292,15 +277,10 @@ fn many_leading_zeros_are_one_number(rt: HostRuntime) -> Result<(), Fail> {
     Ok(())
 }
 
-/// Whether these events have these words.
-fn say(rt: &impl AllocGlobal, events: &[Placed], words: &str) -> Result<bool, Fail> {
-    Ok(all_in_words(rt, events)?.as_str() == words)
-}
-
 /// A start, 200,000 sixels and a finish.
 #[test]
 fn a_long_list_is_read(rt: HostRuntime) -> Result<(), Fail> {
-    let bytes = filled(&rt, b"\x90q", b'~', 200_000, b"\x9c")?;
+    let bytes = filled(rt.alloc(), b"\x90q", b"~", 200_000, b"\x9c")?;
     let events = read_pieces(&rt, bytes.as_slice(), 65_536).or(Err("a document"))?;
     assert!(rt; events.len() == 200_002);
     assert!(rt; say(&rt, &events[..2], "0 start true [0], 2 sixel 63")?);
@@ -341,67 +321,4 @@ fn a_document_ends_at_the_limit(rt: HostRuntime) {
     assert!(rt; ends_at_the_limit(PICTURE, None, b' '));
     let truncated = fault(Reason::Truncated, 268_435_456);
     assert!(rt; ends_at_the_limit(b"", truncated, b' '));
-}
-
-fn placed(place: u64, event: Event) -> Placed {
-    Placed { place, event }
-}
-
-fn step(place: u64, command: Command) -> Placed {
-    Placed {
-        place,
-        event: Event::Step(command),
-    }
-}
-
-/// The events of the smallest picture.
-fn smallest() -> [Placed; 6] {
-    let mut parameters = ArrayVec::new();
-    let _ = parameters.try_push(0);
-    [
-        placed(
-            0,
-            Event::Start {
-                eight: false,
-                parameters,
-            },
-        ),
-        step(
-            3,
-            Command::Raster {
-                pan: 1,
-                pad: 1,
-                width: 1,
-                height: 1,
-            },
-        ),
-        step(
-            11,
-            Command::Define {
-                register: 0,
-                system: 2,
-                x: 0,
-                y: 0,
-                z: 0,
-            },
-        ),
-        step(21, Command::Select(0)),
-        step(23, Command::Sixel(1)),
-        placed(24, Event::Finish { eight: false }),
-    ]
-}
-
-/// Whether these are the events of the smallest picture.
-fn is_smallest(events: Result<Vec<Placed>, InputFault>) -> bool {
-    match events {
-        Ok(events) => events.as_slice() == smallest().as_slice(),
-        Err(_) => false,
-    }
-}
-
-/// The smallest picture has these events, if no allocation fails.
-#[test]
-fn the_smallest_picture_has_six_events(rt: HostRuntime) {
-    let events = read_pieces(&rt, PICTURE, 64);
-    assert!(rt; is_smallest(events));
 }

@@ -2,7 +2,6 @@
 
 use crate::readers::reader_after;
 use sixel_grammar::{Fault, Reader, Reason};
-use std::process::Abort;
 
 /// A set of byte values.
 type Bytes = &'static [u8];
@@ -64,33 +63,28 @@ fn is_judged(open: &Open, byte: u8) -> bool {
     answer == Some(fault) && is_stopped(&mut reader, fault)
 }
 
-/// Judges each byte value after each open thing.
-fn judge(rt: &impl Abort, table: &[Open]) {
-    for open in table {
-        for byte in 0..=255 {
-            assert!(rt;
-                is_judged(open, byte),
-                "{byte} after {} bytes",
-                open.0.len()
-            );
-        }
-    }
-}
-
 const LARGE: (Bytes, Reason) = (DIGITS, Reason::NumberTooLarge);
 
 const FIELD_TOO_MANY: (Bytes, Reason) = (b";", Reason::FieldCount);
 
 const FIELDS_TOO_FEW: (Bytes, Reason) = (BODY, Reason::FieldCount);
 
-const BEFORE: &[Open] = &[
+/// What may follow a parameter; a field of the box, or a register; and a field of a colour.
+const PARAMETER: &[Bytes] = &[DIGITS, b";q"];
+
+const FIELD: &[Bytes] = &[DIGITS, b";", BODY];
+
+const COORDINATE: &[Bytes] = &[DIGITS, b";"];
+
+const TABLE: &[Open] = &[
+    // Before the picture data.
     (b"", &[FILLER, b"\x1b\x90"], &[], Reason::NotSixel),
     (b" \n", &[FILLER, b"\x1b\x90"], &[], Reason::NotSixel),
     (b"\x1b", &[b"P"], &[], Reason::NotSixel),
-    (b"\x1bP", &[DIGITS, b";q"], &[], Reason::NotSixel),
-    (b"\x90", &[DIGITS, b";q"], &[], Reason::NotSixel),
-    (b"\x1bP1;", &[DIGITS, b";q"], &[], Reason::NotSixel),
-    (b"\x901;2;3", &[DIGITS, b";q"], &[], Reason::NotSixel),
+    (b"\x1bP", PARAMETER, &[], Reason::NotSixel),
+    (b"\x90", PARAMETER, &[], Reason::NotSixel),
+    (b"\x1bP1;", PARAMETER, &[], Reason::NotSixel),
+    (b"\x901;2;3", PARAMETER, &[], Reason::NotSixel),
     (
         b"\x1bP;;;",
         &[b"q"],
@@ -104,44 +98,32 @@ const BEFORE: &[Open] = &[
         Reason::NotSixel,
     ),
     (b"\x90;65535", &[b";q"], &[LARGE], Reason::NotSixel),
-];
-
-const WITHIN: &[Open] = &[
+    // Within the picture data.
     (b"\x1bPq", &[BODY], &[], Reason::BadByte),
     (b"\x1bPq ~$", &[BODY], &[], Reason::BadByte),
     (b"\x1bPq!", &[DIGITS, DATA], &[], Reason::BadRepeat),
     (b"\x1bPq!7", &[DIGITS, DATA], &[], Reason::BadRepeat),
-    (b"\x1bPq\"", &[DIGITS, b";", BODY], &[], Reason::BadByte),
-    (b"\x1bPq\"1;", &[DIGITS, b";", BODY], &[], Reason::BadByte),
-    (
-        b"\x1bPq\"1;2;3",
-        &[DIGITS, b";", BODY],
-        &[],
-        Reason::BadByte,
-    ),
+    (b"\x1bPq\"", FIELD, &[], Reason::BadByte),
+    (b"\x1bPq\"1;", FIELD, &[], Reason::BadByte),
+    (b"\x1bPq\"1;2;3", FIELD, &[], Reason::BadByte),
     (
         b"\x1bPq\"1;2;3;",
         &[DIGITS, BODY],
         &[FIELD_TOO_MANY],
         Reason::BadByte,
     ),
-    (b"\x1bPq#", &[DIGITS, b";", BODY], &[], Reason::BadByte),
-    (b"\x1bPq#12", &[DIGITS, b";", BODY], &[], Reason::BadByte),
-    (
-        b"\x1bPq#1;",
-        &[DIGITS, b";"],
-        &[FIELDS_TOO_FEW],
-        Reason::BadByte,
-    ),
+    (b"\x1bPq#", FIELD, &[], Reason::BadByte),
+    (b"\x1bPq#12", FIELD, &[], Reason::BadByte),
+    (b"\x1bPq#1;", COORDINATE, &[FIELDS_TOO_FEW], Reason::BadByte),
     (
         b"\x1bPq#1;2;",
-        &[DIGITS, b";"],
+        COORDINATE,
         &[FIELDS_TOO_FEW],
         Reason::BadByte,
     ),
     (
         b"\x1bPq#1;2;3;4",
-        &[DIGITS, b";"],
+        COORDINATE,
         &[FIELDS_TOO_FEW],
         Reason::BadByte,
     ),
@@ -151,9 +133,7 @@ const WITHIN: &[Open] = &[
         &[FIELD_TOO_MANY],
         Reason::BadByte,
     ),
-];
-
-const LARGE_NUMBERS: &[Open] = &[
+    // Large numbers there.
     (
         b"\x1bPq!6553",
         &[LOW_DIGITS, DATA],
@@ -178,48 +158,23 @@ const LARGE_NUMBERS: &[Open] = &[
         &[LARGE, FIELDS_TOO_FEW],
         Reason::BadByte,
     ),
-];
-
-const AFTER: &[Open] = &[
+    // After the picture data.
     (b"\x1bPq\x1b", &[b"\\"], &[], Reason::BadTerminator),
     (b"\x1bPq#1\x1b", &[b"\\"], &[], Reason::BadTerminator),
     (b"\x1bPq\x1b\\", &[FILLER], &[], Reason::Trailing),
     (b"\x90q\x9c\t", &[FILLER], &[], Reason::Trailing),
 ];
 
-/// The tables. Functions, so the proof of a test doesn't read them.
-fn before() -> &'static [Open] {
-    BEFORE
-}
-
-fn within() -> &'static [Open] {
-    WITHIN
-}
-
-fn large_numbers() -> &'static [Open] {
-    LARGE_NUMBERS
-}
-
-fn after() -> &'static [Open] {
-    AFTER
+/// The table. A function, so the proof of the test doesn't read it.
+fn table() -> &'static [Open] {
+    TABLE
 }
 
 #[test]
-fn bytes_before_the_picture_data(rt: HostRuntime) {
-    judge(&rt, before());
-}
-
-#[test]
-fn bytes_within_the_picture_data(rt: HostRuntime) {
-    judge(&rt, within());
-}
-
-#[test]
-fn large_numbers_of_the_picture_data(rt: HostRuntime) {
-    judge(&rt, large_numbers());
-}
-
-#[test]
-fn bytes_after_the_picture_data(rt: HostRuntime) {
-    judge(&rt, after());
+fn each_byte_after_each_open_thing(rt: HostRuntime) {
+    for open in table() {
+        for byte in 0..=255 {
+            assert!(rt; is_judged(open, byte), "{byte} after {:?}", open.0);
+        }
+    }
 }

@@ -39,32 +39,22 @@ fn each_fill_fails_in_turn(rt: HostRuntime) -> Result<(), Fail> {
     Ok(())
 }
 
-/// Whether reading the bytes has this fault after this many fills, with a failure at the next one.
-fn ends_after(
-    rt: &impl AllocGlobal,
-    bytes: &[u8],
-    piece: usize,
-    fault: &str,
-    fills: u64,
-) -> Result<bool, Fail> {
-    agrees_after(rt, bytes, piece, Some(fills), fault, fills)
-}
-
-/// The piece with the fault is the last one that is read, even if the next fill would fail.
+/// The piece with the fault is the last one that is read: the next fill would fail.
 #[test]
 fn a_source_is_left_alone_after_a_fault(rt: HostRuntime) -> Result<(), Fail> {
     for (piece, fills) in [(1, 13), (2, 7), (5, 3), (12, 2), (13, 1), (64, 1)] {
-        let ends = ends_after(&rt, FAULTY, piece, "BadByte 12", fills)?;
+        let ends = agrees_after(&rt, FAULTY, piece, Some(fills), "BadByte 12", fills)?;
         assert!(rt; ends, "in pieces of {piece}");
     }
     Ok(())
 }
 
-/// One more fill finds the end.
+/// One more fill finds the end, and the one after it would fail.
 #[test]
 fn a_source_is_left_alone_after_its_end(rt: HostRuntime) -> Result<(), Fail> {
+    let cut = &PICTURE[..25];
     for (piece, fills) in [(1, 26), (5, 6), (24, 3), (25, 2), (64, 2)] {
-        let ends = ends_after(&rt, &PICTURE[..25], piece, "Truncated 25", fills)?;
+        let ends = agrees_after(&rt, cut, piece, Some(fills), "Truncated 25", fills)?;
         assert!(rt; ends, "in pieces of {piece}");
     }
     Ok(())

@@ -162,45 +162,28 @@ fn finds(prefix: &[u8], piece: &[u8], run: Option<Run>) -> bool {
     }
 }
 
-fn sixels(place: u64, select: Option<u16>, start: usize, length: usize) -> Option<Run> {
-    let columns = Columns::Sixels;
-    Some(Run {
+fn run(place: u64, select: Option<u16>, start: usize, length: usize, columns: Columns) -> Run {
+    Run {
         place,
         select,
         start,
         length,
         columns,
-    })
+    }
 }
 
-fn repeat(
-    place: u64,
-    select: Option<u16>,
-    start: usize,
-    length: usize,
-    count: u16,
-    bits: u8,
-) -> Option<Run> {
-    let columns = Columns::Repeat { count, bits };
-    Some(Run {
-        place,
-        select,
-        start,
-        length,
-        columns,
-    })
+fn sixels(place: u64, select: Option<u16>, start: usize, length: usize) -> Option<Run> {
+    Some(run(place, select, start, length, Columns::Sixels))
+}
+
+/// A repeat without a select.
+fn repeat(place: u64, length: usize, count: u16, bits: u8) -> Option<Run> {
+    Some(run(place, None, 0, length, Columns::Repeat { count, bits }))
 }
 
 /// A select that is open after so many bytes.
 fn open(place: u64, length: usize) -> Option<Run> {
-    let columns = Columns::Missing;
-    Some(Run {
-        place,
-        select: None,
-        start: 0,
-        length,
-        columns,
-    })
+    Some(run(place, None, 0, length, Columns::Missing))
 }
 
 #[test]
@@ -209,10 +192,11 @@ fn runs_at_the_beginning_of_a_piece(rt: HostRuntime) {
     assert!(rt; finds(b"\x1bPq", b"#12~~$", sixels(3, Some(12), 3, 5)));
     assert!(rt; finds(b"\x1bPq~", b"#~", sixels(4, Some(0), 1, 2)));
     assert!(rt; finds(b"\x1bPq", b"#65535~", sixels(3, Some(65_535), 6, 7)));
-    assert!(rt; finds(b"\x1bPq", b"!12~~", repeat(3, None, 0, 4, 12, 63)));
-    assert!(rt; finds(b"\x1bPq", b"!@", repeat(3, None, 0, 2, 0, 1)));
-    let zeros = repeat(3, Some(3), 2, 12, 65_535, 0);
-    assert!(rt; finds(b"\x1bPq", b"#3!00065535?", zeros));
+    assert!(rt; finds(b"\x1bPq", b"!12~~", repeat(3, 4, 12, 63)));
+    assert!(rt; finds(b"\x1bPq", b"!@", repeat(3, 2, 0, 1)));
+    let (count, bits) = (65_535, 0);
+    let zeros = run(3, Some(3), 2, 12, Columns::Repeat { count, bits });
+    assert!(rt; finds(b"\x1bPq", b"#3!00065535?", Some(zeros)));
 }
 
 /// Without columns after it, the introducer of a select is read with its digits: as many as make a register.
@@ -304,7 +288,7 @@ fn runs_end_at_the_limit(rt: HostRuntime) {
     let selected = sixels(268_435_453, Some(1), 2, 3);
     assert!(rt; finds_near_the_limit(3, b"#1~~", selected));
     assert!(rt; finds_near_the_limit(2, b"#1~~", open(268_435_454, 2)));
-    let repeated = repeat(268_435_453, None, 0, 3, 1, 63);
+    let repeated = repeat(268_435_453, 3, 1, 63);
     assert!(rt; finds_near_the_limit(3, b"!1~~", repeated));
     assert!(rt; finds_near_the_limit(2, b"!1~~", None));
     assert!(rt; finds_near_the_limit(0, b"~~", None));

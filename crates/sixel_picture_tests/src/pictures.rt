@@ -113,34 +113,25 @@ fn reason_of(
 
 #[test]
 fn pictures_name_the_first_reason(rt: HostRuntime) -> Result<(), Fail> {
-    for (width, height, registers, expected) in [
-        (0, 1, [].as_slice(), PictureReason::Size),
-        (1, 0, [].as_slice(), PictureReason::Size),
-        (2049, 1, [].as_slice(), PictureReason::Size),
-        (1, 2049, [].as_slice(), PictureReason::Size),
-        (0, 1, [16].as_slice(), PictureReason::Size),
-        (2, 1, [0].as_slice(), PictureReason::Count),
-        (1, 1, [16, 3].as_slice(), PictureReason::Count),
-        (1, 1, [16].as_slice(), PictureReason::Register),
-        (2, 1, [1, 16].as_slice(), PictureReason::Register),
-        (1, 1, [1].as_slice(), PictureReason::NoColour),
-        (2, 1, [3, 15].as_slice(), PictureReason::NoColour),
+    let (narrow, wide) = (Profile::Registers16, Profile::Registers256);
+    for (profile, width, height, registers, expected) in [
+        (narrow, 0, 1, [].as_slice(), PictureReason::Size),
+        (narrow, 1, 0, [].as_slice(), PictureReason::Size),
+        (narrow, 2049, 1, [].as_slice(), PictureReason::Size),
+        (narrow, 1, 2049, [].as_slice(), PictureReason::Size),
+        (narrow, 0, 1, [16].as_slice(), PictureReason::Size),
+        (narrow, 2, 1, [0].as_slice(), PictureReason::Count),
+        (narrow, 1, 1, [16, 3].as_slice(), PictureReason::Count),
+        (narrow, 1, 1, [16].as_slice(), PictureReason::Register),
+        (narrow, 2, 1, [1, 16].as_slice(), PictureReason::Register),
+        (narrow, 1, 1, [1].as_slice(), PictureReason::NoColour),
+        (narrow, 2, 1, [3, 15].as_slice(), PictureReason::NoColour),
+        // No register is above those of the wide profile.
+        (wide, 1, 1, [16].as_slice(), PictureReason::NoColour),
+        (wide, 2, 1, [0, 255].as_slice(), PictureReason::NoColour),
+        (wide, 1, 1, [255, 3].as_slice(), PictureReason::Count),
     ] {
-        let reason = reason_of(rt.alloc(), Profile::Registers16, width, height, registers)?;
-        assert!(rt; reason == Some(expected), "{width} by {height}");
-    }
-    Ok(())
-}
-
-/// No register is above those of the wide profile, so there only a colour can be missing.
-#[test]
-fn wide_pictures_have_each_register(rt: HostRuntime) -> Result<(), Fail> {
-    for (width, height, registers, expected) in [
-        (1, 1, [16].as_slice(), PictureReason::NoColour),
-        (2, 1, [0, 255].as_slice(), PictureReason::NoColour),
-        (1, 1, [255, 3].as_slice(), PictureReason::Count),
-    ] {
-        let reason = reason_of(rt.alloc(), Profile::Registers256, width, height, registers)?;
+        let reason = reason_of(rt.alloc(), profile, width, height, registers)?;
         assert!(rt; reason == Some(expected), "{width} by {height}");
     }
     Ok(())

@@ -19,6 +19,16 @@ struct Run {
     register: u8,
 }
 
+fn run_of(column: u32, band: u32, count: u32, bits: u8, register: u8) -> Run {
+    Run {
+        column,
+        band,
+        count,
+        bits,
+        register,
+    }
+}
+
 /// Whether the rows of the set bits are above `height`.
 fn rows_fit(bits: u8, band: u32, height: u32) -> bool
     requires { band < 1000 }
@@ -34,18 +44,10 @@ fn rows_fit(bits: u8, band: u32, height: u32) -> bool
 
 /// Paints a run, if it lies in the plane. Returns whether it does.
 fn paint<P: Cover>(plane: &mut P, run: Run) -> bool {
-    let Run {
-        column,
-        band,
-        count,
-        bits,
-        register,
-    } = run;
-    let width = plane.width();
-    let height = plane.height();
-    let in_columns = column <= width && count <= width - column;
-    if in_columns && bits <= 63 && band < 1000 && rows_fit(bits, band, height) {
-        plane.paint_run(column, band, count, bits, register);
+    let (width, height) = (plane.width(), plane.height());
+    let in_columns = run.column <= width && run.count <= width - run.column;
+    if in_columns && run.bits <= 63 && run.band < 1000 && rows_fit(run.bits, run.band, height) {
+        plane.paint_run(run.column, run.band, run.count, run.bits, run.register);
         return true;
     }
     false
@@ -134,23 +136,16 @@ fn run_at(width: u32, index: u32) -> Run
     requires { 0 < width }
 {
     let last = width - 1;
-    let (column, band, count, bits, register) = match index {
-        0 => (0, 900, width, 0, 15),
-        1 => (width, 1, 0, 7, 15),
-        2 => (last, 1, 1, 1, 2),
-        3 => (0, 0, last, 63, 1),
-        4 => (width / 3, 0, width / 2, 21, 5),
-        5 => (last, 0, 1, 62, 3),
-        6 => (last, 0, 1, 1, 4),
-        7 => (0, 1, last, 3, 6),
-        _ => (0, 1, width, 6, 0),
-    };
-    Run {
-        column,
-        band,
-        count,
-        bits,
-        register,
+    match index {
+        0 => run_of(0, 900, width, 0, 15),
+        1 => run_of(width, 1, 0, 7, 15),
+        2 => run_of(last, 1, 1, 1, 2),
+        3 => run_of(0, 0, last, 63, 1),
+        4 => run_of(width / 3, 0, width / 2, 21, 5),
+        5 => run_of(last, 0, 1, 62, 3),
+        6 => run_of(last, 0, 1, 1, 4),
+        7 => run_of(0, 1, last, 3, 6),
+        _ => run_of(0, 1, width, 6, 0),
     }
 }
 
@@ -196,14 +191,8 @@ fn stretch<P: Cover>(plane: &mut P, column: u32, bytes: &[u8], count: u32, regis
 /// Paints `count` columns of the bytes in a register, one by one.
 fn columns(plane: &mut BytePlane, column: u32, bytes: &[u8], count: u32, register: u8) -> bool {
     for (index, byte) in bytes.iter().take(count as usize).enumerate() {
-        let run = Run {
-            column: column.saturating_add(index as u32),
-            band: 0,
-            count: 1,
-            bits: byte.wrapping_sub(b'?'),
-            register,
-        };
-        if !paint(plane, run) {
+        let (column, bits) = (column.saturating_add(index as u32), byte.wrapping_sub(b'?'));
+        if !paint(plane, run_of(column, 0, 1, bits, register)) {
             return false;
         }
     }
@@ -289,14 +278,7 @@ fn looks_at_the_last_column<P: Cover>(alloc: Global) -> Result<bool, AllocError>
         (32, 1, 62, 2, Some((32, 0))),
         (32, 1, 1, 2, None),
     ] {
-        let run = Run {
-            column,
-            band: 0,
-            count,
-            bits,
-            register,
-        };
-        if !paints(&mut plane, run, blank) {
+        if !paints(&mut plane, run_of(column, 0, count, bits, register), blank) {
             return Ok(false);
         }
     }
@@ -305,11 +287,9 @@ fn looks_at_the_last_column<P: Cover>(alloc: Global) -> Result<bool, AllocError>
 
 #[test]
 fn the_columns_after_whole_groups_are_looked_at(rt: HostRuntime) -> Result<(), Fail> {
-    assert!(rt; looks_at_the_last_column::<BandPlane>(rt.alloc())?, "bands");
-    assert!(rt;
-        looks_at_the_last_column::<CoverPlane>(rt.alloc())?,
-        "covers"
-    );
+    let alloc = rt.alloc();
+    assert!(rt; looks_at_the_last_column::<BandPlane>(alloc)?, "bands");
+    assert!(rt; looks_at_the_last_column::<CoverPlane>(alloc)?, "covers");
     Ok(())
 }
 
@@ -390,14 +370,7 @@ fn is_filled<P: Plane>(plane: &mut P) -> bool {
         (0, 1, 1, 1, 4, Some((1, 6)), Some(4)),
         (1, 1, 1, 1, 4, None, Some(4)),
     ] {
-        let run = Run {
-            column,
-            band,
-            count,
-            bits,
-            register,
-        };
-        if !paints(plane, run, blank)
+        if !paints(plane, run_of(column, band, count, bits, register), blank)
             || pixel(plane, 1, 5) != Some(3)
             || pixel(plane, 0, 6) != last
         {
@@ -422,27 +395,15 @@ fn is_painted_by_runs<P: Plane>(alloc: Global) -> Result<bool, AllocError> {
 /// Whether a plane of one pixel takes register 255, the greatest, like any other.
 fn takes_the_greatest_register<P: Plane>(alloc: Global) -> Result<bool, AllocError> {
     let mut plane = P::blank(alloc, 1, 1)?;
-    let run = Run {
-        column: 0,
-        band: 0,
-        count: 1,
-        bits: 1,
-        register: 255,
-    };
-    let is_painted = paint(&mut plane, run);
+    let is_painted = paint(&mut plane, run_of(0, 0, 1, 1, 255));
     Ok(is_painted && plane.first_blank().is_none() && pixel(&plane, 0, 0) == Some(255))
 }
 
 #[test]
 fn each_byte_is_a_register(rt: HostRuntime) -> Result<(), Fail> {
-    assert!(rt;
-        takes_the_greatest_register::<BytePlane>(rt.alloc())?,
-        "bytes"
-    );
-    assert!(rt;
-        takes_the_greatest_register::<BandPlane>(rt.alloc())?,
-        "bands"
-    );
+    let alloc = rt.alloc();
+    assert!(rt; takes_the_greatest_register::<BytePlane>(alloc)?, "bytes");
+    assert!(rt; takes_the_greatest_register::<BandPlane>(alloc)?, "bands");
     Ok(())
 }
 

@@ -1,11 +1,12 @@
 //! Reading PPM files: worked examples, each reason at its first and last offset, filler, failing sources.
 
-ghost use Rattle.std.specs.Prelude.{◌<◌, None};
+ghost use Rattle.std.specs.Prelude.{◌<◌};
 
 use crate::pictures::{parts_of, register_of};
-use sixel_io::{DeviceFault, SliceSource, Source};
+use sixel_io::{SliceSource, Source};
 use sixel_model::{Palette, Parts, Picture, Profile};
 use sixel_ppm::{PpmFault, PpmReason, read_ppm};
+use sixel_test_devices::CountingDevice;
 use std::alloc::{AllocError, Global};
 use std::test::Fail;
 
@@ -251,16 +252,8 @@ fn colours_are_numbered_as_they_are_first_seen(rt: HostRuntime) -> Result<(), Fa
         Parts::Rgb(100, 0, 0),
         Parts::Rgb(0, 0, 0),
     ];
-    assert!(rt;
-        reads(
-            rt.alloc(),
-            bytes,
-            65_536,
-            (3, 2),
-            &[0, 1, 0, 1, 2, 0],
-            &colours
-        )
-    );
+    let registers = [0, 1, 0, 1, 2, 0];
+    assert!(rt; reads(rt.alloc(), bytes, 65_536, (3, 2), &registers, &colours));
     Ok(())
 }
 
@@ -331,31 +324,12 @@ fn failing_sources_are_named(rt: HostRuntime) {
     }
 }
 
-/// Fails at each call, and counts the calls.
-#[derive(Drop)]
-struct BrokenSource {
-    calls: u64,
-}
-
-impl Source for BrokenSource {
-    ghost state = { λ s. record { remaining = None; failures = s.calls } };
-
-    fn fill(&mut self, _piece: &mut [u8]) -> Result<usize, DeviceFault> {
-        self.calls = self.calls.saturating_add(1);
-        Err(DeviceFault)
-    }
-
-    fn failures(&self) -> u64 {
-        self.calls
-    }
-}
-
 #[test]
 fn a_failed_source_is_called_no_more(rt: HostRuntime) {
-    let mut source = BrokenSource { calls: 0 };
+    let mut source = CountingDevice::new(SliceSource::new(RED, 1, Some(0)));
     let read = read_ppm(rt.alloc(), Profile::Registers16, &mut source);
     assert!(rt; read.err() == Some(PpmFault::Read));
-    assert!(rt; source.calls == 1);
+    assert!(rt; source.calls.fills == 1);
 }
 
 /// Whether five red pixels are read correctly; `None` if an allocation failed.

@@ -1,12 +1,10 @@
 //! Writing PPM files: worked examples, and sinks that fail.
 
-ghost use Rattle.std.specs.Prelude.{None};
-
-use crate::limits::filled;
 use crate::pictures::{picture_of, red_and_blue, set};
-use sixel_io::{DeviceFault, Sink, SliceSink};
+use sixel_io::SliceSink;
 use sixel_model::{Colour, Palette, Picture, Profile};
 use sixel_ppm::{PpmFault, write_ppm, write_ppm_colours};
+use sixel_test_devices::{CountingDevice, filled};
 use std::alloc::Global;
 use std::test::Fail;
 
@@ -125,40 +123,11 @@ fn failing_sinks_have_a_prefix_of_the_text(rt: HostRuntime) -> Result<(), Fail> 
     Ok(())
 }
 
-/// Takes everything, and counts the calls.
-#[derive(Drop)]
-struct CountingSink {
-    takes: u32,
-    is_flushed: bool,
-}
-
-impl Sink for CountingSink {
-    ghost state = { λ s. record { taken = None; failures = 0; is_flushed = s.is_flushed } };
-
-    fn take(&mut self, piece: &[u8]) -> Result<usize, DeviceFault> {
-        self.takes = self.takes.saturating_add(1);
-        self.is_flushed = false;
-        Ok(piece.len())
-    }
-
-    fn flush(&mut self) -> Result<(), DeviceFault> {
-        self.is_flushed = true;
-        Ok(())
-    }
-
-    fn failures(&self) -> u64 {
-        0
-    }
-}
-
-/// How often a sink is called that takes the picture's whole text in each call; `None` if writing fails.
-fn takes_of(picture: &Picture) -> Option<u32> {
-    let mut sink = CountingSink {
-        takes: 0,
-        is_flushed: false,
-    };
+/// How often a sink with this room, which takes up to 100,000 bytes a call, is called; `None` if writing fails.
+fn takes_of(picture: &Picture, room: &mut [u8]) -> Option<u64> {
+    let mut sink = CountingDevice::new(SliceSink::new(room, 100_000, None));
     match write_ppm(picture, &mut sink) {
-        Ok(()) => Some(sink.takes),
+        Ok(()) => Some(sink.calls.takes),
         Err(_) => None,
     }
 }
@@ -188,6 +157,6 @@ fn large_pictures_leave_in_blocks(rt: HostRuntime) -> Result<(), Fail> {
         writes(&picture, &mut room, 100_000, Some(1), failed, first),
         "the first block"
     );
-    assert!(rt; takes_of(&picture) == Some(3));
+    assert!(rt; takes_of(&picture, &mut room) == Some(3));
     Ok(())
 }

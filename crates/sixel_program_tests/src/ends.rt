@@ -74,9 +74,10 @@ pub const NO_TERMINALS: Terminals = Terminals {
     errors: false,
 };
 
-/// How a task on the bytes ends over these streams.
+/// How a task on the bytes ends over these streams, of which some may be terminals.
 pub fn exit_over<R: Read + Drop, W: Write + Drop, E: Write + Drop>(
     alloc: Global,
+    terminals: Terminals,
     task: Task,
     input: R,
     output: W,
@@ -93,7 +94,7 @@ pub fn exit_over<R: Read + Drop, W: Write + Drop, E: Write + Drop>(
         alloc,
         &request,
         &NO_FILES,
-        NO_TERMINALS,
+        terminals,
         &mut Peeked::new(FromRead::new(input)),
         &mut ToWrite::new(output),
         &mut ToWrite::new(errors),
@@ -113,6 +114,6 @@ pub fn ends(
 {
     let mut output = Vec::new(alloc);
     let mut errors = Vec::new(alloc);
-    let ended = exit_over(alloc, task, bytes, &mut output, &mut errors);
+    let ended = exit_over(alloc, NO_TERMINALS, task, bytes, &mut output, &mut errors);
     ended == exit && output.as_slice() == written && errors.as_slice() == said
 }

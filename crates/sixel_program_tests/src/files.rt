@@ -104,6 +104,25 @@ const STREAMS: Streams = Streams {
     errors_room: 512,
 };
 
+/// Standard error is a terminal.
+const SEEN: Streams = Streams {
+    terminals: Terminals {
+        errors: true,
+        ..NO_TERMINALS
+    },
+    ..STREAMS
+};
+
+/// All streams are terminals.
+const INTERACTIVE: Streams = Streams {
+    terminals: Terminals {
+        input: true,
+        output: true,
+        errors: true,
+    },
+    ..STREAMS
+};
+
 /// How a request ended, what was on standard output and standard error, and whether standard input was read.
 #[derive(Clone, Copy)]
 struct Ended<'a> {
@@ -111,6 +130,24 @@ struct Ended<'a> {
     written: &'a [u8],
     said: &'a [u8],
     is_read: bool,
+}
+
+/// An end where standard input wasn't read.
+fn unread<'a>(exit: Exit, written: &'a [u8], said: &'a [u8]) -> Ended<'a> {
+    Ended {
+        exit,
+        written,
+        said,
+        is_read: false,
+    }
+}
+
+/// An end where it was.
+fn after_input<'a>(exit: Exit, written: &'a [u8], said: &'a [u8]) -> Ended<'a> {
+    Ended {
+        is_read: true,
+        ..unread(exit, written, said)
+    }
 }
 
 /// Bytes as standard input; it counts the reads.
@@ -193,7 +230,22 @@ fn asked_of<'a>(task: Task, names: &'a [&'a str], input: &'a [u8]) -> Asked<'a>
     }
 }
 
-/// A check of them.
+/// Whether the task over these files ends so, and leaves standard input unread, which has a PNG.
+fn ends_unread(
+    alloc: Global,
+    task: Task,
+    names: &[&str],
+    exit: Exit,
+    written: &[u8],
+    said: &[u8],
+) -> Result<bool, AllocError>
+    requires { HasSides task }
+{
+    let asked = asked_of(task, names, PNG);
+    ends_over(alloc, &asked, STREAMS, unread(exit, written, said))
+}
+
+/// A check of such files.
 fn check_of<'a>(is_quiet: bool, names: &'a [&'a str], input: &'a [u8]) -> Asked<'a>
     ensures { HasSides result.task }
 {
@@ -229,13 +281,7 @@ fn checks(
     written: &[u8],
     said: &[u8],
 ) -> Result<bool, AllocError> {
-    let ended = Ended {
-        exit,
-        written,
-        said,
-        is_read: false,
-    };
-    check_ends(alloc, names, PIXEL, ended)
+    check_ends(alloc, names, PIXEL, unread(exit, written, said))
 }
 
 #[test]
@@ -288,12 +334,8 @@ fn files_in_the_wide_profile(rt: HostRuntime) -> Result<(), Fail> {
     assert!(rt; checks(rt.alloc(), &names, Exit::Broken, narrow, b"")?);
     let profile = Profile::Registers256;
     let asked = asked_of(Task::Check { profile }, &names, RATIO);
-    let ended = Ended {
-        exit: Exit::Done,
-        written: b"wide: portable 2 1\npixel: portable 1 1\n",
-        said: b"",
-        is_read: false,
-    };
+    let portable = b"wide: portable 2 1\npixel: portable 1 1\n";
+    let ended = unread(Exit::Done, portable, b"");
     assert!(rt; ends_over(rt.alloc(), &asked, STREAMS, ended)?);
     Ok(())
 }
@@ -307,13 +349,7 @@ fn reads(
     written: &[u8],
     said: &[u8],
 ) -> Result<bool, AllocError> {
-    let ended = Ended {
-        exit,
-        written,
-        said,
-        is_read: true,
-    };
-    check_ends(alloc, names, input, ended)
+    check_ends(alloc, names, input, after_input(exit, written, said))
 }
 
 /// The advice on a file goes by its own first bytes.
@@ -322,15 +358,8 @@ fn files_of_other_formats(rt: HostRuntime) -> Result<(), Fail> {
     let said = b"sixel: text: NotSixel at 0\nsixel: png: NotSixel at 0\n\
         sixel: this is a PNG; `pngtopnm -mix | pnmdepth 255 | ppmtoppm | pnmquant 16 | sixel encode` makes sixel text of it\n";
     let names = ["text", "png", "pixel"];
-    assert!(rt;
-        checks(
-            rt.alloc(),
-            &names,
-            Exit::Refused,
-            b"pixel: portable 1 1\n",
-            said
-        )?
-    );
+    let written = b"pixel: portable 1 1\n";
+    assert!(rt; checks(rt.alloc(), &names, Exit::Refused, written, said)?);
     let piped = b"sixel: -: NotSixel at 0\n\
         sixel: this is a PNG; `pngtopnm -mix | pnmdepth 255 | ppmtoppm | pnmquant 16 | sixel encode` makes sixel text of it\n";
     assert!(rt; reads(rt.alloc(), &["-"], PNG, Exit::Refused, b"", piped)?);
@@ -340,70 +369,29 @@ fn files_of_other_formats(rt: HostRuntime) -> Result<(), Fail> {
 /// `-` is standard input, wherever it stands.
 #[test]
 fn standard_input_among_files(rt: HostRuntime) -> Result<(), Fail> {
+    let alloc = rt.alloc();
     let alone = b"-: portable 1 1\n";
-    assert!(rt; reads(rt.alloc(), &["-"], PIXEL, Exit::Done, alone, b"")?);
+    assert!(rt; reads(alloc, &["-"], PIXEL, Exit::Done, alone, b"")?);
     let second = b"ratio: broken Ratio 3\n-: portable 1 1\n";
-    assert!(rt;
-        reads(
-            rt.alloc(),
-            &["ratio", "-"],
-            PIXEL,
-            Exit::Broken,
-            second,
-            b""
-        )?
-    );
+    assert!(rt; reads(alloc, &["ratio", "-"], PIXEL, Exit::Broken, second, b"")?);
     let fault = b"sixel: -: NotSixel at 0\n";
     let after = b"pixel: portable 1 1\n";
-    assert!(rt;
-        reads(
-            rt.alloc(),
-            &["-", "pixel"],
-            b"x",
-            Exit::Refused,
-            after,
-            fault
-        )?
-    );
+    assert!(rt; reads(alloc, &["-", "pixel"], b"x", Exit::Refused, after, fault)?);
     let between = b"pixel: portable 1 1\n-: broken Ratio 3\npixel: portable 1 1\n";
     let names = ["pixel", "-", "pixel"];
-    assert!(rt; reads(rt.alloc(), &names, RATIO, Exit::Broken, between, b"")?);
+    assert!(rt; reads(alloc, &names, RATIO, Exit::Broken, between, b"")?);
     Ok(())
 }
 
 /// Without a file, lines have no name before them.
 #[test]
 fn standard_input_alone(rt: HostRuntime) -> Result<(), Fail> {
-    assert!(rt; reads(rt.alloc(), &[], PIXEL, Exit::Done, b"portable 1 1\n", b"")?);
-    assert!(rt;
-        reads(
-            rt.alloc(),
-            &[],
-            RATIO,
-            Exit::Broken,
-            b"broken Ratio 3\n",
-            b""
-        )?
-    );
-    assert!(rt;
-        reads(
-            rt.alloc(),
-            &[],
-            b"x",
-            Exit::Refused,
-            b"",
-            b"sixel: NotSixel at 0\n"
-        )?
-    );
-    assert!(rt;
-        reads(
-            rt.alloc(),
-            &[],
-            b"",
-            Exit::Refused,
-            b"",
-            b"sixel: Truncated at 0\n"
-        )?
-    );
+    let alloc = rt.alloc();
+    assert!(rt; reads(alloc, &[], PIXEL, Exit::Done, b"portable 1 1\n", b"")?);
+    assert!(rt; reads(alloc, &[], RATIO, Exit::Broken, b"broken Ratio 3\n", b"")?);
+    let other = b"sixel: NotSixel at 0\n";
+    assert!(rt; reads(alloc, &[], b"x", Exit::Refused, b"", other)?);
+    let empty = b"sixel: Truncated at 0\n";
+    assert!(rt; reads(alloc, &[], b"", Exit::Refused, b"", empty)?);
     Ok(())
 }

@@ -2,25 +2,25 @@
 
 ghost use Rattle.sixel_run.specs.Outputs.{HasSides};
 
-use crate::ends::{CHECK, ENCODE, exit_over};
+use crate::ends::{CHECK, ENCODE, NO_TERMINALS, exit_over};
 use sixel_program::Exit;
 use sixel_run::Task;
 use std::alloc::Global;
 use std::io;
 use std::io::{Error, Read};
 
-/// Bytes of which a read gives one; the read of this number, from 1, fails. It counts the reads.
+/// Bytes of which a read gives one; the read of this number, from 1, fails, if there is one. It counts the reads.
 #[derive(Drop)]
 struct Slow<'a> {
     rest: &'a [u8],
-    failing: u64,
+    failing: Option<u64>,
     reads: &'a mut u64,
 }
 
 impl Read for Slow<'_> {
     fn read(&mut self, buf: &mut [u8]) -> io::Result<usize> {
         *self.reads = self.reads.saturating_add(1);
-        if *self.reads == self.failing {
+        if Some(*self.reads) == self.failing {
             return Err(Error::other("broken"));
         }
         let most = buf.len().min(1);
@@ -28,16 +28,14 @@ impl Read for Slow<'_> {
     }
 }
 
-/// Whether the task on these bytes, one a read, ends so after so many reads, of which one fails; it writes this, and
-/// says that.
+/// Whether the task on these bytes, one a read, ends so after so many reads, of which one fails or none: with this exit,
+/// and with these bytes on standard output and on standard error.
 fn ends_slowly(
     alloc: Global,
     task: Task,
     bytes: &[u8],
-    failing: u64,
-    exit: Exit,
-    written: &[u8],
-    said: &[u8],
+    failing: Option<u64>,
+    ended: (Exit, &[u8], &[u8]),
     count: u64,
 ) -> bool
     requires { HasSides task }
@@ -50,8 +48,15 @@ fn ends_slowly(
         failing,
         reads: &mut reads,
     };
-    let ended = exit_over(alloc, task, input, &mut output, &mut errors);
-    ended == exit && output.as_slice() == written && errors.as_slice() == said && reads == count
+    let exit = exit_over(alloc, NO_TERMINALS, task, input, &mut output, &mut errors);
+    (exit, output.as_slice(), errors.as_slice()) == ended && reads == count
+}
+
+/// Whether the task is refused with this line after so many reads, of which none fails, and writes nothing.
+fn refuses(alloc: Global, task: Task, bytes: &[u8], said: &[u8], count: u64) -> bool
+    requires { HasSides task }
+{
+    ends_slowly(alloc, task, bytes, None, (Exit::Refused, b"", said), count)
 }
 
 /// Reads go on until the format is known.
@@ -59,60 +64,37 @@ fn ends_slowly(
 fn one_byte_a_read(rt: HostRuntime) {
     let png =
         b"sixel: Header at 0\nsixel: this is a PNG; `pngtopnm -mix | pnmdepth 255 | ppmtoppm` makes a PPM (P6) of it\n";
-    assert!(rt;
-        ends_slowly(
-            rt.alloc(),
-            ENCODE,
-            b"\x89PNG\r\n",
-            0,
-            Exit::Refused,
-            b"",
-            png,
-            4
-        )
-    );
+    assert!(rt; refuses(rt.alloc(), ENCODE, b"\x89PNG\r\n", png, 4));
     let webp =
         b"sixel: Header at 0\nsixel: this is a WebP; `dwebp -ppm - -o -` makes a PPM (P6) of it\n";
-    assert!(rt;
-        ends_slowly(
-            rt.alloc(),
-            ENCODE,
-            b"RIFF\x24\0\0\0WEBPVP8 ",
-            0,
-            Exit::Refused,
-            b"",
-            webp,
-            12
-        )
-    );
+    assert!(rt; refuses(rt.alloc(), ENCODE, b"RIFF\x24\0\0\0WEBPVP8 ", webp, 12));
     let gif =
         b"sixel: NotSixel at 0\nsixel: this is a GIF; `giftopnm | ppmtoppm | pnmquant 16 | sixel encode` makes \
         sixel text of it\n";
-    assert!(rt; ends_slowly(rt.alloc(), CHECK, b"GIF89a", 0, Exit::Refused, b"", gif, 4));
+    assert!(rt; refuses(rt.alloc(), CHECK, b"GIF89a", gif, 4));
 }
 
 /// A byte that begins no format is refused at once, and sixel text is read as it comes: its end is met once.
 #[test]
 fn no_read_too_many(rt: HostRuntime) {
-    let text = b"sixel: NotSixel at 0\n";
-    assert!(rt; ends_slowly(rt.alloc(), CHECK, b"xyz", 0, Exit::Refused, b"", text, 1));
-    let list = b"0 start 7bit 0\n3 end 7bit\n";
-    assert!(rt;
-        ends_slowly(
-            rt.alloc(),
-            Task::List,
-            b"\x1bPq\x1b\\",
-            0,
-            Exit::Done,
-            list,
-            b"",
-            6
-        )
+    assert!(rt; refuses(rt.alloc(), CHECK, b"xyz", b"sixel: NotSixel at 0\n", 1));
+    let bytes = b"\x1bPq\x1b\\";
+    let list = (
+        Exit::Done,
+        b"0 start 7bit 0\n3 end 7bit\n".as_slice(),
+        b"".as_slice(),
     );
-    let empty = b"sixel: Truncated at 0\n";
-    assert!(rt; ends_slowly(rt.alloc(), CHECK, b"", 0, Exit::Refused, b"", empty, 1));
-    let short = b"sixel: Short at 1\n";
-    assert!(rt; ends_slowly(rt.alloc(), ENCODE, b"P", 0, Exit::Refused, b"", short, 2));
+    assert!(rt; ends_slowly(rt.alloc(), Task::List, bytes, None, list, 6));
+    assert!(rt; refuses(rt.alloc(), CHECK, b"", b"sixel: Truncated at 0\n", 1));
+    assert!(rt; refuses(rt.alloc(), ENCODE, b"P", b"sixel: Short at 1\n", 2));
+}
+
+/// Whether the task is refused with this line after a read that fails, the last one, and writes nothing.
+fn fails(alloc: Global, task: Task, bytes: &[u8], failing: u64, said: &[u8]) -> bool
+    requires { HasSides task }
+{
+    let refused = (Exit::Refused, b"".as_slice(), said);
+    ends_slowly(alloc, task, bytes, Some(failing), refused, failing)
 }
 
 /// A read that fails among the first bytes is met in its place: it is neither made again nor forgotten.
@@ -120,31 +102,8 @@ fn no_read_too_many(rt: HostRuntime) {
 fn a_first_read_that_fails(rt: HostRuntime) {
     let failed = b"sixel: read failed\n";
     let pixel = b"\x1bPq\"1;1;1;1#0;2;0;0;0#0@\x1b\\";
-    assert!(rt; ends_slowly(rt.alloc(), CHECK, pixel, 1, Exit::Refused, b"", failed, 1));
-    assert!(rt; ends_slowly(rt.alloc(), CHECK, pixel, 2, Exit::Refused, b"", failed, 2));
-    assert!(rt;
-        ends_slowly(
-            rt.alloc(),
-            ENCODE,
-            b"P6 1 1 100\n",
-            2,
-            Exit::Refused,
-            b"",
-            failed,
-            2
-        )
-    );
-    let refused = b"sixel: NotSixel at 0\n";
-    assert!(rt;
-        ends_slowly(
-            rt.alloc(),
-            CHECK,
-            b"GIF89a",
-            3,
-            Exit::Refused,
-            b"",
-            refused,
-            3
-        )
-    );
+    assert!(rt; fails(rt.alloc(), CHECK, pixel, 1, failed));
+    assert!(rt; fails(rt.alloc(), CHECK, pixel, 2, failed));
+    assert!(rt; fails(rt.alloc(), ENCODE, b"P6 1 1 100\n", 2, failed));
+    assert!(rt; fails(rt.alloc(), CHECK, b"GIF89a", 3, b"sixel: NotSixel at 0\n"));
 }

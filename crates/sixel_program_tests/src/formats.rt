@@ -12,38 +12,34 @@ fn refuses(rt: &impl AllocGlobal, bytes: &[u8], lines: &[u8]) -> bool {
 
 /// The line of the fault is the usual one, and a second line says how to make a PPM.
 #[test]
-fn files_of_other_formats(rt: HostRuntime) {
-    assert!(rt;
-        refuses(
-            &rt,
+fn files_of_other_formats(rt: HostRuntime) -> Result<(), Fail> {
+    let rows: [(&[u8], &str, &str); 7] = [
+        (
             b"\x89PNG\r\n\x1a\n\0\0\0\rIHDR",
-            b"sixel: Header at 0\nsixel: this is a PNG; `pngtopnm -mix | pnmdepth 255 | ppmtoppm` makes a PPM (P6) of it\n",
-        )
-    );
-    assert!(rt;
-        refuses(
-            &rt,
+            "PNG",
+            "pngtopnm -mix | pnmdepth 255 | ppmtoppm",
+        ),
+        (
             b"\xff\xd8\xff\xe0\0\x10JFIF\0",
-            b"sixel: Header at 0\nsixel: this is a JPEG; `jpegtopnm | ppmtoppm` makes a PPM (P6) of it\n",
-        )
-    );
-    assert!(rt;
-        refuses(
-            &rt,
-            b"GIF89a\x01\0\x01\0",
-            b"sixel: Header at 0\nsixel: this is a GIF; `giftopnm | ppmtoppm` makes a PPM (P6) of it\n",
-        )
-    );
-    assert!(rt;
-        refuses(
-            &rt,
-            b"P5 1 1 255\n\0",
-            b"sixel: Header at 1\nsixel: this is another format of Netpbm; `ppmtoppm` makes a PPM (P6) of it\n",
-        )
-    );
+            "JPEG",
+            "jpegtopnm | ppmtoppm",
+        ),
+        (b"GIF89a\x01\0\x01\0", "GIF", "giftopnm | ppmtoppm"),
+        (b"RIFF\x24\0\0\0WEBPVP8 ", "WebP", "dwebp -ppm - -o -"),
+        (b"BM\x3a\0", "BMP", "bmptopnm | ppmtoppm"),
+        (b"II*\0\x08\0", "TIFF", "tifftopnm | ppmtoppm"),
+        (b"MM\0*\0\0", "TIFF", "tifftopnm | ppmtoppm"),
+    ];
+    for (bytes, format, command) in rows {
+        let said = format!(in rt.alloc();
+            "sixel: Header at 0\nsixel: this is a {format}; `{command}` makes a PPM (P6) of it\n"
+        )?;
+        assert!(rt; refuses(&rt, bytes, said.as_bytes()), "{bytes:?}");
+    }
+    Ok(())
 }
 
-/// Each Netpbm format except the raw PPM has the second line.
+/// Each Netpbm format except the raw PPM has a second line.
 #[test]
 fn formats_of_netpbm(rt: HostRuntime) {
     let lines =
@@ -52,32 +48,15 @@ fn formats_of_netpbm(rt: HostRuntime) {
     assert!(rt; refuses(&rt, b"P2\n", lines));
     assert!(rt; refuses(&rt, b"P3\n1 1\n255\n0 0 0\n", lines));
     assert!(rt; refuses(&rt, b"P4\n1 1\n\0", lines));
+    assert!(rt; refuses(&rt, b"P5 1 1 255\n\0", lines));
     assert!(rt; refuses(&rt, b"P7\nWIDTH 1\n", lines));
     assert!(rt; refuses(&rt, b"P0", b"sixel: Header at 1\n"));
     assert!(rt; refuses(&rt, b"P8", b"sixel: Header at 1\n"));
 }
 
-/// So have WebP, BMP, TIFF and sixel text.
+/// Sixel text has another second line.
 #[test]
-fn more_formats(rt: HostRuntime) {
-    assert!(rt;
-        refuses(
-            &rt,
-            b"RIFF\x24\0\0\0WEBPVP8 ",
-            b"sixel: Header at 0\nsixel: this is a WebP; `dwebp -ppm - -o -` makes a PPM (P6) of it\n",
-        )
-    );
-    assert!(rt;
-        refuses(
-            &rt,
-            b"BM\x3a\0",
-            b"sixel: Header at 0\nsixel: this is a BMP; `bmptopnm | ppmtoppm` makes a PPM (P6) of it\n",
-        )
-    );
-    let tiff =
-        b"sixel: Header at 0\nsixel: this is a TIFF; `tifftopnm | ppmtoppm` makes a PPM (P6) of it\n";
-    assert!(rt; refuses(&rt, b"II*\0\x08\0", tiff));
-    assert!(rt; refuses(&rt, b"MM\0*\0\0", tiff));
+fn sixel_text(rt: HostRuntime) {
     let text = b"sixel: Header at 0\nsixel: this is sixel text; `sixel check` reads it\n";
     assert!(rt; refuses(&rt, b"\x1bPq\x1b\\", text));
     assert!(rt; refuses(&rt, b"\x90q\x9c", text));
@@ -110,53 +89,32 @@ fn are_no_text(rt: &impl AllocGlobal, bytes: &[u8], lines: &[u8]) -> bool {
 
 /// Other tasks say how to make sixel text of such a file.
 #[test]
-fn files_that_are_no_text(rt: HostRuntime) {
-    assert!(rt;
-        are_no_text(
-            &rt,
+fn files_that_are_no_text(rt: HostRuntime) -> Result<(), Fail> {
+    let rows: [(&[u8], &str, &str); 8] = [
+        (
             b"\x89PNG\r\n\x1a\n",
-            b"sixel: NotSixel at 0\n\
-            sixel: this is a PNG; `pngtopnm -mix | pnmdepth 255 | ppmtoppm | pnmquant 16 | sixel encode` makes sixel text of it\n",
-        )
-    );
-    assert!(rt;
-        are_no_text(
-            &rt,
-            b"P6 1 1 100\n\x64\0\0",
-            b"sixel: NotSixel at 0\nsixel: this is a PPM; `pnmquant 16 | sixel encode` makes sixel text of it\n",
-        )
-    );
-    assert!(rt;
-        are_no_text(
-            &rt,
+            "PNG",
+            "pngtopnm -mix | pnmdepth 255 | ppmtoppm | pnmquant 16",
+        ),
+        (b"P6 1 1 100\n\x64\0\0", "PPM", "pnmquant 16"),
+        (
             b"RIFF\x24\0\0\0WEBPVP8 ",
-            b"sixel: NotSixel at 0\n\
-            sixel: this is a WebP; `dwebp -ppm - -o - | pnmquant 16 | sixel encode` makes sixel text of it\n",
-        )
-    );
-    assert!(rt;
-        are_no_text(
-            &rt,
-            b"P4\n1 1\n\0",
-            b"sixel: NotSixel at 0\n\
-            sixel: this is a Netpbm file; `ppmtoppm | pnmquant 16 | sixel encode` makes sixel text of it\n",
-        )
-    );
-}
-
-/// Each format that Netpbm reads has a program of its own.
-#[test]
-fn programs_of_netpbm(rt: HostRuntime) -> Result<(), Fail> {
-    let rows: [(&[u8], &str, &str); 4] = [
-        (b"\xff\xd8\xff\xe0", "JPEG", "jpegtopnm"),
-        (b"GIF87a", "GIF", "giftopnm"),
-        (b"BM\x3a\0", "BMP", "bmptopnm"),
-        (b"MM\0*", "TIFF", "tifftopnm"),
+            "WebP",
+            "dwebp -ppm - -o - | pnmquant 16",
+        ),
+        (b"P4\n1 1\n\0", "Netpbm file", "ppmtoppm | pnmquant 16"),
+        (
+            b"\xff\xd8\xff\xe0",
+            "JPEG",
+            "jpegtopnm | ppmtoppm | pnmquant 16",
+        ),
+        (b"GIF87a", "GIF", "giftopnm | ppmtoppm | pnmquant 16"),
+        (b"BM\x3a\0", "BMP", "bmptopnm | ppmtoppm | pnmquant 16"),
+        (b"MM\0*", "TIFF", "tifftopnm | ppmtoppm | pnmquant 16"),
     ];
-    for (bytes, format, program) in rows {
+    for (bytes, format, command) in rows {
         let said = format!(in rt.alloc();
-            "sixel: NotSixel at 0\nsixel: this is a {format}; \
-             `{program} | ppmtoppm | pnmquant 16 | sixel encode` makes sixel text of it\n"
+            "sixel: NotSixel at 0\nsixel: this is a {format}; `{command} | sixel encode` makes sixel text of it\n"
         )?;
         assert!(rt; are_no_text(&rt, bytes, said.as_bytes()), "{format}");
     }
@@ -172,14 +130,7 @@ fn other_inputs(rt: HostRuntime) {
     assert!(rt; are_no_text(&rt, b"\x1b[", b"sixel: NotSixel at 1\n"));
     assert!(rt; are_no_text(&rt, b"\x1bP", b"sixel: Truncated at 2\n"));
     assert!(rt; are_no_text(&rt, b"\nGIF89a", b"sixel: NotSixel at 1\n"));
-    assert!(rt;
-        ends(
-            rt.alloc(),
-            ENCODE,
-            b"P6 1 1 100\n\x64\0\0",
-            Exit::Done,
-            b"\x1bP0;1q\"1;1;1;1#0;2;100;0;0#0@\x1b\\",
-            b"",
-        )
-    );
+    let red = b"P6 1 1 100\n\x64\0\0";
+    let text = b"\x1bP0;1q\"1;1;1;1#0;2;100;0;0#0@\x1b\\";
+    assert!(rt; ends(rt.alloc(), ENCODE, red, Exit::Done, text, b""));
 }

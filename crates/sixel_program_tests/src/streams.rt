@@ -2,11 +2,13 @@
 
 ghost use Rattle.sixel_run.specs.Outputs.{HasSides};
 
-use crate::ends::{CHECK, ENCODE, RENDER, SHOW, SHOW_BOX, exit_over};
+use crate::ends::{CHECK, ENCODE, NO_TERMINALS, RENDER, SHOW, SHOW_BOX, exit_over};
 use sixel_program::Exit;
 use sixel_run::Task;
 use sixel_test_devices::Narrow;
 use std::alloc::Global;
+
+const PIXEL: &[u8] = b"\x1bPq\"1;1;1;1#0;2;0;0;0#0@\x1b\\";
 
 /// Whether the line was written as far as the room goes.
 fn fills(written: &[u8], line: &[u8], room: usize) -> bool {
@@ -28,7 +30,7 @@ fn ends_in(
     let mut output = Vec::new(alloc);
     let mut said = Vec::new(alloc);
     let errors = Narrow::new(&mut said, room);
-    let ended = exit_over(alloc, *task, bytes, &mut output, errors);
+    let ended = exit_over(alloc, NO_TERMINALS, *task, bytes, &mut output, errors);
     ended == exit && output.as_slice() == text && fills(said.as_slice(), line, room)
 }
 
@@ -36,102 +38,44 @@ fn ends_in(
 fn ends_so(alloc: Global, task: &Task, bytes: &[u8], exit: Exit, text: &[u8], line: &[u8]) -> bool
     requires { HasSides task.now }
 {
-    ends_in(alloc, task, bytes, exit, text, line, 0)
-        && ends_in(alloc, task, bytes, exit, text, line, 1)
-        && ends_in(alloc, task, bytes, exit, text, line, 9)
-        && ends_in(alloc, task, bytes, exit, text, line, 64)
+    for room in [0, 1, 9, 64] {
+        if !ends_in(alloc, task, bytes, exit, text, line, room) {
+            return false;
+        }
+    }
+    true
+}
+
+/// The same of a task that is refused with this line, and writes nothing.
+fn refuses(alloc: Global, task: &Task, bytes: &[u8], line: &[u8]) -> bool
+    requires { HasSides task.now }
+{
+    ends_so(alloc, task, bytes, Exit::Refused, b"", line)
 }
 
 /// Each task ends in its own way, even if the line of a refusal, or of a picture that isn't rendered, can't be written.
 #[test]
 fn a_standard_error_that_fails(rt: HostRuntime) {
-    assert!(rt;
-        ends_so(
-            rt.alloc(),
-            &Task::List,
-            b"\x1bPq\x1b\\",
-            Exit::Done,
-            b"0 start 7bit 0\n3 end 7bit\n",
-            b"",
-        )
-    );
+    let alloc = rt.alloc();
+    let list = b"0 start 7bit 0\n3 end 7bit\n";
+    assert!(rt; ends_so(alloc, &Task::List, b"\x1bPq\x1b\\", Exit::Done, list, b""));
     let hue = b"\x1bPq#0;1;360;50;100#0@\x1b\\";
-    assert!(rt;
-        ends_so(
-            rt.alloc(),
-            &SHOW,
-            hue,
-            Exit::Refused,
-            b"",
-            b"sixel: NotRgb\n"
-        )
-    );
+    assert!(rt; refuses(alloc, &SHOW, hue, b"sixel: NotRgb\n"));
+    let boxed = b"\x1bPq\"1;1;1;1#0@\x1b\\";
     let dot = b"P6\n1 1\n100\n\x00\x00\x00";
-    assert!(rt;
-        ends_so(
-            rt.alloc(),
-            &SHOW_BOX,
-            b"\x1bPq\"1;1;1;1#0@\x1b\\",
-            Exit::Done,
-            dot,
-            b""
-        )
-    );
-    let unboxed = b"\x1bPq#0@\x1b\\";
-    assert!(rt;
-        ends_so(
-            rt.alloc(),
-            &SHOW_BOX,
-            unboxed,
-            Exit::Refused,
-            b"",
-            b"sixel: NoBox\n"
-        )
-    );
-    assert!(rt;
-        ends_so(
-            rt.alloc(),
-            &Task::List,
-            b"\x1bPq!65536~",
-            Exit::Refused,
-            b"0 start 7bit 0\n",
-            b"sixel: NumberTooLarge at 8\n",
-        )
-    );
+    assert!(rt; ends_so(alloc, &SHOW_BOX, boxed, Exit::Done, dot, b""));
+    assert!(rt; refuses(alloc, &SHOW_BOX, b"\x1bPq#0@\x1b\\", b"sixel: NoBox\n"));
+    let number = b"\x1bPq!65536~";
+    let (begun, large) = (b"0 start 7bit 0\n", b"sixel: NumberTooLarge at 8\n");
+    assert!(rt; ends_so(alloc, &Task::List, number, Exit::Refused, begun, large));
     let uncovered = b"\x1bPq\"1;1;2;1#0;2;0;0;0#0@\x1b\\";
     let line = b"broken Uncovered 24 1 0\n";
-    assert!(rt; ends_so(rt.alloc(), &RENDER, uncovered, Exit::Broken, b"", line));
-    assert!(rt; ends_so(rt.alloc(), &CHECK, uncovered, Exit::Broken, line, b""));
-    assert!(rt;
-        ends_so(
-            rt.alloc(),
-            &RENDER,
-            b"\x1bPq\"1;1;1;1#0;1;360;50;100#0@\x1b\\",
-            Exit::Refused,
-            b"",
-            b"sixel: NotRgb\n",
-        )
-    );
-    assert!(rt;
-        ends_so(
-            rt.alloc(),
-            &ENCODE,
-            b"P6 1 1 256\n",
-            Exit::Refused,
-            b"",
-            b"sixel: Maxval at 7\n",
-        )
-    );
-    assert!(rt;
-        ends_so(
-            rt.alloc(),
-            &CHECK,
-            b"\x1bPq\"1;1;1;1#0;2;0;0;0#0@\x1b\\",
-            Exit::Done,
-            b"portable 1 1\n",
-            b"",
-        )
-    );
+    assert!(rt; ends_so(alloc, &RENDER, uncovered, Exit::Broken, b"", line));
+    assert!(rt; ends_so(alloc, &CHECK, uncovered, Exit::Broken, line, b""));
+    let hue = b"\x1bPq\"1;1;1;1#0;1;360;50;100#0@\x1b\\";
+    assert!(rt; refuses(alloc, &RENDER, hue, b"sixel: NotRgb\n"));
+    assert!(rt; refuses(alloc, &ENCODE, b"P6 1 1 256\n", b"sixel: Maxval at 7\n"));
+    assert!(rt; ends_so(alloc, &CHECK, PIXEL, Exit::Done, b"portable 1 1\n", b""));
 }
 
 /// Whether a check is refused if standard output has room for only five bytes of its line, and standard error for
@@ -141,8 +85,7 @@ fn refuses_with(alloc: Global, room: usize, line: &[u8]) -> bool {
     let mut said = Vec::new(alloc);
     let output = Narrow::new(&mut written, 5);
     let errors = Narrow::new(&mut said, room);
-    let bytes = b"\x1bPq\"1;1;1;1#0;2;0;0;0#0@\x1b\\";
-    let ended = exit_over(alloc, CHECK, bytes.as_slice(), output, errors);
+    let ended = exit_over(alloc, NO_TERMINALS, CHECK, PIXEL, output, errors);
     ended == Exit::Refused && written.as_slice() == b"porta".as_slice() && said.as_slice() == line
 }
 

@@ -1,10 +1,10 @@
 //! Whether the check agrees with the plain judge.
 
 use crate::steps::verdict_by_events;
-use sixel_check::{Rule, Verdict, check_bytes};
+use sixel_check::{Verdict, check_bytes};
 use sixel_grammar::{Fault, InputFault, Placed, read_all};
 use sixel_io::SliceSource;
-use sixel_model::Profile;
+use sixel_model::{ALL_RULES, Profile, RULE_COUNT};
 use sixel_plain::{Documents, Made, PlainVerdict, is_left, judge_events};
 use std::alloc::{AllocError, Global};
 
@@ -13,23 +13,6 @@ const MOST_SWEPT: usize = 64;
 
 /// The bytes that replace each byte in turn.
 const BYTES: [u8; 6] = *b"@-#1;\"";
-
-/// The rules, in the order of their numbers.
-const RULES: [Rule; 13] = [
-    Rule::RasterFirst,
-    Rule::RasterTwice,
-    Rule::Ratio,
-    Rule::BoxSize,
-    Rule::Register,
-    Rule::ColourValue,
-    Rule::RepeatZero,
-    Rule::Unselected,
-    Rule::Undefined,
-    Rule::Redefined,
-    Rule::Outside,
-    Rule::Uncovered,
-    Rule::EightBit,
-];
 
 /// Whether the verdict agrees with the plain judge's: the same finding, or the picture that the events leave.
 fn is_plain(
@@ -148,7 +131,7 @@ pub struct Tally {
     pub wrong: u32,
     pub portable: u32,
     /// Whether each rule was broken at an event after the start.
-    met: [bool; 13],
+    met: [bool; RULE_COUNT],
 }
 
 impl Tally {
@@ -162,7 +145,7 @@ impl Tally {
         match plain {
             PlainVerdict::Portable { .. } => self.portable = self.portable.saturating_add(1),
             PlainVerdict::Broken(finding) => {
-                for (met, rule) in self.met.iter_mut().zip(RULES) {
+                for (met, rule) in self.met.iter_mut().zip(ALL_RULES) {
                     *met = *met || finding.rule == rule && finding.place > 0;
                 }
             }
@@ -189,7 +172,7 @@ pub fn make_tally(alloc: Global, profile: Profile) -> Result<Tally, InputFault> 
     let mut tally = Tally {
         wrong: 0,
         portable: 0,
-        met: [false; 13],
+        met: [false; RULE_COUNT],
     };
     let mut documents = Documents::new(1);
     for _ in 0..1000u32 {

@@ -4,40 +4,17 @@ use crate::runs::{ENCODE, Limits, agrees, run_counted};
 use sixel_model::Profile;
 use sixel_ppm::PpmReason;
 use sixel_run::{RunFault, Status, Task};
+use sixel_test_devices::filled;
 use std::alloc::{AllocError, Global};
 use std::test::Fail;
-
-/// A prefix, then a part `count` times, then the rest.
-fn with_many(
-    alloc: Global,
-    prefix: &[u8],
-    count: usize,
-    part: &[u8],
-    rest: &[u8],
-) -> Result<Vec<u8>, AllocError> {
-    let mut bytes = Vec::from_slice(alloc, prefix)?;
-    for _ in 0..count {
-        bytes.extend_from_slice(part)?;
-    }
-    bytes.extend_from_slice(rest)?;
-    Ok(bytes)
-}
 
 /// The `!` is at 3, 100,000 zeros follow from 4 on, the 3 is at 100,004, and the end at 100,006.
 #[test]
 fn a_number_with_many_zeros_is_listed(rt: HostRuntime) -> Result<(), Fail> {
-    let bytes = with_many(rt.alloc(), b"\x1bPq!", 100_000, b"0", b"3~\x1b\\")?;
+    let bytes = filled(rt.alloc(), b"\x1bPq!", b"0", 100_000, b"3~\x1b\\")?;
     let lines = b"0 start 7bit 0\n3 repeat 3 63\n100006 end 7bit\n";
-    assert!(rt;
-        agrees(
-            rt.alloc(),
-            Task::List,
-            &bytes,
-            65_536,
-            lines,
-            Ok(Status::Done)
-        )
-    );
+    let done = Ok(Status::Done);
+    assert!(rt; agrees(rt.alloc(), Task::List, &bytes, 65_536, lines, done));
     Ok(())
 }
 
@@ -67,7 +44,7 @@ fn shows_a_pixel(alloc: Global, bytes: &[u8]) -> Result<bool, AllocError> {
 /// More than 100,000 events, one of which paints.
 #[test]
 fn a_long_document_is_shown_on_a_large_screen(rt: HostRuntime) -> Result<(), Fail> {
-    let bytes = with_many(rt.alloc(), b"\x1bPq", 150_000, b"$", b"@\x1b\\")?;
+    let bytes = filled(rt.alloc(), b"\x1bPq", b"$", 150_000, b"@\x1b\\")?;
     assert!(rt; shows_a_pixel(rt.alloc(), &bytes)?);
     Ok(())
 }
@@ -84,18 +61,12 @@ fn refused(reason: PpmReason, place: u64) -> Result<Status, RunFault> {
 /// A header must end before 65,536 bytes: this one has 2 + 65,526 + 8, and then one more.
 #[test]
 fn the_longest_header_is_encoded(rt: HostRuntime) -> Result<(), Fail> {
-    let bytes = with_many(rt.alloc(), b"P6", 65_526, b" ", b"1 1 100\n\0\0\0")?;
-    assert!(rt;
-        encodes(
-            rt.alloc(),
-            &bytes,
-            b"\x1bP0;1q\"1;1;1;1#0;2;0;0;0#0@\x1b\\",
-            Ok(Status::Done),
-        )
-    );
-    let bytes = with_many(rt.alloc(), b"P6", 65_527, b" ", b"1 1 100\n\0\0\0")?;
-    assert!(rt; encodes(rt.alloc(), &bytes, b"", refused(PpmReason::Header, 65_536),));
-    let bytes = with_many(rt.alloc(), b"P6", 65_534, b" ", b"")?;
-    assert!(rt; encodes(rt.alloc(), &bytes, b"", refused(PpmReason::Short, 65_536),));
+    let bytes = filled(rt.alloc(), b"P6", b" ", 65_526, b"1 1 100\n\0\0\0")?;
+    let text = b"\x1bP0;1q\"1;1;1;1#0;2;0;0;0#0@\x1b\\";
+    assert!(rt; encodes(rt.alloc(), &bytes, text, Ok(Status::Done)));
+    let bytes = filled(rt.alloc(), b"P6", b" ", 65_527, b"1 1 100\n\0\0\0")?;
+    assert!(rt; encodes(rt.alloc(), &bytes, b"", refused(PpmReason::Header, 65_536)));
+    let bytes = filled(rt.alloc(), b"P6", b" ", 65_534, b"")?;
+    assert!(rt; encodes(rt.alloc(), &bytes, b"", refused(PpmReason::Short, 65_536)));
     Ok(())
 }

@@ -5,6 +5,7 @@ use sixel_check::{Finding, Rule};
 use sixel_io::{Block, DeviceFault, PIECE, Sink, SliceSink, SliceSource};
 use sixel_model::Profile;
 use sixel_run::{Plain, RunFault, Status, Task, run, write_lines};
+use sixel_test_devices::filled;
 use std::alloc::{AllocError, Global};
 use std::test::Fail;
 
@@ -23,20 +24,11 @@ fn listed(alloc: Global, bytes: &[u8], take_fails: Option<u64>) -> Result<Vec<u8
     Ok(room)
 }
 
-fn sixels(alloc: Global, count: usize) -> Result<Vec<u8>, AllocError> {
-    let mut bytes = Vec::from_slice(alloc, b"\x1bPq")?;
-    for _ in 0..count {
-        bytes.push(b'~')?;
-    }
-    bytes.extend_from_slice(b"\x1b\\")?;
-    Ok(bytes)
-}
-
 /// A line has 10 bytes and its offset, the first one 15. So 53,168 lines have 786,422 bytes, and the block has room for
 /// ten more, but no line is so short.
 #[test]
 fn a_take_has_as_many_lines_as_its_block_holds(rt: HostRuntime) -> Result<(), Fail> {
-    let bytes = sixels(rt.alloc(), 60_000)?;
+    let bytes = filled(rt.alloc(), b"\x1bPq", b"~", 60_000, b"\x1b\\")?;
     assert!(rt; listed(rt.alloc(), &bytes, Some(0))?.is_empty());
     assert!(rt; listed(rt.alloc(), &bytes, Some(1))?.len() == 786_422);
     Ok(())

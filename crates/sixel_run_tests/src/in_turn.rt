@@ -18,13 +18,40 @@ pub(crate) struct Case {
     pub bytes: &'static [u8],
     pub text: &'static [u8],
     pub answer: Result<Status, RunFault>,
-    /// The piece size (1, 5 and 64 bytes, for input and output), and the numbers of fills and takes. The fills give the
-    /// bytes up to the one with the fault, or all bytes and then the end.
-    pub calls: [(usize, u64, u64); 3],
+    /// The numbers of fills and takes in pieces of 1, 5 and 64 bytes, for input and output. The fills give the bytes up
+    /// to the one with the fault, or all bytes and then the end.
+    pub calls: [(u64, u64); 3],
 }
 
-/// One black pixel.
-const PIXEL: &[u8] = b"\x1bPq\"1;1;1;1#0;2;0;0;0#0@\x1b\\";
+/// A task that is done.
+pub(crate) fn done(bytes: &'static [u8], text: &'static [u8], calls: [(u64, u64); 3]) -> Case {
+    Case {
+        bytes,
+        text,
+        answer: Ok(Status::Done),
+        calls,
+    }
+}
+
+/// A task that is refused, and writes nothing.
+pub(crate) fn refused(bytes: &'static [u8], fault: RunFault, fills: [u64; 3]) -> Case {
+    Case {
+        bytes,
+        text: b"",
+        answer: Err(fault),
+        calls: [(fills[0], 0), (fills[1], 0), (fills[2], 0)],
+    }
+}
+
+/// One black pixel: 26 bytes.
+pub(crate) const PIXEL: &[u8] = b"\x1bPq\"1;1;1;1#0;2;0;0;0#0@\x1b\\";
+
+/// The lines of that pixel. In pieces of 5 bytes they leave as 15, 17, 43 and 12 bytes.
+const LINES: &[u8] =
+    b"0 start 7bit 0\n3 raster 1 1 1 1\n11 define 0 2 0 0 0\n21 select 0\n23 sixel 1\n24 end 7bit\n";
+
+/// The PPM of that pixel.
+const BLACK: &[u8] = b"P6\n1 1\n100\n\x00\x00\x00";
 
 /// A number that is too large, at its fifth digit.
 const LARGE: &[u8] = b"\x1bPq!65536~";
@@ -34,39 +61,34 @@ const TOO_LARGE: RunFault = RunFault::Grammar(Fault {
     place: 8,
 });
 
-/// One pixel, listed. In pieces of 5 bytes the lines leave as 15, 17, 43 and 12 bytes.
-const LISTED: Case = Case {
-    bytes: PIXEL,
-    text: b"0 start 7bit 0\n3 raster 1 1 1 1\n11 define 0 2 0 0 0\n21 select 0\n23 sixel 1\n24 end 7bit\n",
-    answer: Ok(Status::Done),
-    calls: [(1, 27, 87), (5, 7, 19), (64, 2, 2)],
-};
+/// A fault, of which nothing is written: no verdict, no picture, no screen.
+pub(crate) fn fault() -> Case {
+    refused(LARGE, TOO_LARGE, [9, 2, 1])
+}
 
-/// A fault after a line.
-const LISTED_FAULT: Case = Case {
-    bytes: LARGE,
-    text: b"0 start 7bit 0\n",
-    answer: Err(TOO_LARGE),
-    calls: [(1, 9, 15), (5, 2, 3), (64, 1, 1)],
-};
+/// One pixel, and a fault after a line.
+fn list_cases() -> [Case; 2] {
+    let fault_after_a_line = Case {
+        text: b"0 start 7bit 0\n",
+        calls: [(9, 15), (2, 3), (1, 1)],
+        ..fault()
+    };
+    [
+        done(PIXEL, LINES, [(27, 87), (7, 19), (2, 2)]),
+        fault_after_a_line,
+    ]
+}
 
 /// One pixel, checked.
-pub(crate) const CHECKED: Case = Case {
-    bytes: PIXEL,
-    text: b"portable 1 1\n",
-    answer: Ok(Status::Done),
-    calls: [(1, 27, 13), (5, 7, 3), (64, 2, 1)],
-};
+pub(crate) fn checked() -> Case {
+    done(PIXEL, b"portable 1 1\n", [(27, 13), (7, 3), (2, 1)])
+}
 
-/// Two letters, checked: 90 bytes.
-const LETTERS: Case = Case {
-    bytes: b"\x1bPq\"1;1;14;7#0;2;0;0;0#1;2;100;100;0#2;2;0;100;0#1~~@@vv@@~~@@~~$#2??}}GG}}??}}??-#1!14@\x1b\\",
-    text: b"portable 14 7\n",
-    answer: Ok(Status::Done),
-    calls: [(1, 91, 14), (5, 19, 3), (64, 3, 1)],
-};
+/// Two letters: 90 bytes.
+const LETTERS: &[u8] =
+    b"\x1bPq\"1;1;14;7#0;2;0;0;0#1;2;100;100;0#2;2;0;100;0#1~~@@vv@@~~@@~~$#2??}}GG}}??}}??-#1!14@\x1b\\";
 
-/// A box of two pixels, one of them painted, checked.
+/// A box of two pixels, one of them painted.
 const UNCOVERED: Case = Case {
     bytes: b"\x1bPq\"1;1;2;1#0;2;0;0;0#0@\x1b\\",
     text: b"broken Uncovered 24 1 0\n",
@@ -75,51 +97,35 @@ const UNCOVERED: Case = Case {
         place: 24,
         pixel: Some((1, 0)),
     })),
-    calls: [(1, 27, 24), (5, 7, 5), (64, 2, 1)],
+    calls: [(27, 24), (7, 5), (2, 1)],
 };
 
-/// A fault, of which nothing is written: no verdict, no picture, no screen.
-pub(crate) const FAULT: Case = Case {
-    bytes: LARGE,
-    text: b"",
-    answer: Err(TOO_LARGE),
-    calls: [(1, 9, 0), (5, 2, 0), (64, 1, 0)],
-};
+/// One pixel, rendered, or shown on a screen of its box.
+fn rendered() -> Case {
+    done(PIXEL, BLACK, [(27, 14), (7, 3), (2, 1)])
+}
 
-/// One pixel, rendered, or shown on a screen of its box: 26 bytes.
-const RENDERED: Case = Case {
-    bytes: PIXEL,
-    text: b"P6\n1 1\n100\n\x00\x00\x00",
-    answer: Ok(Status::Done),
-    calls: [(1, 27, 14), (5, 7, 3), (64, 2, 1)],
-};
+/// Three red pixels, in the wide profile as in the narrow one: 20 bytes.
+fn short_red() -> Case {
+    let text = b"\x1bP0;1q\"1;1;3;1#0;2;100;0;0#0@@@\x1b\\";
+    done(
+        b"P6 3 1 100\nd\0\0d\0\0d\0\0",
+        text,
+        [(21, 33), (5, 7), (2, 1)],
+    )
+}
 
-/// Five red pixels, encoded: 26 bytes.
-const RED: Case = Case {
-    bytes: b"P6 5 1 100\nd\0\0d\0\0d\0\0d\0\0d\0\0",
-    text: b"\x1bP0;1q\"1;1;5;1#0;2;100;0;0#0!5@\x1b\\",
-    answer: Ok(Status::Done),
-    calls: [(1, 27, 33), (5, 7, 7), (64, 2, 1)],
-};
-
-/// Three red pixels, encoded, in the wide profile as in the narrow one: 20 bytes.
-const SHORT_RED: Case = Case {
-    bytes: b"P6 3 1 100\nd\0\0d\0\0d\0\0",
-    text: b"\x1bP0;1q\"1;1;3;1#0;2;100;0;0#0@@@\x1b\\",
-    answer: Ok(Status::Done),
-    calls: [(1, 21, 33), (5, 5, 7), (64, 2, 1)],
-};
-
-/// A file of another kind: its second byte is wrong.
-const ENCODED_FAULT: Case = Case {
-    bytes: b"P5 1 1 100",
-    text: b"",
-    answer: Err(RunFault::Ppm {
-        reason: PpmReason::Header,
-        place: 1,
-    }),
-    calls: [(1, 2, 0), (5, 1, 0), (64, 1, 0)],
-};
+/// Five red pixels of 26 bytes, three, and a file of another kind: its second byte is wrong.
+fn encode_cases() -> [Case; 3] {
+    let five = b"P6 5 1 100\nd\0\0d\0\0d\0\0d\0\0d\0\0";
+    let text = b"\x1bP0;1q\"1;1;5;1#0;2;100;0;0#0!5@\x1b\\";
+    let (reason, place) = (PpmReason::Header, 1);
+    [
+        done(five, text, [(27, 33), (7, 7), (2, 1)]),
+        short_red(),
+        refused(b"P5 1 1 100", RunFault::Ppm { reason, place }, [2, 1, 1]),
+    ]
+}
 
 /// A screen of one pixel.
 const SCREEN: Task = Task::Show {
@@ -131,50 +137,27 @@ const SCREEN: Task = Task::Show {
     height: 1,
 };
 
-/// A register that is painted as black and then defined as red, shown: 38 bytes.
-const SHOWN: Case = Case {
-    bytes: b"\x1bPq\"1;1;1;1#0;2;0;0;0#0@#0;2;100;0;0\x1b\\",
-    text: b"P6\n1 1\n100\n\x00\x00\x00",
-    answer: Ok(Status::Done),
-    calls: [(1, 39, 14), (5, 9, 3), (64, 2, 1)],
-};
+/// A register that is painted as black and then defined as red: 38 bytes.
+const REDEFINED: &[u8] = b"\x1bPq\"1;1;1;1#0;2;0;0;0#0@#0;2;100;0;0\x1b\\";
 
 /// A column painted in register 1, the grey of 6 percent, and then the box: 19 bytes.
-const BOXED_LATE: Case = Case {
-    bytes: b"\x1bPq#1@\"1;1;1;1#2@\x1b\\",
-    text: b"P6\n1 1\n100\n\x06\x06\x06",
-    answer: Ok(Status::Done),
-    calls: [(1, 20, 14), (5, 5, 3), (64, 2, 1)],
-};
+const BOXED_LATE: &[u8] = b"\x1bPq#1@\"1;1;1;1#2@\x1b\\";
 
-/// A document of 5 bytes without a box: no screen.
-const UNBOXED: Case = Case {
-    bytes: b"\x1bPq\x1b\\",
-    text: b"",
-    answer: Err(RunFault::NoBox),
-    calls: [(1, 6, 0), (5, 2, 0), (64, 2, 0)],
-};
+/// The third case has 5 bytes without a box: no screen.
+fn box_cases() -> [Case; 4] {
+    let grey = b"P6\n1 1\n100\n\x06\x06\x06";
+    [
+        rendered(),
+        done(BOXED_LATE, grey, [(20, 14), (5, 3), (2, 1)]),
+        refused(b"\x1bPq\x1b\\", RunFault::NoBox, [6, 2, 2]),
+        fault(),
+    ]
+}
 
 /// One black pixel in register 16: 28 bytes.
 const WIDE_PIXEL: &[u8] = b"\x1bPq\"1;1;1;1#16;2;0;0;0#16@\x1b\\";
 
-/// That pixel, checked in the wide profile.
-const WIDE_CHECKED: Case = Case {
-    bytes: WIDE_PIXEL,
-    text: b"portable 1 1\n",
-    answer: Ok(Status::Done),
-    calls: [(1, 29, 13), (5, 7, 3), (64, 2, 1)],
-};
-
-/// The same, rendered.
-const WIDE_RENDERED: Case = Case {
-    bytes: WIDE_PIXEL,
-    text: b"P6\n1 1\n100\n\x00\x00\x00",
-    answer: Ok(Status::Done),
-    calls: [(1, 29, 14), (5, 7, 3), (64, 2, 1)],
-};
-
-/// The same for the wide profile.
+/// A screen of one pixel for the wide profile.
 const WIDE_SCREEN: Task = Task::Show {
     profile: Profile::Registers256,
     showing: false,
@@ -182,14 +165,6 @@ const WIDE_SCREEN: Task = Task::Show {
     selects: false,
     width: 1,
     height: 1,
-};
-
-/// A register that shows its starting colour: 9 bytes.
-const WIDE_SHOWN: Case = Case {
-    bytes: b"\x1bPq#17@\x1b\\",
-    text: b"P6\n1 1\n100\n\x11\x11\x11",
-    answer: Ok(Status::Done),
-    calls: [(1, 10, 14), (5, 3, 3), (64, 2, 1)],
 };
 
 /// Runs the task of the case on its bytes, in and out in pieces. Fill number `fill_fails` fails, and take or flush
@@ -223,7 +198,7 @@ fn lines_of(given: usize) -> &'static [u8] {
         22..=23 => b"0 start 7bit 0\n3 raster 1 1 1 1\n11 define 0 2 0 0 0\n",
         24..=25 =>
             b"0 start 7bit 0\n3 raster 1 1 1 1\n11 define 0 2 0 0 0\n21 select 0\n23 sixel 1\n",
-        _ => LISTED.text,
+        _ => LINES,
     }
 }
 
@@ -281,16 +256,8 @@ fn is_whole(alloc: Global, task: &Task, case: &Case, piece: usize, fills: u64, t
     requires { HasSides task.now }
 {
     let mut room = [0; 128];
-    let never = takes.saturating_add(1);
-    let ran = run_in_pieces(
-        alloc,
-        task,
-        case,
-        piece,
-        Some(fills),
-        Some(never),
-        &mut room,
-    );
+    let (fill, take) = (Some(fills), Some(takes.saturating_add(1)));
+    let ran = run_in_pieces(alloc, task, case, piece, fill, take, &mut room);
     ran.answer == case.answer
         && room.get(..ran.written) == Some(case.text)
         && ran.source.fills == fills
@@ -299,16 +266,10 @@ fn is_whole(alloc: Global, task: &Task, case: &Case, piece: usize, fills: u64, t
 }
 
 /// Each call of each device fails in turn, in pieces of this size.
-fn stops_in_pieces(
-    alloc: Global,
-    task: &Task,
-    case: &Case,
-    piece: usize,
-    fills: u64,
-    takes: u64,
-) -> bool
+fn stops_in_pieces(alloc: Global, task: &Task, case: &Case, piece: usize, calls: (u64, u64)) -> bool
     requires { HasSides task.now }
 {
+    let (fills, takes) = calls;
     for fill in 0..fills {
         if !stops_at_fill(alloc, task, case, piece, fill) {
             return false;
@@ -352,17 +313,15 @@ fn stops_at_both(alloc: Global, task: &Task, case: &Case) -> bool
 pub(crate) fn stops(alloc: Global, task: &Task, case: &Case) -> bool
     requires { HasSides task.now }
 {
-    for (piece, fills, takes) in case.calls {
-        if !stops_in_pieces(alloc, task, case, piece, fills, takes) {
-            return false;
-        }
-    }
     for count in 0..case.text.len() {
         if !fills_room(alloc, task, case, count) {
             return false;
         }
     }
-    stops_at_both(alloc, task, case)
+    stops_in_pieces(alloc, task, case, 1, case.calls[0])
+        && stops_in_pieces(alloc, task, case, 5, case.calls[1])
+        && stops_in_pieces(alloc, task, case, 64, case.calls[2])
+        && stops_at_both(alloc, task, case)
 }
 
 /// The same of the task on the bytes of each case.
@@ -380,19 +339,26 @@ pub(crate) fn all_stop(alloc: Global, task: &Task, cases: &[Case]) -> bool
 #[test]
 fn each_call_of_a_device_fails(rt: HostRuntime) {
     let alloc = rt.alloc();
-    assert!(rt; all_stop(alloc, &Task::List, &[LISTED, LISTED_FAULT]));
-    assert!(rt; all_stop(alloc, &CHECK, &[CHECKED, LETTERS, UNCOVERED, FAULT]));
-    assert!(rt; all_stop(alloc, &RENDER, &[RENDERED, FAULT]));
-    assert!(rt; all_stop(alloc, &ENCODE, &[RED, SHORT_RED, ENCODED_FAULT]));
-    assert!(rt; all_stop(alloc, &SCREEN, &[SHOWN, FAULT]));
-    assert!(rt; all_stop(alloc, &SHOW_BOX, &[RENDERED, BOXED_LATE, UNBOXED, FAULT]));
+    assert!(rt; all_stop(alloc, &Task::List, &list_cases()));
+    let letters = done(LETTERS, b"portable 14 7\n", [(91, 14), (19, 3), (3, 1)]);
+    assert!(rt; all_stop(alloc, &CHECK, &[checked(), letters, UNCOVERED, fault()]));
+    assert!(rt; all_stop(alloc, &RENDER, &[rendered(), fault()]));
+    assert!(rt; all_stop(alloc, &ENCODE, &encode_cases()));
+    let redefined = done(REDEFINED, BLACK, [(39, 14), (9, 3), (2, 1)]);
+    assert!(rt; all_stop(alloc, &SCREEN, &[redefined, fault()]));
+    assert!(rt; all_stop(alloc, &SHOW_BOX, &box_cases()));
 }
 
+/// The screen shows the starting colour of a register: 9 bytes in.
 #[test]
 fn each_call_of_a_device_fails_in_the_wide_profile(rt: HostRuntime) {
     let alloc = rt.alloc();
-    assert!(rt; stops(alloc, &WIDE_CHECK, &WIDE_CHECKED));
-    assert!(rt; stops(alloc, &WIDE_RENDER, &WIDE_RENDERED));
-    assert!(rt; stops(alloc, &WIDE_SCREEN, &WIDE_SHOWN));
-    assert!(rt; stops(alloc, &WIDE_ENCODE, &SHORT_RED));
+    let checked = done(WIDE_PIXEL, b"portable 1 1\n", [(29, 13), (7, 3), (2, 1)]);
+    assert!(rt; stops(alloc, &WIDE_CHECK, &checked));
+    let rendered = done(WIDE_PIXEL, BLACK, [(29, 14), (7, 3), (2, 1)]);
+    assert!(rt; stops(alloc, &WIDE_RENDER, &rendered));
+    let grey = b"P6\n1 1\n100\n\x11\x11\x11";
+    let shown = done(b"\x1bPq#17@\x1b\\", grey, [(10, 14), (3, 3), (2, 1)]);
+    assert!(rt; stops(alloc, &WIDE_SCREEN, &shown));
+    assert!(rt; stops(alloc, &WIDE_ENCODE, &short_red()));
 }

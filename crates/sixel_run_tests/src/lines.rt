@@ -34,24 +34,36 @@ fn finds(finding: &Finding, line: &str) -> bool {
     finding_line(finding).as_slice() == line.as_bytes()
 }
 
+/// The derived text of a fault is the variant's name. The program never prints it.
 #[test]
-fn writes_the_line_of_each_fault(rt: HostRuntime) {
+fn writes_the_line_of_each_fault(rt: HostRuntime) -> Result<(), Fail> {
     let rows = [
-        (GRAMMAR, "sixel: NumberTooLarge at 268435456\n"),
-        (PPM, "sixel: TooManyColours at 60\n"),
-        (RunFault::NotRgb, "sixel: NotRgb\n"),
-        (RunFault::NoBox, "sixel: NoBox\n"),
-        (RunFault::NoString, "sixel: NoString\n"),
-        (RunFault::Empty, "sixel: Empty\n"),
-        (RunFault::TooLarge, "sixel: TooLarge\n"),
-        (RunFault::TooManyColours, "sixel: TooManyColours\n"),
-        (RunFault::OutOfMemory, "sixel: out of memory\n"),
-        (RunFault::Read, "sixel: read failed\n"),
-        (RunFault::Write, "sixel: write failed\n"),
+        (GRAMMAR, "Grammar", "sixel: NumberTooLarge at 268435456\n"),
+        (PPM, "Ppm", "sixel: TooManyColours at 60\n"),
+        (RunFault::NotRgb, "NotRgb", "sixel: NotRgb\n"),
+        (RunFault::NoBox, "NoBox", "sixel: NoBox\n"),
+        (RunFault::NoString, "NoString", "sixel: NoString\n"),
+        (RunFault::Empty, "Empty", "sixel: Empty\n"),
+        (RunFault::TooLarge, "TooLarge", "sixel: TooLarge\n"),
+        (
+            RunFault::TooManyColours,
+            "TooManyColours",
+            "sixel: TooManyColours\n",
+        ),
+        (
+            RunFault::OutOfMemory,
+            "OutOfMemory",
+            "sixel: out of memory\n",
+        ),
+        (RunFault::Read, "Read", "sixel: read failed\n"),
+        (RunFault::Write, "Write", "sixel: write failed\n"),
     ];
-    for (fault, line) in rows {
+    for (fault, name, line) in rows {
         assert!(rt; says(fault, line), "{line}");
+        let text = format!(in rt.alloc(); "{fault}")?;
+        assert!(rt; text.as_str() == name);
     }
+    Ok(())
 }
 
 #[test]
@@ -114,27 +126,4 @@ fn writes_the_line_of_a_finding(rt: HostRuntime) {
     for (rule, place, pixel, line) in rows {
         assert!(rt; finds(&Finding { rule, place, pixel }, line), "{line}");
     }
-}
-
-/// The derived text is the variant's name. The program never prints it.
-#[test]
-fn derives_the_name_of_each_fault(rt: HostRuntime) -> Result<(), Fail> {
-    let rows = [
-        (GRAMMAR, "Grammar"),
-        (PPM, "Ppm"),
-        (RunFault::NotRgb, "NotRgb"),
-        (RunFault::NoBox, "NoBox"),
-        (RunFault::NoString, "NoString"),
-        (RunFault::Empty, "Empty"),
-        (RunFault::TooLarge, "TooLarge"),
-        (RunFault::TooManyColours, "TooManyColours"),
-        (RunFault::OutOfMemory, "OutOfMemory"),
-        (RunFault::Read, "Read"),
-        (RunFault::Write, "Write"),
-    ];
-    for (fault, name) in rows {
-        let text = format!(in rt.alloc(); "{fault}")?;
-        assert!(rt; text.as_str() == name);
-    }
-    Ok(())
 }

@@ -96,10 +96,8 @@ fn returns(alloc: Global, profile: Profile, width: u32, height: u32) -> Result<b
 fn encoded_pictures_come_back(rt: HostRuntime) -> Result<(), Fail> {
     for width in 1..=70 {
         for profile in [Profile::Registers16, Profile::Registers256] {
-            assert!(rt;
-                returns(rt.alloc(), profile, width, width % 13 + 1)?,
-                "{width}"
-            );
+            let height = width % 13 + 1;
+            assert!(rt; returns(rt.alloc(), profile, width, height)?, "{width}");
         }
     }
     Ok(())

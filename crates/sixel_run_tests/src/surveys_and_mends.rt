@@ -1,15 +1,16 @@
 //! For `survey` and `mend`, each call of a device fails in turn; and the calls of whole runs are counted.
 
-use crate::in_turn::{CHECKED, Case, FAULT, all_stop};
+use crate::in_turn::{Case, PIXEL, all_stop, checked, done, fault, refused};
 use crate::runs::{SURVEY, agrees, mend_on_black};
 use sixel_check::{Finding, Rule};
 use sixel_model::Profile;
 use sixel_run::{RunFault, Status, entry_line};
 use sixel_survey::Entry;
+use sixel_test_devices::filled;
 use std::alloc::Global;
 use std::test::Fail;
 
-/// Three broken rules, surveyed: 15 bytes in, 46 out.
+/// Three broken rules: 15 bytes in, 46 out.
 const THREE: Case = Case {
     bytes: b"\x1bPq!0@!65535~\x1b\\",
     text: b"RasterFirst 3 3\nRepeatZero 1 3\nUnselected 2 3\n",
@@ -18,50 +19,45 @@ const THREE: Case = Case {
         place: 3,
         pixel: None,
     })),
-    calls: [(1, 16, 46), (5, 4, 10), (64, 2, 1)],
+    calls: [(16, 46), (4, 10), (2, 1)],
 };
 
 /// The survey of one pixel is the line of a check.
 #[test]
 fn each_call_of_a_device_fails_in_a_survey(rt: HostRuntime) {
-    assert!(rt; all_stop(rt.alloc(), &SURVEY, &[CHECKED, THREE, FAULT]));
+    assert!(rt; all_stop(rt.alloc(), &SURVEY, &[checked(), THREE, fault()]));
 }
 
-/// One pixel, mended: 26 bytes in, 29 out.
-const MENDED: Case = Case {
-    text: b"\x1bP0;1q\"1;1;1;1#0;2;0;0;0#0@\x1b\\",
-    calls: [(1, 27, 29), (5, 7, 6), (64, 2, 1)],
-    ..CHECKED
-};
+/// One pixel, mended: 29 bytes.
+const MENDED: &[u8] = b"\x1bP0;1q\"1;1;1;1#0;2;0;0;0#0@\x1b\\";
 
-/// Nothing painted and nothing declared: 5 bytes in, and nothing out.
-const EMPTY: Case = Case {
-    bytes: b"\x1bPq\x1b\\",
-    text: b"",
-    answer: Err(RunFault::Empty),
-    calls: [(1, 6, 0), (5, 2, 0), (64, 2, 0)],
-};
+/// One pixel; then 5 bytes of which nothing is painted and nothing declared, and nothing comes out.
+fn mend_cases() -> [Case; 3] {
+    [
+        done(PIXEL, MENDED, [(27, 29), (7, 6), (2, 1)]),
+        refused(b"\x1bPq\x1b\\", RunFault::Empty, [6, 2, 2]),
+        fault(),
+    ]
+}
 
 /// Nothing is read after a fault.
 #[test]
 fn each_call_of_a_device_fails_in_a_mend(rt: HostRuntime) {
     let task = mend_on_black(Profile::Registers16);
-    assert!(rt; all_stop(rt.alloc(), &task, &[MENDED, EMPTY, FAULT]));
+    assert!(rt; all_stop(rt.alloc(), &task, &mend_cases()));
 }
 
 /// Whether the text is mended as a black pixel, in pieces of at most so many bytes.
 fn is_mended(alloc: Global, text: &[u8], piece: usize) -> bool {
     let task = mend_on_black(Profile::Registers16);
-    agrees(alloc, task, text, piece, MENDED.text, Ok(Status::Done))
+    agrees(alloc, task, text, piece, MENDED, Ok(Status::Done))
 }
 
 /// A long text, in many pieces, is mended as a short one: there is memory for it.
 #[test]
 fn a_long_text_is_mended(rt: HostRuntime) -> Result<(), Fail> {
-    let mut text = Vec::new(rt.alloc());
-    text.extend_from_slice(b"\x1bPq\"1;1;1;1#0;2;0;0;0#0@")?;
-    text.resize(1_000_000, b'$')?;
-    text.extend_from_slice(b"\x1b\\")?;
+    let pixel = b"\x1bPq\"1;1;1;1#0;2;0;0;0#0@";
+    let text = filled(rt.alloc(), pixel, b"$", 999_976, b"\x1b\\")?;
     assert!(rt; is_mended(rt.alloc(), &text, 1_000));
     assert!(rt; is_mended(rt.alloc(), &text, 65_536));
     assert!(rt; is_mended(rt.alloc(), &text, 2_000_000));

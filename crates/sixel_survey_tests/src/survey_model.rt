@@ -151,33 +151,21 @@ impl Model {
     }
 
     fn redefines(&self, event: &Event) -> bool {
-        match event {
-            Event::Step(
-                Command::Define {
-                    register,
-                    system,
-                    x,
-                    y,
-                    z,
-                },
-            ) => {
-                let other = Definition {
-                    system: *system,
-                    x: *x,
-                    y: *y,
-                    z: *z,
-                };
-                match self.definition(*register) {
-                    Some(definition) => {
-                        *register < self.profile.count()
-                            && self.is_painted_in(*register)
-                            && definition != other
-                    }
-                    None => false,
-                }
-            }
-            _ => false,
-        }
+        let Event::Step(
+            Command::Define {
+                register,
+                system,
+                x,
+                y,
+                z,
+            },
+        ) = *event
+        else {
+            return false;
+        };
+        let other = Definition { system, x, y, z };
+        let is_other = self.definition(register).is_some_and(|last| last != other);
+        is_other && register < self.profile.count() && self.is_painted_in(register)
     }
 
     /// Whether a rule that looks at no pixel counts at the event.

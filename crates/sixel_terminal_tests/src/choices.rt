@@ -1,6 +1,7 @@
 //! How each choice of a terminal changes what it shows.
 
 use crate::fixtures::{BLACK, RED, REDEFINED, WHITE, grey, is_shown, plain_choices};
+use sixel_model::Parts;
 use sixel_terminal::{Choices, Ground};
 use std::test::Fail;
 
@@ -36,23 +37,20 @@ fn terminals_show_what_they_choose(rt: HostRuntime) -> Result<(), Fail> {
         ..one
     };
     let none = Choices { zero: 0, ..one };
-    for (choices, text, expected) in [
-        (one, REDEFINED, [BLACK].as_slice()),
-        (showing, REDEFINED, [RED].as_slice()),
-        (two, HALF, [BLACK, WHITE].as_slice()),
-        (filled, HALF, [BLACK, BLACK].as_slice()),
-        (one, UNSELECTED, [BLACK].as_slice()),
-        (selects, UNSELECTED, [RED].as_slice()),
-        (
-            tall,
-            b"\x1bPq@\x1b\\".as_slice(),
-            [BLACK, BLACK, WHITE].as_slice(),
-        ),
-        (one, OUT_OF_RANGE, [RED].as_slice()),
-        (unclamped, OUT_OF_RANGE, [grey(6)].as_slice()),
-        (one, NONE_REPEATED, [BLACK].as_slice()),
-        (none, NONE_REPEATED, [WHITE].as_slice()),
-    ] {
+    let rows: [(Choices, &[u8], &[Parts]); 11] = [
+        (one, REDEFINED, &[BLACK]),
+        (showing, REDEFINED, &[RED]),
+        (two, HALF, &[BLACK, WHITE]),
+        (filled, HALF, &[BLACK, BLACK]),
+        (one, UNSELECTED, &[BLACK]),
+        (selects, UNSELECTED, &[RED]),
+        (tall, b"\x1bPq@\x1b\\", &[BLACK, BLACK, WHITE]),
+        (one, OUT_OF_RANGE, &[RED]),
+        (unclamped, OUT_OF_RANGE, &[grey(6)]),
+        (one, NONE_REPEATED, &[BLACK]),
+        (none, NONE_REPEATED, &[WHITE]),
+    ];
+    for (choices, text, expected) in rows {
         assert!(rt;
             is_shown(rt.alloc(), choices, 16, text, expected)?,
             "{text:?}"

@@ -64,38 +64,26 @@ const BOX_AFTER: &[u8] = b"\x1bPq!2@$\"1;1;1;1#1!2@\x1b\\";
 #[test]
 fn the_first_box_before_clips(rt: HostRuntime) -> Result<(), Fail> {
     let two = plain_choices(2, 1);
-    for (text, clipped) in [
+    let rows: [(&[u8], [Parts; 2]); 6] = [
         // No raster attributes.
-        (b"\x1bPq!2@\x1b\\".as_slice(), [BLACK, BLACK]),
+        (b"\x1bPq!2@\x1b\\", [BLACK, BLACK]),
         // They come after the data.
-        (b"\x1bPq!2@\"1;1;1;1\x1b\\".as_slice(), [BLACK, BLACK]),
+        (b"\x1bPq!2@\"1;1;1;1\x1b\\", [BLACK, BLACK]),
         // A box of 1 by 1 and then one of 2 by 1, and the other way round.
-        (
-            b"\x1bPq\"1;1;1;1\"1;1;2;1!2@\x1b\\".as_slice(),
-            [BLACK, WHITE],
-        ),
-        (
-            b"\x1bPq\"1;1;2;1\"1;1;1;1!2@\x1b\\".as_slice(),
-            [BLACK, BLACK],
-        ),
+        (b"\x1bPq\"1;1;1;1\"1;1;2;1!2@\x1b\\", [BLACK, WHITE]),
+        (b"\x1bPq\"1;1;2;1\"1;1;1;1!2@\x1b\\", [BLACK, BLACK]),
         // Missing sides are 0, so nothing lies in the box.
-        (b"\x1bPq\"1;1!2@\x1b\\".as_slice(), [WHITE, WHITE]),
-        (b"\x1bPq\"1;1;2!2@\x1b\\".as_slice(), [WHITE, WHITE]),
-    ] {
+        (b"\x1bPq\"1;1!2@\x1b\\", [WHITE, WHITE]),
+        (b"\x1bPq\"1;1;2!2@\x1b\\", [WHITE, WHITE]),
+    ];
+    for (text, clipped) in rows {
         assert!(rt;
             is_clipped(rt.alloc(), two, text, &[BLACK, BLACK], &clipped)?,
             "{text:?}"
         );
     }
-    assert!(rt;
-        is_clipped(
-            rt.alloc(),
-            two,
-            BOX_AFTER,
-            &[grey(6), grey(6)],
-            &[grey(6), BLACK]
-        )?
-    );
+    let (whole, clipped) = ([grey(6), grey(6)], [grey(6), BLACK]);
+    assert!(rt; is_clipped(rt.alloc(), two, BOX_AFTER, &whole, &clipped)?);
     Ok(())
 }
 
@@ -146,16 +134,14 @@ fn the_box_begins_at_the_origin(rt: HostRuntime) -> Result<(), Fail> {
         origin_y: 1,
         ..plain_choices(3, 3)
     };
-    for (text, clipped) in [
-        (b"\x1bPq\"1;1;1;1#1!2~\x1b\\".as_slice(), [4].as_slice()),
-        (b"\x1bPq\"1;1;2;1#1!2~\x1b\\".as_slice(), [4, 5].as_slice()),
-        (b"\x1bPq\"1;1;1;2#1!2~\x1b\\".as_slice(), [4, 7].as_slice()),
+    let rows: [(&[u8], &[usize]); 4] = [
+        (b"\x1bPq\"1;1;1;1#1!2~\x1b\\", &[4]),
+        (b"\x1bPq\"1;1;2;1#1!2~\x1b\\", &[4, 5]),
+        (b"\x1bPq\"1;1;1;2#1!2~\x1b\\", &[4, 7]),
         // The box goes past the screen.
-        (
-            b"\x1bPq\"1;1;9;9#1!2~\x1b\\".as_slice(),
-            [4, 5, 7, 8].as_slice(),
-        ),
-    ] {
+        (b"\x1bPq\"1;1;9;9#1!2~\x1b\\", &[4, 5, 7, 8]),
+    ];
+    for (text, clipped) in rows {
         let whole = [4, 5, 7, 8].as_slice();
         assert!(rt;
             is_clipped_to(rt.alloc(), middle, text, whole, clipped)?,
@@ -168,32 +154,17 @@ fn the_box_begins_at_the_origin(rt: HostRuntime) -> Result<(), Fail> {
 /// A run is cut at the right side of the box or of the screen, whichever comes first.
 #[test]
 fn runs_are_cut_at_the_right(rt: HostRuntime) -> Result<(), Fail> {
-    for (text, whole, clipped) in [
+    let rows: [(&[u8], &[usize], &[usize]); 4] = [
         // It crosses both.
-        (
-            b"\x1bPq\"1;1;2;1#1?!9@\x1b\\".as_slice(),
-            [1, 2, 3].as_slice(),
-            [1].as_slice(),
-        ),
+        (b"\x1bPq\"1;1;2;1#1?!9@\x1b\\", &[1, 2, 3], &[1]),
         // The box is wider than the screen.
-        (
-            b"\x1bPq\"1;1;9;1#1??!65535@\x1b\\".as_slice(),
-            [2, 3].as_slice(),
-            [2, 3].as_slice(),
-        ),
+        (b"\x1bPq\"1;1;9;1#1??!65535@\x1b\\", &[2, 3], &[2, 3]),
         // It begins right of the box.
-        (
-            b"\x1bPq\"1;1;2;1#1!3?@\x1b\\".as_slice(),
-            [3].as_slice(),
-            [].as_slice(),
-        ),
+        (b"\x1bPq\"1;1;2;1#1!3?@\x1b\\", &[3], &[]),
         // It begins at the box's side.
-        (
-            b"\x1bPq\"1;1;2;1#1@?@@\x1b\\".as_slice(),
-            [0, 2, 3].as_slice(),
-            [0].as_slice(),
-        ),
-    ] {
+        (b"\x1bPq\"1;1;2;1#1@?@@\x1b\\", &[0, 2, 3], &[0]),
+    ];
+    for (text, whole, clipped) in rows {
         assert!(rt;
             is_clipped_to(rt.alloc(), plain_choices(4, 1), text, whole, clipped)?,
             "{text:?}"
@@ -208,31 +179,22 @@ const TALL: &[u8] = b"\x1bPq\"2;2;1;3#1B\x1b\\";
 /// The box counts pixels of the screen, so it can cut through a sixel pixel that is two of them high.
 #[test]
 fn tall_sixel_pixels_are_cut_in_the_middle(rt: HostRuntime) -> Result<(), Fail> {
-    for (height, text, whole, clipped) in [
+    let rows: [(u32, &[u8], &[usize], &[usize]); 4] = [
         // The bits of `B` are rows 0 and 1, and rows 2 and 3. The box ends below row 2.
-        (5, TALL, [0, 1, 2, 3].as_slice(), [0, 1, 2].as_slice()),
+        (5, TALL, &[0, 1, 2, 3], &[0, 1, 2]),
         // The latest ratio sets the height, and the first box the sides.
         (
             5,
-            b"\x1bPq\"1;1;1;3\"2;2;1;9#1B\x1b\\".as_slice(),
-            [0, 1, 2, 3].as_slice(),
-            [0, 1, 2].as_slice(),
+            b"\x1bPq\"1;1;1;3\"2;2;1;9#1B\x1b\\",
+            &[0, 1, 2, 3],
+            &[0, 1, 2],
         ),
         // The first bit of the next line is rows 12 and 13.
-        (
-            14,
-            b"\x1bPq\"2;2;1;13#1-@\x1b\\".as_slice(),
-            [12, 13].as_slice(),
-            [12].as_slice(),
-        ),
+        (14, b"\x1bPq\"2;2;1;13#1-@\x1b\\", &[12, 13], &[12]),
         // At 1;1 a line is six rows high.
-        (
-            9,
-            b"\x1bPq\"1;1;1;7#1-B\x1b\\".as_slice(),
-            [6, 7].as_slice(),
-            [6].as_slice(),
-        ),
-    ] {
+        (9, b"\x1bPq\"1;1;1;7#1-B\x1b\\", &[6, 7], &[6]),
+    ];
+    for (height, text, whole, clipped) in rows {
         let choices = Choices {
             tall: 2,
             ..plain_choices(1, height)

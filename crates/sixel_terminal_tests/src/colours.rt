@@ -46,16 +46,17 @@ fn definitions_give_colours_or_none(rt: HostRuntime) -> Result<(), Fail> {
 /// The number of a register is taken modulo the number of registers, which need not be 16.
 #[test]
 fn numbers_of_registers_wrap_at_their_count(rt: HostRuntime) -> Result<(), Fail> {
-    for (registers, text, expected) in [
-        (16, b"\x1bPq#17@\x1b\\".as_slice(), grey(6)),
-        (16, b"\x1bPq#17;2;100;0;0#1@\x1b\\".as_slice(), RED),
-        (17, b"\x1bPq#16@\x1b\\".as_slice(), grey(96)),
-        (17, b"\x1bPq#17@\x1b\\".as_slice(), BLACK),
-        (17, b"\x1bPq#17;2;100;0;0#0@\x1b\\".as_slice(), RED),
-        (256, b"\x1bPq#255@\x1b\\".as_slice(), grey(15)),
-        (256, b"\x1bPq#256@\x1b\\".as_slice(), BLACK),
-        (256, b"\x1bPq#65535@\x1b\\".as_slice(), grey(15)),
-    ] {
+    let rows: [(u16, &[u8], Parts); 8] = [
+        (16, b"\x1bPq#17@\x1b\\", grey(6)),
+        (16, b"\x1bPq#17;2;100;0;0#1@\x1b\\", RED),
+        (17, b"\x1bPq#16@\x1b\\", grey(96)),
+        (17, b"\x1bPq#17@\x1b\\", BLACK),
+        (17, b"\x1bPq#17;2;100;0;0#0@\x1b\\", RED),
+        (256, b"\x1bPq#255@\x1b\\", grey(15)),
+        (256, b"\x1bPq#256@\x1b\\", BLACK),
+        (256, b"\x1bPq#65535@\x1b\\", grey(15)),
+    ];
+    for (registers, text, expected) in rows {
         let one = plain_choices(1, 1);
         assert!(rt;
             is_shown(rt.alloc(), one, registers, text, &[expected])?,

@@ -13,17 +13,14 @@ use std::test::Fail;
 /// The height is that of the latest raster attributes before: 1 where both numbers are 1, else the terminal's.
 #[test]
 fn heights_follow_the_ratio(rt: HostRuntime) -> Result<(), Fail> {
-    for (height, text, black) in [
-        (3, b"\x1bPq\"2;2;1;1@\x1b\\".as_slice(), [0, 1].as_slice()),
-        (3, b"\x1bPq\"0;0;1;1@\x1b\\".as_slice(), [0, 1].as_slice()),
-        (3, b"\x1bPq\"1;1;1;1@\x1b\\".as_slice(), [0].as_slice()),
-        (
-            8,
-            b"\x1bPq@-\"1;1;1;1@\x1b\\".as_slice(),
-            [0, 1, 6].as_slice(),
-        ),
-        (14, b"\x1bPq@-@\x1b\\".as_slice(), [0, 1, 12, 13].as_slice()),
-    ] {
+    let rows: [(u32, &[u8], &[usize]); 5] = [
+        (3, b"\x1bPq\"2;2;1;1@\x1b\\", &[0, 1]),
+        (3, b"\x1bPq\"0;0;1;1@\x1b\\", &[0, 1]),
+        (3, b"\x1bPq\"1;1;1;1@\x1b\\", &[0]),
+        (8, b"\x1bPq@-\"1;1;1;1@\x1b\\", &[0, 1, 6]),
+        (14, b"\x1bPq@-@\x1b\\", &[0, 1, 12, 13]),
+    ];
+    for (height, text, black) in rows {
         let choices = Choices {
             tall: 2,
             ..plain_choices(1, height)
@@ -42,29 +39,14 @@ fn heights_follow_the_ratio(rt: HostRuntime) -> Result<(), Fail> {
 fn the_last_painting_is_shown(rt: HostRuntime) -> Result<(), Fail> {
     let one = plain_choices(1, 1);
     let two = plain_choices(2, 1);
-    for (choices, text, expected) in [
-        (
-            one,
-            b"\x1bPq#1@$#2@\x1b\\".as_slice(),
-            [grey(12)].as_slice(),
-        ),
-        (
-            two,
-            b"\x1bPq#1@#2@\x1b\\".as_slice(),
-            [grey(6), grey(12)].as_slice(),
-        ),
-        (
-            two,
-            b"\x1bPq!65535~\x1b\\".as_slice(),
-            [BLACK, BLACK].as_slice(),
-        ),
-        (
-            two,
-            b"\x1bPq#1@@#2@$?#3@\x1b\\".as_slice(),
-            [grey(6), grey(18)].as_slice(),
-        ),
-        (two, b"\x1bPq\x1b\\".as_slice(), [WHITE, WHITE].as_slice()),
-    ] {
+    let rows: [(Choices, &[u8], &[Parts]); 5] = [
+        (one, b"\x1bPq#1@$#2@\x1b\\", &[grey(12)]),
+        (two, b"\x1bPq#1@#2@\x1b\\", &[grey(6), grey(12)]),
+        (two, b"\x1bPq!65535~\x1b\\", &[BLACK, BLACK]),
+        (two, b"\x1bPq#1@@#2@$?#3@\x1b\\", &[grey(6), grey(18)]),
+        (two, b"\x1bPq\x1b\\", &[WHITE, WHITE]),
+    ];
+    for (choices, text, expected) in rows {
         assert!(rt;
             is_shown(rt.alloc(), choices, 16, text, expected)?,
             "{text:?}"
@@ -104,22 +86,19 @@ fn grounds_are_filled_or_kept(rt: HostRuntime) -> Result<(), Fail> {
     };
     let mut painted = [WHITE; 9];
     painted[4] = grey(6);
-    for (choices, text, expected) in [
-        (one, RASTER_TWICE, [grey(6)].as_slice()),
-        (filled, RASTER_TWICE, [grey(30)].as_slice()),
-        (filled, GROUND_REDEFINED, [grey(30)].as_slice()),
-        (showing, GROUND_REDEFINED, [RED].as_slice()),
+    let rows: [(Choices, &[u8], &[Parts]); 6] = [
+        (one, RASTER_TWICE, &[grey(6)]),
+        (filled, RASTER_TWICE, &[grey(30)]),
+        (filled, GROUND_REDEFINED, &[grey(30)]),
+        (showing, GROUND_REDEFINED, &[RED]),
         (
             small,
-            b"\x1bPq\"1;1;4;4\x1b\\".as_slice(),
-            [WHITE, WHITE, WHITE, grey(30)].as_slice(),
+            b"\x1bPq\"1;1;4;4\x1b\\",
+            &[WHITE, WHITE, WHITE, grey(30)],
         ),
-        (
-            large,
-            b"\x1bPq\"1;1;1;1#1@\x1b\\".as_slice(),
-            painted.as_slice(),
-        ),
-    ] {
+        (large, b"\x1bPq\"1;1;1;1#1@\x1b\\", &painted),
+    ];
+    for (choices, text, expected) in rows {
         assert!(rt;
             is_shown(rt.alloc(), choices, 16, text, expected)?,
             "{text:?}"

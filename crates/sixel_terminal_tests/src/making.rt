@@ -26,80 +26,42 @@ fn refused(
 #[test]
 fn terminals_name_the_first_reason(rt: HostRuntime) -> Result<(), Fail> {
     let plain = plain_choices(2, 2);
+    let selected = Choices {
+        selected: 16,
+        ..plain
+    };
+    let ground = Ground::Filled(16);
+    let selected_and_filled = Choices { ground, ..selected };
+    let filled_and_two = Choices {
+        ground,
+        zero: 2,
+        ..plain
+    };
+    let flat = Choices { tall: 0, ..plain };
+    let two_and_flat = Choices { zero: 2, ..flat };
+    let right = Choices {
+        origin_x: 2,
+        ..plain
+    };
+    let below = Choices {
+        origin_y: 2,
+        ..plain
+    };
     for (choices, registers, pixels, expected) in [
-        (
-            Choices {
-                selected: 16,
-                ..plain
-            },
-            15,
-            4,
-            TerminalReason::Registers,
-        ),
+        (selected, 15, 4, TerminalReason::Registers),
         (plain, 257, 4, TerminalReason::Registers),
-        (
-            Choices {
-                selected: 16,
-                ground: Ground::Filled(16),
-                ..plain
-            },
-            16,
-            4,
-            TerminalReason::Selected,
-        ),
-        (
-            Choices {
-                ground: Ground::Filled(16),
-                zero: 2,
-                ..plain
-            },
-            16,
-            4,
-            TerminalReason::Ground,
-        ),
-        (
-            Choices {
-                zero: 2,
-                tall: 0,
-                ..plain
-            },
-            16,
-            4,
-            TerminalReason::Zero,
-        ),
-        (Choices { tall: 0, ..plain }, 16, 3, TerminalReason::Tall),
-        (
-            Choices {
-                origin_x: 2,
-                ..plain
-            },
-            16,
-            3,
-            TerminalReason::Screen,
-        ),
+        (selected_and_filled, 16, 4, TerminalReason::Selected),
+        (filled_and_two, 16, 4, TerminalReason::Ground),
+        (two_and_flat, 16, 4, TerminalReason::Zero),
+        (flat, 16, 3, TerminalReason::Tall),
+        (right, 16, 3, TerminalReason::Screen),
         (plain, 16, 5, TerminalReason::Screen),
         (plain_choices(0, 2), 16, 0, TerminalReason::Screen),
         (plain_choices(2, 0), 16, 0, TerminalReason::Screen),
         (plain_choices(4097, 1), 16, 4097, TerminalReason::Screen),
         (plain_choices(1, 4097), 16, 4097, TerminalReason::Screen),
-        (
-            Choices {
-                origin_x: 2,
-                ..plain
-            },
-            16,
-            4,
-            TerminalReason::Origin,
-        ),
-        (
-            Choices {
-                origin_y: 2,
-                ..plain
-            },
-            16,
-            4,
-            TerminalReason::Origin,
-        ),
+        (right, 16, 4, TerminalReason::Origin),
+        (below, 16, 4, TerminalReason::Origin),
     ] {
         let reason = refused(rt.alloc(), choices, registers, pixels)?;
         assert_eq!(rt; reason, Some(expected), "{choices:?}, {pixels} pixels");

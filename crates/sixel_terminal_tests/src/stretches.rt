@@ -42,15 +42,8 @@ fn stretches_end_at_the_edges(rt: HostRuntime) -> Result<(), Fail> {
     assert!(rt; shows(rt.alloc(), plain, None, b"A", b"@~~~~", all)?);
     let last = [WHITE, WHITE, BLACK, WHITE, WHITE, WHITE];
     assert!(rt; shows(rt.alloc(), plain, None, b"??", b"@", last)?);
-    let below = shows(
-        rt.alloc(),
-        plain,
-        Some(Command::NextLine),
-        b"A@~~~~",
-        b"~",
-        [WHITE; 6],
-    );
-    assert!(rt; below?);
+    let line = Some(Command::NextLine);
+    assert!(rt; shows(rt.alloc(), plain, line, b"A@~~~~", b"~", [WHITE; 6])?);
     Ok(())
 }
 

@@ -117,7 +117,9 @@ For more information, try '--help'.
         ),
         (
             &[b"sixel", b"show", b"--width", b"\xff"],
-            "usage error: invalid value '\u{fffd}' for '--width <N>': invalid digit found in string
+            "usage error: invalid value '\u{fffd}' for '--width <N>': expected a number from 1 to 4096
+
+Usage: sixel show [OPTIONS] [FILE]
 
 For more information, try '--help'.
 ",

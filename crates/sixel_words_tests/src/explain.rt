@@ -7,81 +7,75 @@ use std::test::Fail;
 #[test]
 fn asks_for_an_explanation(rt: HostRuntime) -> Result<(), Fail> {
     let rows = [
-        ("sixel explain", "explain None"),
-        ("sixel explain Ratio", "explain Some(Rule(Ratio))"),
-        ("sixel explain EightBit", "explain Some(Rule(EightBit))"),
-        ("sixel explain BadByte", "explain Some(Grammar(BadByte))"),
-        ("sixel explain Trailing", "explain Some(Grammar(Trailing))"),
-        ("sixel explain Short", "explain Some(Ppm(Short))"),
-        ("sixel explain NoString", "explain Some(NoString)"),
+        ("sixel explain", "explain []"),
+        ("sixel explain Ratio", "explain [Rule(Ratio)]"),
+        ("sixel explain EightBit", "explain [Rule(EightBit)]"),
+        ("sixel explain BadByte", "explain [Grammar(BadByte)]"),
+        ("sixel explain Trailing", "explain [Grammar(Trailing)]"),
+        ("sixel explain Short", "explain [Ppm(Short)]"),
+        ("sixel explain NoString", "explain [NoString]"),
         (
             "sixel explain log: 30 broken Uncovered 54 1 0",
-            "explain Some(Rule(Uncovered))",
+            "explain [Rule(Uncovered)]",
         ),
         (
             "sixel explain 0 refused Truncated 11",
-            "explain Some(Grammar(Truncated))",
+            "explain [Grammar(Truncated)]",
         ),
-        ("sixel explain OutOfMemory", "explain Some(OutOfMemory)"),
-        ("sixel explain uncovered", "explain Some(Rule(Uncovered))"),
-        ("sixel explain MAXVAL", "explain Some(Ppm(Maxval))"),
+        ("sixel explain OutOfMemory", "explain [OutOfMemory]"),
+        ("sixel explain uncovered", "explain [Rule(Uncovered)]"),
+        ("sixel explain MAXVAL", "explain [Ppm(Maxval)]"),
         (
             "sixel explain tooManyColours",
-            "explain Some(Ppm(TooManyColours))",
+            "explain [Ppm(TooManyColours)]",
         ),
         (
             "sixel explain broken Register 227",
-            "explain Some(Rule(Register))",
+            "explain [Rule(Register)]",
         ),
         (
             "sixel explain hi.six: broken Outside 12 3 4",
-            "explain Some(Rule(Outside))",
+            "explain [Rule(Outside)]",
         ),
         (
             "sixel explain a ratio plot.six: broken Uncovered 24 1 0",
-            "explain Some(Rule(Uncovered))",
+            "explain [Rule(Uncovered)]",
         ),
         (
             "sixel explain sixel: BadByte at 17",
-            "explain Some(Grammar(BadByte))",
+            "explain [Grammar(BadByte)]",
         ),
         (
             "sixel explain sixel: a.six: Truncated at 4",
-            "explain Some(Grammar(Truncated))",
+            "explain [Grammar(Truncated)]",
         ),
-        ("sixel explain sixel: NoBox", "explain Some(NoBox)"),
-        ("sixel explain Empty", "explain Some(Empty)"),
-        (
-            "sixel explain sixel: a.six: TooLarge",
-            "explain Some(TooLarge)",
-        ),
+        ("sixel explain sixel: NoBox", "explain [NoBox]"),
+        ("sixel explain Empty", "explain [Empty]"),
+        ("sixel explain sixel: a.six: TooLarge", "explain [TooLarge]"),
         (
             "sixel explain sixel: TooManyColours",
-            "explain Some(Ppm(TooManyColours))",
+            "explain [Ppm(TooManyColours)]",
         ),
         (
             "sixel explain empty.six: Uncovered 5 30 3 0",
-            "explain Some(Rule(Uncovered))",
+            "explain [Rule(Uncovered)]",
         ),
-        ("sixel explain read failed", "explain Some(Read)"),
-        ("sixel explain sixel: write failed", "explain Some(Write)"),
-        ("sixel explain out of memory", "explain Some(OutOfMemory)"),
+        ("sixel explain read failed", "explain [Read]"),
+        ("sixel explain sixel: write failed", "explain [Write]"),
+        ("sixel explain out of memory", "explain [OutOfMemory]"),
         (
             "sixel explain sixel: Size.six: out of memory",
-            "explain Some(OutOfMemory)",
+            "explain [OutOfMemory]",
         ),
         (
             "sixel explain sixel: size a.six: no such file",
-            "explain Some(Read)",
+            "explain [Read]",
         ),
-        ("sixel explain permission denied", "explain Some(Read)"),
-        (
-            "sixel explain sixel: plots: is a folder",
-            "explain Some(Read)",
-        ),
+        ("sixel explain permission denied", "explain [Read]"),
+        ("sixel explain sixel: plots: is a folder", "explain [Read]"),
         (
             "sixel explain sixel: a: name is not valid UTF-8",
-            "explain Some(Read)",
+            "explain [Read]",
         ),
     ];
     for (line, asked) in rows {
@@ -90,37 +84,75 @@ fn asks_for_an_explanation(rt: HostRuntime) -> Result<(), Fail> {
     Ok(())
 }
 
-/// A misspelled name has a tip, if it is like a name.
+/// Several names are explained in their order, also one that comes again. A line asks for one.
+#[test]
+fn asks_for_several_explanations(rt: HostRuntime) -> Result<(), Fail> {
+    let rows = [
+        (
+            "sixel explain Ratio Uncovered",
+            "explain [Rule(Ratio), Rule(Uncovered)]",
+        ),
+        (
+            "sixel explain uncovered Short RATIO",
+            "explain [Rule(Uncovered), Ppm(Short), Rule(Ratio)]",
+        ),
+        (
+            "sixel explain NoBox Empty NoBox",
+            "explain [NoBox, Empty, NoBox]",
+        ),
+        (
+            "sixel explain Ratio Uncovered: broken BoxSize 3",
+            "explain [Rule(BoxSize)]",
+        ),
+        (
+            "sixel explain Uncovered 5 30 3 0",
+            "explain [Rule(Uncovered)]",
+        ),
+        ("sixel explain Ratio read failed", "explain [Read]"),
+    ];
+    for (line, asked) in rows {
+        assert!(rt; says(&rt, line, asked)?, "{line}");
+    }
+    Ok(())
+}
+
+/// The first word that is no name is said, with a tip if it is like a name.
 #[test]
 fn refuses_unknown_names(rt: HostRuntime) -> Result<(), Fail> {
-    let unknown =
-        "usage error: no rule or refusal has this name; 'sixel explain' lists the names\n\n";
     let usage = "Usage: sixel explain [NAME]...";
-    for (line, similar) in [
-        ("sixel explain Rato", "Ratio"),
-        ("sixel explain uncoverd", "Uncovered"),
-        ("sixel explain ColorValue", "ColourValue"),
-        ("sixel explain tooonlg", "TooLong"),
+    for (line, word, similar) in [
+        ("sixel explain Rato", "Rato", "Ratio"),
+        ("sixel explain uncoverd", "uncoverd", "Uncovered"),
+        ("sixel explain ColorValue", "ColorValue", "ColourValue"),
+        ("sixel explain tooonlg", "tooonlg", "TooLong"),
+        ("sixel explain Ratio: 3", "Ratio:", "Ratio"),
+        ("sixel explain Ratio Rato", "Rato", "Ratio"),
+        ("sixel explain Rato Ratio", "Rato", "Ratio"),
     ] {
         let text = format!(in rt.alloc();
-            "{unknown}  tip: a similar name exists: '{similar}'\n\n{usage}"
+            "usage error: no rule or refusal has the name '{word}'; 'sixel explain' lists the names\n\n  \
+            tip: a similar name exists: '{similar}'\n\n{usage}"
         )?;
         assert!(rt; refuses(&rt, line, text.as_str())?, "{line}");
     }
-    let plain = format!(in rt.alloc(); "{unknown}{usage}")?;
-    for line in [
-        "sixel explain picture",
-        "sixel explain portable 70 46",
-        "sixel explain Ratio: 3",
+    for (line, word) in [
+        ("sixel explain picture", "picture"),
+        ("sixel explain portable 70 46", "portable"),
+        ("sixel explain Ratio plot Uncovered", "plot"),
+        ("sixel explain Ratio  Uncovered", ""),
+        ("sixel explain plot.six Ratio", "plot.six"),
     ] {
-        assert!(rt; refuses(&rt, line, plain.as_str())?, "{line}");
+        let text = format!(in rt.alloc();
+            "usage error: no rule or refusal has the name '{word}'; 'sixel explain' lists the names\n\n{usage}"
+        )?;
+        assert!(rt; refuses(&rt, line, text.as_str())?, "{line}");
     }
     Ok(())
 }
 
 #[test]
 fn shows_the_name_of_explain(rt: HostRuntime) -> Result<(), Fail> {
-    let explain = "help Explains a rule or a refusal by its name, or lists all names
+    let explain = "help Explains rules and refusals by their names, or lists all names
 
 Usage: sixel explain [NAME]...
 
@@ -128,16 +160,19 @@ Arguments:
   [NAME]...  A name such as Uncovered or FieldCount, or a line that contains one
 
 Options:
-  -h, --help  Print help
+  -h, --help     Print help
+  -V, --version  Print version
 
-Reads nothing. Writes to standard output what the rule or the refusal means,
-what breaks it and how to fix it; without NAME, one line for each name. Letters
-may be in any case, and NAME may be a line of check that has broken, or one that
-says why an input was refused; put -- before a line that starts with -.
+Reads nothing. Writes to standard output what each rule or refusal means, what
+breaks it and how to fix it; without NAME, one line for each name. Letters may
+be in any case. In place of names there may be a line of check that has broken,
+or one that says why an input was refused; put -- before a line that starts with
+a dash.
 
 Exit status: 0 done, 2 output failed, 3 usage error or unknown name.
 
 Examples: sixel explain Uncovered
+          sixel explain Ratio BoxSize
           sixel explain plot.six: broken Register 227
 ";
     for line in ["sixel explain --help", "sixel help explain"] {

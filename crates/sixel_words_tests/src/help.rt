@@ -1,5 +1,6 @@
 //! The texts of help and of the version.
 
+use crate::telling::LIST_HELP;
 use crate::words::{said, says};
 use std::test::Fail;
 
@@ -19,36 +20,25 @@ Commands:
   encode   Converts a PPM to portable sixel text
   show     Draws the picture as one terminal would, and writes its screen as a PPM
   mend     Makes a portable picture of what one terminal shows of a broken one
-  explain  Explains a rule or a refusal by its name, or lists all names
+  explain  Explains rules and refusals by their names, or lists all names
   help     Print this message or the help of the given subcommand(s)
 
 Options:
   -h, --help     Print help
   -V, --version  Print version
+
+Exit status: 0 done or portable, 1 broken, 2 refused, 3 usage error.
+
+Examples: sixel check plots/*.six
+          sixel explain Uncovered
+          sixel mend plot.six > mended.six
 ";
     for line in ["sixel --help", "sixel -h", "sixel help"] {
         assert!(rt; says(&rt, line, whole)?, "{line}");
     }
-    let list = "help Lists the commands of the picture, one per line
-
-Usage: sixel list [FILE]
-
-Arguments:
-  [FILE]  The file to read; without it, or for `-`, standard input
-
-Options:
-  -h, --help  Print help
-
-Reads sixel text from FILE or, without one, from standard input. Writes to
-standard output one line for the start, for each command and for the end: its
-byte offset, its name and its numbers. Everything before a fault is listed too.
-
-Exit status: 0 done, 2 refused, 3 usage error.
-
-Example: sixel list plot.six
-";
+    let list = format!(in rt.alloc(); "help {LIST_HELP}")?;
     for line in ["sixel list --help", "sixel list -h", "sixel help list"] {
-        assert!(rt; says(&rt, line, list)?, "{line}");
+        assert!(rt; says(&rt, line, list.as_str())?, "{line}");
     }
     Ok(())
 }
@@ -61,18 +51,24 @@ fn shows_the_version(rt: HostRuntime) -> Result<(), Fail> {
     Ok(())
 }
 
+/// After a subcommand, too, it is the program's version.
+#[test]
+fn shows_the_version_of_a_task(rt: HostRuntime) -> Result<(), Fail> {
+    for name in [
+        "list", "check", "survey", "scan", "render", "encode", "show", "mend", "explain",
+    ] {
+        for flag in ["--version", "-V"] {
+            let line = format!(in rt.alloc(); "sixel {name} {flag}")?;
+            assert!(rt; says(&rt, line.as_str(), "help sixel 1.0.0\n")?, "{line}");
+        }
+    }
+    Ok(())
+}
+
 /// The help of each task says what the exit status means.
 #[test]
 fn shows_the_exit_status(rt: HostRuntime) -> Result<(), Fail> {
     for (line, status) in [
-        (
-            "sixel list --help",
-            "Exit status: 0 done, 2 refused, 3 usage error.\n",
-        ),
-        (
-            "sixel check --help",
-            "Exit status: 0 portable, 1 broken, 2 refused, 3 usage error; with several files\nthe greatest.\n",
-        ),
         (
             "sixel render --help",
             "Exit status: 0 done, 1 broken, 2 refused, 3 usage error.\n",
@@ -87,7 +83,7 @@ fn shows_the_exit_status(rt: HostRuntime) -> Result<(), Fail> {
         ),
         (
             "sixel scan --help",
-            "Exit status: 0 all portable, 1 one isn't, 2 refused or none, 3 usage error; with\nseveral files the greatest.\n",
+            "Exit status: 0 all portable, 1 one isn't or is refused, 2 no picture or a failed\nread, 3 usage error; with several files the greatest.\n",
         ),
         (
             "sixel show --help",
@@ -117,15 +113,17 @@ Arguments:
   [FILE]...  Files to read in turn; without any, or for `-`, standard input
 
 Options:
-      --wide   Use 256 colour registers instead of 16
-  -q, --quiet  Print no verdict; use the exit status
-  -h, --help   Print help
+      --wide     Use 256 colour registers instead of 16
+  -q, --quiet    Print no verdict; use the exit status
+  -h, --help     Print help
+  -V, --version  Print version
 
 Reads sixel text from each FILE in turn or, without one, from standard input.
 Writes one line for each to standard output: `portable` and the size, or
 `broken`, the rule, the byte offset and, for two rules, a pixel. With files,
 each line starts with `FILE: `. If a file is refused, the reason goes to
-standard error, and the files after it are still checked.
+standard error, and the files after it are still checked. sixel explain NAME
+says what a rule or a refusal means, and how to fix it.
 
 Exit status: 0 portable, 1 broken, 2 refused, 3 usage error; with several files
 the greatest.
@@ -151,6 +149,7 @@ Options:
       --wide       Use 256 colour registers instead of 16
       --eight-bit  Let the bytes 90 and 9C start and end a picture, too
   -h, --help       Print help
+  -V, --version    Print version
 
 Reads what a program writes to a terminal, such as text, control sequences and
 several pictures, from each FILE in turn or, without one, from standard input.
@@ -164,8 +163,8 @@ A picture starts with ESC P, numbers and q, and ends after ESC \\, before anothe
 ESC, or after the byte 18 or 1A. --eight-bit is for terminals that take the
 bytes 90 and 9C as controls; in UTF-8 they are parts of letters.
 
-Exit status: 0 all portable, 1 one isn't, 2 refused or none, 3 usage error; with
-several files the greatest.
+Exit status: 0 all portable, 1 one isn't or is refused, 2 no picture or a failed
+read, 3 usage error; with several files the greatest.
 
 Example: ./test-suite | sixel scan
 ";
@@ -185,15 +184,17 @@ Arguments:
   [FILE]...  Files to read in turn; without any, or for `-`, standard input
 
 Options:
-      --wide  Use 256 colour registers instead of 16
-  -h, --help  Print help
+      --wide     Use 256 colour registers instead of 16
+  -h, --help     Print help
+  -V, --version  Print version
 
 Reads sixel text from each FILE in turn or, without one, from standard input.
 Writes a line for each broken rule to standard output: the rule, how often it is
 broken, the byte offset of the first time and, for two rules, a pixel. If none
 is broken, it writes `portable` and the size. With files, each line starts with
 `FILE: `. If a file is refused, the reason goes to standard error, and the files
-after it are still read.
+after it are still read. sixel explain NAME says what a rule or a refusal means,
+and how to fix it.
 
 Exit status: 0 portable, 1 broken, 2 refused, 3 usage error; with several files
 the greatest.
@@ -216,19 +217,22 @@ Arguments:
   [FILE]  The file to read; without it, or for `-`, standard input
 
 Options:
-      --wide                Use 256 colour registers instead of 16
-      --background <R,G,B>  The colour of what isn't painted: red, green and blue in percent [default: 0,0,0]
-      --showing             Show each pixel in the final colour of its register
-      --define-selects      Let a colour definition also select its register
-  -h, --help                Print help
+      --wide                 Use 256 colour registers instead of 16
+      --background <COLOUR>  What isn't painted: red, green and blue in percent, or '#RRGGBB' [default: 0,0,0]
+      --showing              Show each pixel in the final colour of its register
+      --define-selects       Let a colour definition also select its register
+  -h, --help                 Print help
+  -V, --version              Print version
 
 Reads sixel text from FILE or, without one, from standard input. Draws it as one
 terminal would, and writes what that shows to standard output, as portable sixel
 text. The terminal has 256 registers, which start as the VT340's 16 colours over
 and over. The picture is as large as the declared box, and larger if something
 is painted outside it. Black ink is lost on a black background: for a plot or a
-page, choose a white one. Refused: a picture without pixels, with a side above
-2,048, or of more than 16 colours, or 256 with --wide.
+page, choose a white one. COLOUR is three percentages, as in 100,50,0, or three
+samples, as in '#ff8000', each of which becomes the nearest percentage. Refused:
+a picture without pixels, with a side above 2,048, or of more than 16 colours,
+or 256 with --wide.
 
 Exit status: 0 done, 2 refused, 3 usage error.
 
@@ -258,6 +262,7 @@ Options:
       --height <N>      The screen's height in pixels, 1 to 4096 [default: 480]
       --box             Make the screen as large as the declared box
   -h, --help            Print help
+  -V, --version         Print version
 
 Reads sixel text from FILE or, without one, from standard input. Writes the
 screen of one terminal, which the options choose, to standard output as a PPM.

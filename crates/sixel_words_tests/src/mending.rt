@@ -52,6 +52,34 @@ fn names_the_background(rt: HostRuntime) -> Result<(), Fail> {
             false,
         ),
         (
+            "sixel mend --background #000000",
+            "Registers16",
+            "0, 0, 0",
+            false,
+            false,
+        ),
+        (
+            "sixel mend --background=#FFffFf --wide",
+            "Registers256",
+            "100, 100, 100",
+            false,
+            false,
+        ),
+        (
+            "sixel mend --background #80027f",
+            "Registers16",
+            "50, 1, 50",
+            false,
+            false,
+        ),
+        (
+            "sixel mend --background #01fe99",
+            "Registers16",
+            "0, 100, 60",
+            false,
+            false,
+        ),
+        (
             "sixel mend --background 1,2,3 --background 4,5,6",
             "Registers16",
             "4, 5, 6",
@@ -71,17 +99,40 @@ fn names_the_background(rt: HostRuntime) -> Result<(), Fail> {
     Ok(())
 }
 
-/// A background is three percentages of one to three digits each.
+/// A background is three percentages of one to three digits each, or `#` and three samples of two hexadecimal digits.
 #[test]
 fn refuses_other_backgrounds(rt: HostRuntime) -> Result<(), Fail> {
     for value in [
-        "0,0,101", "101,0,0", "0,256,0", "0,0", "0,0,0,0", "0", "", ",,", "0,,0", "0000,0,0",
-        "+1,0,0", "0,0,-1", "1.5,0,0", "0;0;0", "red", "0,0,0,",
+        "0,0,101",
+        "101,0,0",
+        "0,256,0",
+        "0,0",
+        "0,0,0,0",
+        "0",
+        "",
+        ",,",
+        "0,,0",
+        "0000,0,0",
+        "+1,0,0",
+        "0,0,-1",
+        "1.5,0,0",
+        "0;0;0",
+        "red",
+        "0,0,0,",
+        "#",
+        "#fff",
+        "#ff80000",
+        "#ff800",
+        "#gg0000",
+        "#+f0000",
+        "ff8000",
+        "#ff,80,00",
+        "##ff800",
     ] {
         let line = format!(in rt.alloc(); "sixel mend --background={value}")?;
         let text = format!(in rt.alloc();
-            "usage error: invalid value '{value}' for '--background <R,G,B>': \
-            expected three percentages, as in 100,50,0\n\nUsage: sixel mend [OPTIONS] [FILE]"
+            "usage error: invalid value '{value}' for '--background <COLOUR>': \
+            expected three percentages, as in 100,50,0, or samples, as in '#ff8000'\n\nUsage: sixel mend [OPTIONS] [FILE]"
         )?;
         assert!(rt; refuses(&rt, line.as_str(), text.as_str())?, "{line}");
     }

@@ -55,7 +55,8 @@ fn unread(alloc: Global) -> Result<WordsFault, Fail> {
     }
 }
 
-const HELP: &str = "Lists the commands of the picture, one per line
+/// The help of `list`.
+pub(crate) const LIST_HELP: &str = "Lists the commands of the picture, one per line
 
 Usage: sixel list [FILE]
 
@@ -63,7 +64,8 @@ Arguments:
   [FILE]  The file to read; without it, or for `-`, standard input
 
 Options:
-  -h, --help  Print help
+  -h, --help     Print help
+  -V, --version  Print version
 
 Reads sixel text from FILE or, without one, from standard input. Writes to
 standard output one line for the start, for each command and for the end: its
@@ -86,7 +88,7 @@ For more information, try '--help'.
 fn words_are_explained_as_far_as_there_is_room(rt: HostRuntime) -> Result<(), Fail> {
     for room in [0, 1, 20, 1024] {
         let help = fault_of(rt.alloc(), &["list", "--help"])?;
-        assert!(rt; explains_so(rt.alloc(), help, room, Exit::Done, HELP, ""));
+        assert!(rt; explains_so(rt.alloc(), help, room, Exit::Done, LIST_HELP, ""));
         let unknown = fault_of(rt.alloc(), &["view"])?;
         assert!(rt; explains_so(rt.alloc(), unknown, room, Exit::Usage, "", UNKNOWN));
         let memory = unread(rt.alloc())?;
@@ -108,8 +110,30 @@ fn an_explanation_is_written_or_refused(rt: HostRuntime) -> Result<(), Fail> {
     ] {
         let asked = fault_of(rt.alloc(), &["explain", "Maxval"])?;
         assert!(rt; explains_so(rt.alloc(), asked, room, exit, text, line));
-        let topic = WordsFault::Explanation(Some(Topic::Ppm(PpmReason::Maxval)));
-        assert!(rt; explains_so(rt.alloc(), topic, room, exit, text, line));
+        let topics = vec![in rt.alloc(); Topic::Ppm(PpmReason::Maxval)]?;
+        let given = WordsFault::Explanation(topics);
+        assert!(rt; explains_so(rt.alloc(), given, room, exit, text, line));
+    }
+    Ok(())
+}
+
+/// Several explanations are written in the order of their names, with an empty line between two.
+#[test]
+fn explanations_are_written_in_turn(rt: HostRuntime) -> Result<(), Fail> {
+    let maxval = explanation(Some(Topic::Ppm(PpmReason::Maxval)));
+    let no_box = explanation(Some(Topic::NoBox));
+    let text = format!(in rt.alloc(); "{no_box}\n{maxval}\n{no_box}")?;
+    for room in 0..=text.len() {
+        let asked = fault_of(rt.alloc(), &["explain", "NoBox", "Maxval", "nobox"])?;
+        let (exit, line) = if room < text.len() {
+            (Exit::Refused, "sixel: write failed\n")
+        } else {
+            (Exit::Done, "")
+        };
+        assert!(rt;
+            explains_so(rt.alloc(), asked, room, exit, text.as_str(), line),
+            "{room}"
+        );
     }
     Ok(())
 }

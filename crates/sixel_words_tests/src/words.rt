@@ -18,7 +18,7 @@ fn told(alloc: Global, fault: WordsFault) -> Result<String, AllocError> {
     match fault {
         WordsFault::Usage(text) => format!(in alloc; "usage {text}"),
         WordsFault::Help(text) => format!(in alloc; "help {text}"),
-        WordsFault::Explanation(topic) => format!(in alloc; "explain {topic:?}"),
+        WordsFault::Explanation(topics) => format!(in alloc; "explain {topics:?}"),
         WordsFault::OutOfMemory => String::from_str(alloc, "out of memory"),
     }
 }
@@ -285,8 +285,6 @@ Usage: sixel <COMMAND>";
 
 const NOT_WIDE: &str = "usage error: unexpected argument '--wide' found
 
-  tip: to pass '--wide' as a value, use '-- --wide'
-
 Usage: sixel list [FILE]";
 
 const NOT_QUIET: &str = "usage error: unexpected argument '-q' found
@@ -353,21 +351,64 @@ Usage: sixel <COMMAND>",
 
 Usage: sixel <COMMAND>",
         ),
-        (
-            "sixel show --width 0",
-            "usage error: invalid value '0' for '--width <N>': 0 is not in 1..=4096",
-        ),
-        (
-            "sixel show --height 4097",
-            "usage error: invalid value '4097' for '--height <N>': 4097 is not in 1..=4096",
-        ),
-        (
-            "sixel show --width many",
-            "usage error: invalid value 'many' for '--width <N>': invalid digit found in string",
-        ),
     ];
     for (line, text) in rows {
         assert!(rt; refuses(&rt, line, text)?, "{line}");
+    }
+    Ok(())
+}
+
+/// An option that begins with `--` is hardly a file's name, so there is no tip on `--`. A similar option has its tip.
+#[test]
+fn refuses_unknown_options(rt: HostRuntime) -> Result<(), Fail> {
+    for (line, usage) in [
+        ("sixel list a --long", "sixel list [FILE]"),
+        ("sixel check --long a", "sixel check [OPTIONS] [FILE]..."),
+        ("sixel survey --long", "sixel survey [OPTIONS] [FILE]..."),
+        ("sixel scan --long", "sixel scan [OPTIONS] [FILE]..."),
+        ("sixel render --long", "sixel render [OPTIONS] [FILE]"),
+        ("sixel encode --long", "sixel encode [OPTIONS] [FILE]"),
+        ("sixel show --long", "sixel show [OPTIONS] [FILE]"),
+        ("sixel mend --long", "sixel mend [OPTIONS] [FILE]"),
+        ("sixel explain --long", "sixel explain [NAME]..."),
+        ("sixel --long", "sixel <COMMAND>"),
+    ] {
+        let text = format!(in rt.alloc();
+            "usage error: unexpected argument '--long' found\n\nUsage: {usage}"
+        )?;
+        assert!(rt; refuses(&rt, line, text.as_str())?, "{line}");
+    }
+    let similar = "usage error: unexpected argument '--wid' found
+
+  tip: a similar argument exists: '--wide'
+
+Usage: sixel check --wide [FILE]...";
+    assert!(rt; refuses(&rt, "sixel check --wid", similar)?);
+    Ok(())
+}
+
+/// A side is a number from 1 to 4,096.
+#[test]
+fn refuses_other_sides(rt: HostRuntime) -> Result<(), Fail> {
+    for name in ["width", "height"] {
+        for value in [
+            "0",
+            "4097",
+            "99999999999999999999",
+            "many",
+            "",
+            "-1",
+            "8.5",
+            "0x10",
+            "<N>",
+        ] {
+            let line = format!(in rt.alloc(); "sixel show --{name}={value}")?;
+            let text = format!(in rt.alloc();
+                "usage error: invalid value '{value}' for '--{name} <N>': \
+                expected a number from 1 to 4096\n\nUsage: sixel show [OPTIONS] [FILE]"
+            )?;
+            assert!(rt; refuses(&rt, line.as_str(), text.as_str())?, "{line}");
+        }
     }
     Ok(())
 }

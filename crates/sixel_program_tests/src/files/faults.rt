@@ -1,6 +1,8 @@
 //! Streams that fail.
 
-use super::{Ended, FOLDER, PIXEL, RATIO, STREAMS, Streams, check_of, ends_over, request_of};
+use super::{
+    FOLDER, PIXEL, RATIO, STREAMS, Streams, after_input, check_of, ends_over, request_of, unread,
+};
 use crate::ends::NO_TERMINALS;
 use crate::memory_folder::Watched;
 use sixel_io::{FromRead, ToWrite};
@@ -23,12 +25,7 @@ fn is_cut(
     written: &[u8],
     said: &[u8],
 ) -> Result<bool, AllocError> {
-    let ended = Ended {
-        exit: Exit::Refused,
-        written,
-        said,
-        is_read: false,
-    };
+    let ended = unread(Exit::Refused, written, said);
     ends_over(alloc, &check_of(false, names, PIXEL), narrow(room), ended)
 }
 
@@ -55,12 +52,9 @@ fn an_output_that_is_not_flushed(rt: HostRuntime) -> Result<(), Fail> {
         is_flushable: false,
         ..STREAMS
     };
-    let ended = Ended {
-        exit: Exit::Refused,
-        written: b"ratio: broken Ratio 3\npixel: portable 1 1\n",
-        said: b"sixel: none: no such file\nsixel: write failed\n",
-        is_read: false,
-    };
+    let written = b"ratio: broken Ratio 3\npixel: portable 1 1\n";
+    let said = b"sixel: none: no such file\nsixel: write failed\n";
+    let ended = unread(Exit::Refused, written, said);
     let asked = check_of(false, &["ratio", "none", "pixel"], RATIO);
     assert!(rt; ends_over(rt.alloc(), &asked, streams, ended)?);
     Ok(())
@@ -69,12 +63,7 @@ fn an_output_that_is_not_flushed(rt: HostRuntime) -> Result<(), Fail> {
 /// A quiet check doesn't fail if standard output has no room or can't be flushed.
 #[test]
 fn an_output_that_nothing_is_written_to(rt: HostRuntime) -> Result<(), Fail> {
-    let broken = Ended {
-        exit: Exit::Broken,
-        written: b"",
-        said: b"",
-        is_read: true,
-    };
+    let broken = after_input(Exit::Broken, b"", b"");
     assert!(rt; ends_over(rt.alloc(), &check_of(true, &[], RATIO), narrow(0), broken)?);
     let streams = Streams {
         is_flushable: false,
@@ -97,12 +86,8 @@ fn errors_that_fail(rt: HostRuntime) -> Result<(), Fail> {
             errors_room,
             ..STREAMS
         };
-        let ended = Ended {
-            exit: Exit::Refused,
-            written: b"ratio: broken Ratio 3\npixel: portable 1 1\n",
-            said,
-            is_read: false,
-        };
+        let written = b"ratio: broken Ratio 3\npixel: portable 1 1\n";
+        let ended = unread(Exit::Refused, written, said);
         let asked = check_of(false, &["text", "ratio", "none", "pixel"], RATIO);
         assert!(rt; ends_over(rt.alloc(), &asked, streams, ended)?);
     }
@@ -134,11 +119,16 @@ fn opened(alloc: Global, is_quiet: bool, names: &[&str], room: usize) -> Result<
 #[test]
 fn files_after_a_failed_write(rt: HostRuntime) -> Result<(), Fail> {
     let names = ["pixel", "text", "none", "pixel", "text", "none"];
-    assert_eq!(rt; opened(rt.alloc(), false, &names, 0)?, 1);
-    assert_eq!(rt; opened(rt.alloc(), false, &names, 19)?, 1);
-    assert_eq!(rt; opened(rt.alloc(), false, &names, 20)?, 4);
-    assert_eq!(rt; opened(rt.alloc(), false, &names, 39)?, 4);
-    assert_eq!(rt; opened(rt.alloc(), false, &names, 40)?, 6);
-    assert_eq!(rt; opened(rt.alloc(), true, &names, 0)?, 6);
+    for (is_quiet, room, expected) in [
+        (false, 0, 1),
+        (false, 19, 1),
+        (false, 20, 4),
+        (false, 39, 4),
+        (false, 40, 6),
+        (true, 0, 6),
+    ] {
+        let count = opened(rt.alloc(), is_quiet, &names, room)?;
+        assert_eq!(rt; count, expected, "{is_quiet}, {room}");
+    }
     Ok(())
 }

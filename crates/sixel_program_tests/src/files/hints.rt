@@ -1,23 +1,17 @@
-//! The hint after a check that found a broken rule, where standard error is a terminal.
+//! The hint after a check of an input that isn't portable, where standard error is a terminal.
 
 ghost use Rattle.sixel_run.specs.Outputs.{HasSides};
 
-use super::{Asked, Ended, PIXEL, RATIO, STREAMS, Streams, WIDE, asked_of, check_of, ends_over};
-use crate::ends::{NO_TERMINALS, RENDER};
+use super::{
+    Asked, Ended, PIXEL, RATIO, SEEN, STREAMS, Streams, WIDE, after_input, asked_of, check_of,
+    ends_over, unread,
+};
+use crate::ends::RENDER;
 use sixel_model::Profile;
-use sixel_program::{Exit, Terminals};
+use sixel_program::Exit;
 use sixel_run::Task;
 use std::alloc::{AllocError, Global};
 use std::test::Fail;
-
-/// Standard error is a terminal.
-const TERMINAL: Streams = Streams {
-    terminals: Terminals {
-        errors: true,
-        ..NO_TERMINALS
-    },
-    ..STREAMS
-};
 
 const EXPLAIN_RATIO: &[u8] = b"sixel: 'sixel explain Ratio' tells how to fix it\n";
 
@@ -39,7 +33,7 @@ fn hints<'a>(
         is_read,
     };
     let silent = Ended { said: b"", ..ended };
-    Ok(ends_over(alloc, asked, TERMINAL, ended)? && ends_over(alloc, asked, STREAMS, silent)?)
+    Ok(ends_over(alloc, asked, SEEN, ended)? && ends_over(alloc, asked, STREAMS, silent)?)
 }
 
 #[test]
@@ -61,33 +55,12 @@ fn a_broken_picture(rt: HostRuntime) -> Result<(), Fail> {
 #[test]
 fn no_hint(rt: HostRuntime) -> Result<(), Fail> {
     let alloc = rt.alloc();
-    assert!(rt;
-        hints(
-            alloc,
-            &check_of(true, &[], RATIO),
-            Exit::Broken,
-            b"",
-            true,
-            b""
-        )?
-    );
-    assert!(rt;
-        hints(
-            alloc,
-            &check_of(true, &["ratio"], PIXEL),
-            Exit::Broken,
-            b"",
-            false,
-            b""
-        )?
-    );
-    let ended = Ended {
-        exit: Exit::Broken,
-        written: b"",
-        said: b"broken Ratio 3\n",
-        is_read: true,
-    };
-    assert!(rt; ends_over(alloc, &asked_of(RENDER, &[], RATIO), TERMINAL, ended)?);
+    let plain = check_of(true, &[], RATIO);
+    assert!(rt; hints(alloc, &plain, Exit::Broken, b"", true, b"")?);
+    let named = check_of(true, &["ratio"], PIXEL);
+    assert!(rt; hints(alloc, &named, Exit::Broken, b"", false, b"")?);
+    let ended = after_input(Exit::Broken, b"", b"broken Ratio 3\n");
+    assert!(rt; ends_over(alloc, &asked_of(RENDER, &[], RATIO), SEEN, ended)?);
     Ok(())
 }
 
@@ -95,63 +68,52 @@ fn no_hint(rt: HostRuntime) -> Result<(), Fail> {
 #[test]
 fn a_register(rt: HostRuntime) -> Result<(), Fail> {
     let alloc = rt.alloc();
+    let line = b"broken Register 11\n";
     let narrow = check_of(false, &[], WIDE);
     let hint =
         b"sixel: 'sixel explain Register' tells how to fix it; '--wide' checks for 256 registers\n";
-    assert!(rt;
-        hints(
-            alloc,
-            &narrow,
-            Exit::Broken,
-            b"broken Register 11\n",
-            true,
-            hint
-        )?
-    );
+    assert!(rt; hints(alloc, &narrow, Exit::Broken, line, true, hint)?);
     let profile = Profile::Registers256;
     let wide = asked_of(Task::Check { profile }, &[], b"\x1bPq\"1;1;2;1#256\x1b\\");
     let hint = b"sixel: 'sixel explain Register' tells how to fix it\n";
-    assert!(rt;
-        hints(
-            alloc,
-            &wide,
-            Exit::Broken,
-            b"broken Register 11\n",
-            true,
-            hint
-        )?
-    );
+    assert!(rt; hints(alloc, &wide, Exit::Broken, line, true, hint)?);
     Ok(())
 }
 
-/// The hint comes once, after the lines of all files, and is on the first broken verdict.
+/// A refused input has a hint after its message.
+#[test]
+fn a_refusal(rt: HostRuntime) -> Result<(), Fail> {
+    let said = b"sixel: BadByte at 3\nsixel: 'sixel explain BadByte' tells how to fix it\n";
+    let asked = check_of(false, &[], b"\x1bPq%\x1b\\");
+    let ended = after_input(Exit::Refused, b"", said);
+    assert!(rt; ends_over(rt.alloc(), &asked, SEEN, ended)?);
+    Ok(())
+}
+
+/// The hint comes once, after the lines of all files, and is on the first that isn't portable.
 #[test]
 fn several_files(rt: HostRuntime) -> Result<(), Fail> {
     let names = ["text", "pixel", "ratio", "wide", "none"];
-    let ended = Ended {
-        exit: Exit::Refused,
-        written: b"pixel: portable 1 1\nratio: broken Ratio 3\nwide: broken Register 11\n",
-        said: b"sixel: text: NotSixel at 0\nsixel: none: no such file\n\
-            sixel: 'sixel explain Ratio' tells how to fix it\n",
-        is_read: false,
-    };
-    assert!(rt; ends_over(rt.alloc(), &check_of(false, &names, PIXEL), TERMINAL, ended)?);
+    let written = b"pixel: portable 1 1\nratio: broken Ratio 3\nwide: broken Register 11\n";
+    let said = b"sixel: text: NotSixel at 0\nsixel: none: no such file\n\
+        sixel: 'sixel explain NotSixel' tells how to fix it\n";
+    let ended = unread(Exit::Refused, written, said);
+    assert!(rt; ends_over(rt.alloc(), &check_of(false, &names, PIXEL), SEEN, ended)?);
+    let names = ["none", "ratio", "text"];
+    let written = b"ratio: broken Ratio 3\n";
+    let said = b"sixel: none: no such file\nsixel: text: NotSixel at 0\n\
+        sixel: 'sixel explain Ratio' tells how to fix it\n";
+    let ended = unread(Exit::Refused, written, said);
+    assert!(rt; ends_over(rt.alloc(), &check_of(false, &names, PIXEL), SEEN, ended)?);
     Ok(())
 }
 
 /// No hint follows a failed write.
 #[test]
 fn an_output_that_fails(rt: HostRuntime) -> Result<(), Fail> {
-    let ended = Ended {
-        exit: Exit::Refused,
-        written: b"ratio: broken Ratio 3\n",
-        said: b"sixel: write failed\n",
-        is_read: false,
-    };
-    let full = Streams {
-        room: 22,
-        ..TERMINAL
-    };
+    let written = b"ratio: broken Ratio 3\n";
+    let ended = unread(Exit::Refused, written, b"sixel: write failed\n");
+    let full = Streams { room: 22, ..SEEN };
     let asked = check_of(false, &["ratio", "pixel"], PIXEL);
     assert!(rt; ends_over(rt.alloc(), &asked, full, ended)?);
     Ok(())

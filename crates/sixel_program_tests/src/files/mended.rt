@@ -2,21 +2,13 @@
 
 ghost use Rattle.sixel_run.specs.Outputs.{HasSides};
 
-use super::{Ended, PIXEL, PNG, STREAMS, asked_of, ends_over};
+use super::{PIXEL, PNG, ends_unread};
 use crate::ends::{ends, mend_on};
 use sixel_model::{Colour, Profile};
 use sixel_program::Exit;
 use sixel_run::Task;
 use std::alloc::{AllocError, Global};
 use std::test::Fail;
-
-/// A colour by its percentages.
-fn colour(red: u8, green: u8, blue: u8) -> Result<Colour, Fail> {
-    match Colour::rgb(red, green, blue) {
-        Some(colour) => Ok(colour),
-        None => Err(Fail::from("no colour")),
-    }
-}
 
 /// Whether `mend` with this background makes this text of those bytes.
 fn mends(alloc: Global, background: Colour, bytes: &[u8], text: &[u8]) -> bool {
@@ -26,8 +18,8 @@ fn mends(alloc: Global, background: Colour, bytes: &[u8], text: &[u8]) -> bool {
 /// What isn't painted gets the background, and a colour keeps its coordinates.
 #[test]
 fn pictures_are_mended(rt: HostRuntime) -> Result<(), Fail> {
-    let black = colour(0, 0, 0)?;
-    let white = colour(100, 100, 100)?;
+    let black = Colour::of_percentages(0, 0, 0);
+    let white = Colour::of_percentages(100, 100, 100);
     let pixel = b"\x1bP0;1q\"1;1;1;1#0;2;0;0;0#0@\x1b\\";
     assert!(rt; mends(rt.alloc(), black, PIXEL, pixel));
     let half = b"\x1bPq\"1;1;2;1#0;2;0;0;0#0@\x1b\\";
@@ -48,45 +40,30 @@ fn pictures_are_mended(rt: HostRuntime) -> Result<(), Fail> {
 #[test]
 fn options_of_the_terminal(rt: HostRuntime) -> Result<(), Fail> {
     let red = b"\x1bP0;1q\"1;1;1;1#0;2;100;0;0#0@\x1b\\";
-    let showing = Task::Mend {
-        profile: Profile::Registers16,
-        background: colour(0, 0, 0)?,
-        showing: true,
-        selects: false,
-    };
-    let redefined = b"\x1bPq\"1;1;1;1#0;2;0;0;0#0@#0;2;100;0;0\x1b\\";
-    assert!(rt; ends(rt.alloc(), showing, redefined, Exit::Done, red, b""));
-    let selecting = Task::Mend {
-        profile: Profile::Registers16,
-        background: colour(0, 0, 0)?,
-        showing: false,
-        selects: true,
-    };
-    let unselected = b"\x1bPq\"1;1;1;1#0;2;0;0;0#1;2;100;0;0@\x1b\\";
-    assert!(rt; ends(rt.alloc(), selecting, unselected, Exit::Done, red, b""));
+    let redefined = b"\x1bPq\"1;1;1;1#0;2;0;0;0#0@#0;2;100;0;0\x1b\\".as_slice();
+    let unselected = b"\x1bPq\"1;1;1;1#0;2;0;0;0#1;2;100;0;0@\x1b\\".as_slice();
+    for (showing, selects, bytes) in [(true, false, redefined), (false, true, unselected)] {
+        let task = Task::Mend {
+            profile: Profile::Registers16,
+            background: Colour::of_percentages(0, 0, 0),
+            showing,
+            selects,
+        };
+        assert!(rt; ends(rt.alloc(), task, bytes, Exit::Done, red, b""));
+    }
     Ok(())
 }
 
 /// Whether the file with this name is refused with this line.
 fn refuses(alloc: Global, name: &str, background: Colour, said: &[u8]) -> Result<bool, AllocError> {
-    let ended = Ended {
-        exit: Exit::Refused,
-        written: b"",
-        said,
-        is_read: false,
-    };
-    ends_over(
-        alloc,
-        &asked_of(mend_on(background), &[name], PIXEL),
-        STREAMS,
-        ended,
-    )
+    let task = mend_on(background);
+    ends_unread(alloc, task, &[name], Exit::Refused, b"", said)
 }
 
 /// A refusal has the file's name, and another format its advice. Nothing is written.
 #[test]
 fn files_that_are_not_mended(rt: HostRuntime) -> Result<(), Fail> {
-    let black = colour(0, 0, 0)?;
+    let black = Colour::of_percentages(0, 0, 0);
     assert!(rt; refuses(rt.alloc(), "blank", black, b"sixel: blank: Empty\n")?);
     assert!(rt; refuses(rt.alloc(), "large", black, b"sixel: large: TooLarge\n")?);
     assert!(rt; refuses(rt.alloc(), "cut", black, b"sixel: cut: read failed\n")?);
@@ -115,17 +92,8 @@ fn reds(alloc: Global) -> Result<String, AllocError> {
 #[test]
 fn too_many_colours(rt: HostRuntime) -> Result<(), Fail> {
     let text = reds(rt.alloc())?;
-    let narrow = mend_on(colour(0, 0, 0)?);
-    let line = b"sixel: TooManyColours\n";
-    assert!(rt;
-        ends(
-            rt.alloc(),
-            narrow,
-            text.as_str().as_bytes(),
-            Exit::Refused,
-            b"",
-            line
-        )
-    );
+    let (bytes, line) = (text.as_bytes(), b"sixel: TooManyColours\n");
+    let narrow = mend_on(Colour::of_percentages(0, 0, 0));
+    assert!(rt; ends(rt.alloc(), narrow, bytes, Exit::Refused, b"", line));
     Ok(())
 }

@@ -2,7 +2,7 @@
 
 ghost use Rattle.sixel_run.specs.Outputs.{HasSides};
 
-use super::{Ended, PIXEL, STREAMS, asked_of, check_of, checks, ends_over, request_of};
+use super::{PIXEL, check_of, checks, ends_unread, request_of};
 use crate::ends::{ENCODE, NO_FILES, NO_TERMINALS, RENDER};
 use crate::memory_folder::MemoryFolder;
 use sixel_io::{FromRead, ToWrite};
@@ -20,15 +20,8 @@ fn files_that_cannot_be_opened(rt: HostRuntime) -> Result<(), Fail> {
     let said =
         b"sixel: none: no such file\nsixel: locked: permission denied\nsixel: folder: is a folder\n\
         sixel: \xef\xbf\xbd.six: name is not valid UTF-8\nsixel: lost: read failed\n";
-    assert!(rt;
-        checks(
-            rt.alloc(),
-            &names,
-            Exit::Refused,
-            b"pixel: portable 1 1\n",
-            said
-        )?
-    );
+    let written = b"pixel: portable 1 1\n";
+    assert!(rt; checks(rt.alloc(), &names, Exit::Refused, written, said)?);
     Ok(())
 }
 
@@ -36,27 +29,15 @@ fn files_that_cannot_be_opened(rt: HostRuntime) -> Result<(), Fail> {
 fn refuses(alloc: Global, task: Task, name: &str, said: &[u8]) -> Result<bool, AllocError>
     requires { HasSides task }
 {
-    let ended = Ended {
-        exit: Exit::Refused,
-        written: b"",
-        said,
-        is_read: false,
-    };
-    ends_over(alloc, &asked_of(task, &[name], PIXEL), STREAMS, ended)
+    ends_unread(alloc, task, &[name], Exit::Refused, b"", said)
 }
 
 #[test]
 fn a_file_that_cannot_be_opened(rt: HostRuntime) -> Result<(), Fail> {
     let locked = b"sixel: locked: permission denied\n";
     assert!(rt; refuses(rt.alloc(), Task::List, "locked", locked)?);
-    assert!(rt;
-        refuses(
-            rt.alloc(),
-            RENDER,
-            "folder",
-            b"sixel: folder: is a folder\n"
-        )?
-    );
+    let folder = b"sixel: folder: is a folder\n";
+    assert!(rt; refuses(rt.alloc(), RENDER, "folder", folder)?);
     assert!(rt; refuses(rt.alloc(), ENCODE, "lost", b"sixel: lost: read failed\n")?);
     let name = b"sixel: a\xef\xbf\xbd: name is not valid UTF-8\n";
     assert!(rt; refuses(rt.alloc(), ENCODE, "a\u{FFFD}", name)?);
@@ -91,15 +72,6 @@ impl Write for Takes<'_> {
     }
 }
 
-/// This text, so many times.
-fn repeated(alloc: Global, text: &str, count: u32) -> Result<String, AllocError> {
-    let mut all = String::new(alloc);
-    for _ in 0..count {
-        all.push_str(text)?;
-    }
-    Ok(all)
-}
-
 /// Whether a check of a file with this name, which is printed so, writes its verdict in at most so many calls. If there
 /// is no such file, the message must be written so.
 fn goes_out_in(alloc: Global, name: &str, printed: &str, most: u64) -> Result<bool, AllocError> {
@@ -108,27 +80,20 @@ fn goes_out_in(alloc: Global, name: &str, printed: &str, most: u64) -> Result<bo
         cut: &[],
         refused: &[],
     };
-    let is_whole = goes_so(alloc, name, folder, "", printed, ": portable 1 1\n", most)?;
-    let is_said = goes_so(
-        alloc,
-        name,
-        NO_FILES,
-        "sixel: ",
-        printed,
-        ": no such file\n",
-        most,
-    )?;
-    Ok(is_whole && is_said)
+    let verdict = format!(in alloc; "{printed}: portable 1 1\n")?;
+    let message = format!(in alloc; "sixel: {printed}: no such file\n")?;
+    Ok(
+        goes_so(alloc, name, folder, verdict.as_bytes(), most)?
+            && goes_so(alloc, name, NO_FILES, message.as_bytes(), most)?,
+    )
 }
 
-/// Whether a check of the file with this name writes only this, in at most so many calls.
+/// Whether a check of the file with this name writes only this line, in at most so many calls.
 fn goes_so(
     alloc: Global,
     name: &str,
     folder: MemoryFolder<'_>,
-    before: &str,
-    printed: &str,
-    after: &str,
+    line: &[u8],
     most: u64,
 ) -> Result<bool, AllocError> {
     let request = request_of(alloc, &check_of(false, &[name], b""))?;
@@ -153,9 +118,8 @@ fn goes_so(
         &mut ToWrite::new(output),
         &mut ToWrite::new(errors),
     );
-    let line = format!(in alloc; "{before}{printed}{after}")?;
     taken.extend_from_slice(said.as_slice())?;
-    Ok(taken.as_slice() == line.as_bytes() && writes.saturating_add(sayings) <= most)
+    Ok(taken.as_slice() == line && writes.saturating_add(sayings) <= most)
 }
 
 /// A line with the longest name that a file can have goes out in one call, and one with a longer name in few.
@@ -163,13 +127,13 @@ fn goes_so(
 fn lines_with_long_names(rt: HostRuntime) -> Result<(), Fail> {
     let alloc = rt.alloc();
     assert!(rt; goes_out_in(alloc, "a b", "a b", 1)?);
-    let long = repeated(alloc, "n", 4_095)?;
+    let long = "n".repeat(alloc, 4_095)?;
     assert!(rt; goes_out_in(alloc, long.as_str(), long.as_str(), 1)?);
-    let control = repeated(alloc, "\x01", 4_095)?;
-    let printed = repeated(alloc, "\\x01", 4_095)?;
+    let control = "\x01".repeat(alloc, 4_095)?;
+    let printed = "\\x01".repeat(alloc, 4_095)?;
     assert!(rt; goes_out_in(alloc, control.as_str(), printed.as_str(), 1)?);
-    let longer = repeated(alloc, "\x01", 9_000)?;
-    let printed = repeated(alloc, "\\x01", 9_000)?;
+    let longer = "\x01".repeat(alloc, 9_000)?;
+    let printed = "\\x01".repeat(alloc, 9_000)?;
     assert!(rt; goes_out_in(alloc, longer.as_str(), printed.as_str(), 6)?);
     Ok(())
 }

@@ -2,10 +2,11 @@
 
 ghost use Rattle.sixel_run.specs.Outputs.{HasSides};
 
-use super::{Asked, Ended, PIXEL, RATIO, RED, STREAMS, Streams, asked_of, check_of, ends_over};
-use crate::ends::{ENCODE, NO_FILES, NO_TERMINALS, RENDER, SHOW, SHOW_BOX, SURVEY};
-use sixel_io::{FromRead, ToWrite};
-use sixel_program::{Exit, Peeked, Request, Terminals, execute};
+use super::{
+    Asked, Ended, PIXEL, RATIO, RED, STREAMS, Streams, after_input, asked_of, check_of, ends_over,
+};
+use crate::ends::{ENCODE, NO_TERMINALS, RENDER, SHOW, SHOW_BOX, SURVEY, exit_over};
+use sixel_program::{Exit, Terminals};
 use sixel_run::Task;
 use std::alloc::{AllocError, Global};
 use std::cell::Cell;
@@ -72,12 +73,8 @@ fn a_quiet_check(rt: HostRuntime) -> Result<(), Fail> {
 /// The notice comes once, before everything else.
 #[test]
 fn the_notice_comes_first(rt: HostRuntime) -> Result<(), Fail> {
-    let ended = Ended {
-        exit: Exit::Refused,
-        written: b"-: portable 1 1\n",
-        said: b"sixel: waiting for sixel text on standard input\nsixel: text: NotSixel at 0\n",
-        is_read: true,
-    };
+    let said = b"sixel: waiting for sixel text on standard input\nsixel: text: NotSixel at 0\n";
+    let ended = after_input(Exit::Refused, b"-: portable 1 1\n", said);
     let asked = check_of(false, &["text", "-"], PIXEL);
     assert!(rt; ends_over(rt.alloc(), &asked, TERMINAL, ended)?);
     Ok(())
@@ -93,15 +90,8 @@ fn files_alone(rt: HostRuntime) -> Result<(), Fail> {
     let quiet = check_of(true, &["pixel"], PIXEL);
     assert!(rt; says(rt.alloc(), &quiet, b"", false, b"")?);
     let black = b"P6\n1 1\n100\n\0\0\0";
-    assert!(rt;
-        says(
-            rt.alloc(),
-            &asked_of(RENDER, &["pixel"], RATIO),
-            black,
-            false,
-            b""
-        )?
-    );
+    let rendered = asked_of(RENDER, &["pixel"], RATIO);
+    assert!(rt; says(rt.alloc(), &rendered, black, false, b"")?);
     Ok(())
 }
 
@@ -154,12 +144,7 @@ fn errors_that_fail(rt: HostRuntime) -> Result<(), Fail> {
             errors_room,
             ..TERMINAL
         };
-        let ended = Ended {
-            exit: Exit::Done,
-            written: b"portable 1 1\n",
-            said,
-            is_read: true,
-        };
+        let ended = after_input(Exit::Done, b"portable 1 1\n", said);
         assert!(rt; ends_over(rt.alloc(), &check_of(false, &[], PIXEL), streams, ended)?);
     }
     Ok(())
@@ -210,21 +195,9 @@ fn heard_before(alloc: Global, task: Task) -> Option<usize>
         heard: &heard,
         at_first: &mut at_first,
     };
-    let request = Request {
-        task,
-        is_quiet: false,
-        files: Vec::new(alloc),
-    };
     let mut output = Vec::new(alloc);
-    execute(
-        alloc,
-        &request,
-        &NO_FILES,
-        KEYBOARD,
-        &mut Peeked::new(FromRead::new(input)),
-        &mut ToWrite::new(&mut output),
-        &mut ToWrite::new(Heard { count: &heard }),
-    );
+    let errors = Heard { count: &heard };
+    exit_over(alloc, KEYBOARD, task, input, &mut output, errors);
     at_first
 }
 

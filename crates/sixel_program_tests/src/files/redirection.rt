@@ -2,7 +2,9 @@
 
 ghost use Rattle.sixel_run.specs.Outputs.{HasSides};
 
-use super::{Ended, PIXEL, RED, STREAMS, Streams, asked_of, check_of, ends_over};
+use super::{
+    INTERACTIVE, PIXEL, RED, STREAMS, Streams, after_input, asked_of, check_of, ends_over, unread,
+};
 use crate::ends::{ENCODE, NO_TERMINALS, RENDER, SHOW, SHOW_BOX};
 use sixel_program::{Exit, Terminals};
 use sixel_run::Task;
@@ -18,28 +20,14 @@ const SCREEN: Streams = Streams {
     ..STREAMS
 };
 
-/// All streams are terminals.
-const ALL: Streams = Streams {
-    terminals: Terminals {
-        input: true,
-        output: true,
-        errors: true,
-    },
-    ..STREAMS
-};
-
 /// Whether the task, on standard input and on a file, only says that its output is to be redirected.
 fn is_redirected(alloc: Global, task: Task, names: &[&str]) -> Result<bool, AllocError>
     requires { HasSides task }
 {
-    let ended = Ended {
-        exit: Exit::Usage,
-        written: b"",
-        said: b"sixel: a terminal can't show a PPM; redirect the output, as in `> picture.ppm`\n",
-        is_read: false,
-    };
+    let said = b"sixel: a terminal can't show a PPM; redirect the output, as in `> picture.ppm`\n";
+    let ended = unread(Exit::Usage, b"", said);
     let asked = asked_of(task, names, PIXEL);
-    Ok(ends_over(alloc, &asked, SCREEN, ended)? && ends_over(alloc, &asked, ALL, ended)?)
+    Ok(ends_over(alloc, &asked, SCREEN, ended)? && ends_over(alloc, &asked, INTERACTIVE, ended)?)
 }
 
 #[test]
@@ -60,12 +48,7 @@ fn errors_that_fail(rt: HostRuntime) -> Result<(), Fail> {
         errors_room: 15,
         ..SCREEN
     };
-    let ended = Ended {
-        exit: Exit::Usage,
-        written: b"",
-        said: b"sixel: a termin",
-        is_read: false,
-    };
+    let ended = unread(Exit::Usage, b"", b"sixel: a termin");
     assert!(rt; ends_over(rt.alloc(), &asked_of(RENDER, &[], PIXEL), streams, ended)?);
     Ok(())
 }
@@ -73,23 +56,13 @@ fn errors_that_fail(rt: HostRuntime) -> Result<(), Fail> {
 /// Lines and sixel text are.
 #[test]
 fn text_is_written_to_a_terminal(rt: HostRuntime) -> Result<(), Fail> {
-    let ended = Ended {
-        exit: Exit::Done,
-        written: b"portable 1 1\n",
-        said: b"",
-        is_read: true,
-    };
+    let ended = after_input(Exit::Done, b"portable 1 1\n", b"");
     assert!(rt; ends_over(rt.alloc(), &check_of(false, &[], PIXEL), SCREEN, ended)?);
-    let list = Ended {
-        written: b"0 start 7bit 0\n3 end 7bit\n",
-        ..ended
-    };
+    let list = after_input(Exit::Done, b"0 start 7bit 0\n3 end 7bit\n", b"");
     let asked = asked_of(Task::List, &[], b"\x1bPq\x1b\\");
     assert!(rt; ends_over(rt.alloc(), &asked, SCREEN, list)?);
-    let red = Ended {
-        written: b"\x1bP0;1q\"1;1;1;1#0;2;100;0;0#0@\x1b\\",
-        ..ended
-    };
+    let text = b"\x1bP0;1q\"1;1;1;1#0;2;100;0;0#0@\x1b\\";
+    let red = after_input(Exit::Done, text, b"");
     assert!(rt; ends_over(rt.alloc(), &asked_of(ENCODE, &[], RED), SCREEN, red)?);
     Ok(())
 }

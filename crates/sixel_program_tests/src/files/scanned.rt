@@ -1,10 +1,13 @@
 //! Scans of files and of standard input.
 
-use super::{Ended, FOLDER, PIXEL, RATIO, STREAMS, Streams, asked_of, ends_over, request_of};
+use super::{
+    FOLDER, PIXEL, RATIO, SEEN, STREAMS, Streams, after_input, asked_of, ends_over, ends_unread,
+    request_of, unread,
+};
 use crate::ends::{NO_TERMINALS, SCAN};
 use sixel_io::{FromRead, ToWrite};
 use sixel_model::Profile;
-use sixel_program::{Exit, Peeked, Terminals, execute};
+use sixel_program::{Exit, Peeked, execute};
 use sixel_run::Task;
 use sixel_test_devices::Narrow;
 use std::alloc::{AllocError, Global};
@@ -12,65 +15,37 @@ use std::io;
 use std::io::Read;
 use std::test::Fail;
 
-/// Whether a scan of these files, where standard input has these bytes, ends so.
-fn scans(
-    alloc: Global,
-    names: &[&str],
-    input: &[u8],
-    ended: Ended<'_>,
-) -> Result<bool, AllocError> {
-    ends_over(alloc, &asked_of(SCAN, names, input), STREAMS, ended)
-}
-
 /// Each line has the name of its file before it.
 #[test]
 fn a_file_with_two_strings(rt: HostRuntime) -> Result<(), Fail> {
-    let ended = Ended {
-        exit: Exit::Broken,
-        written: b"log: 2 portable 1 1\nlog: 30 broken Ratio 33\n",
-        said: b"",
-        is_read: false,
-    };
-    assert!(rt; scans(rt.alloc(), &["log"], PIXEL, ended)?);
+    let alloc = rt.alloc();
+    let lines = b"log: 2 portable 1 1\nlog: 30 broken Ratio 33\n";
+    assert!(rt; ends_unread(alloc, SCAN, &["log"], Exit::Broken, lines, b"")?);
     Ok(())
 }
 
 /// The status is the greatest. What was written of a file before its refusal stays, and the scan goes on.
 #[test]
 fn files_of_each_kind(rt: HostRuntime) -> Result<(), Fail> {
-    let done = Ended {
-        exit: Exit::Done,
-        written: b"pixel: 0 portable 1 1\na b: 0 portable 1 1\n",
-        said: b"",
-        is_read: false,
-    };
-    assert!(rt; scans(rt.alloc(), &["pixel", "a b"], RATIO, done)?);
-    let refused = Ended {
-        exit: Exit::Refused,
-        written: b"halved: 0 portable 1 1\nlarge: 0 broken BoxSize 3\n",
-        said: b"sixel: text: NoString\nsixel: none: no such file\nsixel: halved: read failed\n",
-        ..done
-    };
+    let alloc = rt.alloc();
+    let lines = b"pixel: 0 portable 1 1\na b: 0 portable 1 1\n";
+    assert!(rt; ends_unread(alloc, SCAN, &["pixel", "a b"], Exit::Done, lines, b"")?);
     let names = ["text", "none", "halved", "large"];
-    assert!(rt; scans(rt.alloc(), &names, PIXEL, refused)?);
+    let lines = b"halved: 0 portable 1 1\nlarge: 0 broken BoxSize 3\n";
+    let said = b"sixel: text: NoString\nsixel: none: no such file\nsixel: halved: read failed\n";
+    assert!(rt; ends_unread(alloc, SCAN, &names, Exit::Refused, lines, said)?);
     Ok(())
 }
 
 /// Standard input has no name, and as `-` has that.
 #[test]
 fn standard_input(rt: HostRuntime) -> Result<(), Fail> {
-    let plain = Ended {
-        exit: Exit::Broken,
-        written: b"0 broken Ratio 3\n",
-        said: b"",
-        is_read: true,
-    };
-    assert!(rt; scans(rt.alloc(), &[], RATIO, plain)?);
-    let named = Ended {
-        written: b"pixel: 0 portable 1 1\n-: 0 broken Ratio 3\n",
-        ..plain
-    };
-    assert!(rt; scans(rt.alloc(), &["pixel", "-"], RATIO, named)?);
+    let plain = after_input(Exit::Broken, b"0 broken Ratio 3\n", b"");
+    assert!(rt; ends_over(rt.alloc(), &asked_of(SCAN, &[], RATIO), STREAMS, plain)?);
+    let lines = b"pixel: 0 portable 1 1\n-: 0 broken Ratio 3\n";
+    let named = after_input(Exit::Broken, lines, b"");
+    let asked = asked_of(SCAN, &["pixel", "-"], RATIO);
+    assert!(rt; ends_over(rt.alloc(), &asked, STREAMS, named)?);
     Ok(())
 }
 
@@ -80,26 +55,17 @@ fn options(rt: HostRuntime) -> Result<(), Fail> {
         profile: Profile::Registers256,
         eight_bit: true,
     };
-    let ended = Ended {
-        exit: Exit::Broken,
-        written: b"wide: 0 portable 2 1\neight: 0 broken EightBit 0\n",
-        said: b"",
-        is_read: false,
-    };
-    let asked = asked_of(task, &["wide", "eight"], PIXEL);
-    assert!(rt; ends_over(rt.alloc(), &asked, STREAMS, ended)?);
+    let names = ["wide", "eight"];
+    let lines = b"wide: 0 portable 2 1\neight: 0 broken EightBit 0\n";
+    assert!(rt; ends_unread(rt.alloc(), task, &names, Exit::Broken, lines, b"")?);
     Ok(())
 }
 
 /// What fits of the lines is written, and no further file is read.
 #[test]
 fn an_output_that_fails(rt: HostRuntime) -> Result<(), Fail> {
-    let ended = Ended {
-        exit: Exit::Refused,
-        written: b"log: 2 portable 1 1\nlog: 3",
-        said: b"sixel: write failed\n",
-        is_read: false,
-    };
+    let written = b"log: 2 portable 1 1\nlog: 3";
+    let ended = unread(Exit::Refused, written, b"sixel: write failed\n");
     let narrow = Streams {
         room: 26,
         ..STREAMS
@@ -161,26 +127,8 @@ fn lines_go_out_when_strings_end(rt: HostRuntime) -> Result<(), Fail> {
 /// A scan has no hint: each of its lines may name another rule.
 #[test]
 fn no_hint(rt: HostRuntime) -> Result<(), Fail> {
-    let terminal = Streams {
-        terminals: Terminals {
-            errors: true,
-            ..NO_TERMINALS
-        },
-        ..STREAMS
-    };
-    let ended = Ended {
-        exit: Exit::Broken,
-        written: b"ratio: 0 broken Ratio 3\n",
-        said: b"",
-        is_read: false,
-    };
-    assert!(rt;
-        ends_over(
-            rt.alloc(),
-            &asked_of(SCAN, &["ratio"], PIXEL),
-            terminal,
-            ended
-        )?
-    );
+    let ended = unread(Exit::Broken, b"ratio: 0 broken Ratio 3\n", b"");
+    let asked = asked_of(SCAN, &["ratio"], PIXEL);
+    assert!(rt; ends_over(rt.alloc(), &asked, SEEN, ended)?);
     Ok(())
 }

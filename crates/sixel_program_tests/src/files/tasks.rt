@@ -2,26 +2,14 @@
 
 ghost use Rattle.sixel_run.specs.Outputs.{HasSides};
 
-use super::{Ended, PIXEL, PNG, RED, STREAMS, Streams, WIDE, asked_of, ends_over};
+use super::{
+    PIXEL, PNG, RED, STREAMS, Streams, after_input, asked_of, ends_over, ends_unread, unread,
+};
 use crate::ends::{ENCODE, RENDER, SHOW, SHOW_BOX};
 use sixel_program::Exit;
 use sixel_run::Task;
 use std::alloc::{AllocError, Global};
 use std::test::Fail;
-
-/// Whether the task over the file of this name, where standard input has these bytes, ends so over these streams.
-fn ends_with(
-    alloc: Global,
-    task: Task,
-    name: &str,
-    input: &[u8],
-    streams: Streams,
-    ended: Ended<'_>,
-) -> Result<bool, AllocError>
-    requires { HasSides task }
-{
-    ends_over(alloc, &asked_of(task, &[name], input), streams, ended)
-}
 
 /// Whether the task writes this for these bytes: on standard input, without a name and as `-`; and in the file with
 /// this name, with other bytes on standard input that it doesn't read.
@@ -34,20 +22,11 @@ fn writes(
 ) -> Result<bool, AllocError>
     requires { HasSides task.now }
 {
-    let ended = Ended {
-        exit: Exit::Done,
-        written,
-        said: b"",
-        is_read: true,
-    };
-    let unread = Ended {
-        is_read: false,
-        ..ended
-    };
+    let ended = after_input(Exit::Done, written, b"");
     Ok(
         ends_over(alloc, &asked_of(*task, &[], bytes), STREAMS, ended)?
-            && ends_with(alloc, *task, "-", bytes, STREAMS, ended)?
-            && ends_with(alloc, *task, name, WIDE, STREAMS, unread)?,
+            && ends_over(alloc, &asked_of(*task, &["-"], bytes), STREAMS, ended)?
+            && ends_unread(alloc, *task, &[name], Exit::Done, written, b"")?,
     )
 }
 
@@ -77,13 +56,7 @@ fn ends_so(
 ) -> Result<bool, AllocError>
     requires { HasSides task }
 {
-    let ended = Ended {
-        exit,
-        written,
-        said,
-        is_read: false,
-    };
-    ends_with(alloc, task, name, PNG, STREAMS, ended)
+    ends_unread(alloc, task, &[name], exit, written, said)
 }
 
 /// The line of a fault, or of the rule that keeps a picture from being rendered, has the file's name.
@@ -119,36 +92,27 @@ fn files_of_other_formats(rt: HostRuntime) -> Result<(), Fail> {
     let other = b"sixel: png: NotSixel at 0\n\
         sixel: this is a PNG; `pngtopnm -mix | pnmdepth 255 | ppmtoppm | pnmquant 16 | sixel encode` makes sixel text of it\n";
     assert!(rt; ends_so(rt.alloc(), RENDER, "png", Exit::Refused, b"", other)?);
-    let input = Ended {
-        exit: Exit::Refused,
-        written: b"",
-        said: b"sixel: -: Header at 0\nsixel: this is a PNG; `pngtopnm -mix | pnmdepth 255 | ppmtoppm` makes a PPM (P6) of it\n",
-        is_read: true,
-    };
-    assert!(rt; ends_with(rt.alloc(), ENCODE, "-", PNG, STREAMS, input)?);
+    let said =
+        b"sixel: -: Header at 0\nsixel: this is a PNG; `pngtopnm -mix | pnmdepth 255 | ppmtoppm` makes a PPM (P6) of it\n";
+    let input = after_input(Exit::Refused, b"", said);
+    assert!(rt; ends_over(rt.alloc(), &asked_of(ENCODE, &["-"], PNG), STREAMS, input)?);
     Ok(())
 }
 
 /// No file is blamed if the output fails.
 #[test]
 fn an_output_that_fails(rt: HostRuntime) -> Result<(), Fail> {
-    let ended = Ended {
-        exit: Exit::Refused,
-        written: b"P6\n1",
-        said: b"sixel: write failed\n",
-        is_read: false,
-    };
+    let asked = asked_of(RENDER, &["pixel"], PNG);
+    let said = b"sixel: write failed\n";
     let narrow = Streams { room: 4, ..STREAMS };
-    assert!(rt; ends_with(rt.alloc(), RENDER, "pixel", PNG, narrow, ended)?);
-    let whole = Ended {
-        written: b"P6\n1 1\n100\n\0\0\0",
-        ..ended
-    };
+    let cut = unread(Exit::Refused, b"P6\n1", said);
+    assert!(rt; ends_over(rt.alloc(), &asked, narrow, cut)?);
     let unflushed = Streams {
         is_flushable: false,
         ..STREAMS
     };
-    assert!(rt; ends_with(rt.alloc(), RENDER, "pixel", PNG, unflushed, whole)?);
+    let whole = unread(Exit::Refused, b"P6\n1 1\n100\n\0\0\0", said);
+    assert!(rt; ends_over(rt.alloc(), &asked, unflushed, whole)?);
     Ok(())
 }
 
@@ -168,13 +132,8 @@ fn says_so(
         errors_room,
         ..STREAMS
     };
-    let ended = Ended {
-        exit,
-        written: b"",
-        said,
-        is_read: false,
-    };
-    ends_with(alloc, task, name, PIXEL, streams, ended)
+    let ended = unread(exit, b"", said);
+    ends_over(alloc, &asked_of(task, &[name], PIXEL), streams, ended)
 }
 
 /// What standard error can't take is left out.

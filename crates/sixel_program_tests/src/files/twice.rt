@@ -2,9 +2,11 @@
 
 ghost use Rattle.sixel_run.specs.Outputs.{HasSides};
 
-use super::{Ended, PIXEL, STREAMS, Streams, asked_of, check_of, ends_over};
+use super::{
+    Ended, INTERACTIVE, PIXEL, STREAMS, Streams, after_input, asked_of, check_of, ends_over, unread,
+};
 use crate::ends::{RENDER, SCAN, SURVEY};
-use sixel_program::{Exit, Terminals};
+use sixel_program::Exit;
 use sixel_run::Task;
 use std::alloc::{AllocError, Global};
 use std::test::Fail;
@@ -12,70 +14,36 @@ use std::test::Fail;
 const SAID: &[u8] =
     b"sixel: standard input is named twice\n\nFor more information, try '--help'.\n";
 
-const REFUSED: Ended<'static> = Ended {
-    exit: Exit::Usage,
-    written: b"",
-    said: SAID,
-    is_read: false,
-};
+/// A usage error: nothing is written, and nothing is read.
+fn refused() -> Ended<'static> {
+    unread(Exit::Usage, b"", SAID)
+}
 
 /// Whether the task over the files of these names is refused.
 fn is_refused(alloc: Global, task: Task, names: &[&str]) -> Result<bool, AllocError>
     requires { HasSides task }
 {
-    ends_over(alloc, &asked_of(task, names, PIXEL), STREAMS, REFUSED)
+    ends_over(alloc, &asked_of(task, names, PIXEL), STREAMS, refused())
 }
 
 #[test]
 fn several_tasks(rt: HostRuntime) -> Result<(), Fail> {
     assert!(rt; is_refused(rt.alloc(), SURVEY, &["-", "-"])?);
     assert!(rt; is_refused(rt.alloc(), SCAN, &["-", "pixel", "-"])?);
-    assert!(rt;
-        ends_over(
-            rt.alloc(),
-            &check_of(false, &["-", "-"], PIXEL),
-            STREAMS,
-            REFUSED
-        )?
-    );
-    assert!(rt;
-        ends_over(
-            rt.alloc(),
-            &check_of(true, &["-", "-"], PIXEL),
-            STREAMS,
-            REFUSED
-        )?
-    );
-    assert!(rt;
-        ends_over(
-            rt.alloc(),
-            &check_of(false, &["none", "-", "a b", "-", "-"], PIXEL),
-            STREAMS,
-            REFUSED
-        )?
-    );
+    let twice = check_of(false, &["-", "-"], PIXEL);
+    assert!(rt; ends_over(rt.alloc(), &twice, STREAMS, refused())?);
+    let quiet = check_of(true, &["-", "-"], PIXEL);
+    assert!(rt; ends_over(rt.alloc(), &quiet, STREAMS, refused())?);
+    let among = check_of(false, &["none", "-", "a b", "-", "-"], PIXEL);
+    assert!(rt; ends_over(rt.alloc(), &among, STREAMS, refused())?);
     Ok(())
 }
 
 /// No notice that the task waits comes before it.
 #[test]
 fn on_a_terminal(rt: HostRuntime) -> Result<(), Fail> {
-    let streams = Streams {
-        terminals: Terminals {
-            input: true,
-            output: true,
-            errors: true,
-        },
-        ..STREAMS
-    };
-    assert!(rt;
-        ends_over(
-            rt.alloc(),
-            &check_of(false, &["-", "-"], PIXEL),
-            streams,
-            REFUSED
-        )?
-    );
+    let twice = check_of(false, &["-", "-"], PIXEL);
+    assert!(rt; ends_over(rt.alloc(), &twice, INTERACTIVE, refused())?);
     Ok(())
 }
 
@@ -86,37 +54,17 @@ fn errors_that_fail(rt: HostRuntime) -> Result<(), Fail> {
         errors_room: 9,
         ..STREAMS
     };
-    let ended = Ended {
-        said: b"sixel: st",
-        ..REFUSED
-    };
-    assert!(rt;
-        ends_over(
-            rt.alloc(),
-            &check_of(false, &["-", "-"], PIXEL),
-            streams,
-            ended
-        )?
-    );
+    let twice = check_of(false, &["-", "-"], PIXEL);
+    let cut = unread(Exit::Usage, b"", b"sixel: st");
+    assert!(rt; ends_over(rt.alloc(), &twice, streams, cut)?);
     Ok(())
 }
 
 /// Any other task reads only the first of the files.
 #[test]
 fn one_file(rt: HostRuntime) -> Result<(), Fail> {
-    let black = Ended {
-        exit: Exit::Done,
-        written: b"P6\n1 1\n100\n\0\0\0",
-        said: b"",
-        is_read: true,
-    };
-    assert!(rt;
-        ends_over(
-            rt.alloc(),
-            &asked_of(RENDER, &["-", "-"], PIXEL),
-            STREAMS,
-            black
-        )?
-    );
+    let black = after_input(Exit::Done, b"P6\n1 1\n100\n\0\0\0", b"");
+    let asked = asked_of(RENDER, &["-", "-"], PIXEL);
+    assert!(rt; ends_over(rt.alloc(), &asked, STREAMS, black)?);
     Ok(())
 }
