@@ -44,7 +44,7 @@ echo Linux aarch64
 """
 
 # What the scripts call beside sha256sum.
-TOOLS = """awk bash cat cut date dirname env find head install mktemp mv readlink rm sh sleep sort tail touch uname
+TOOLS = """awk bash cat cut date dirname env find head install mktemp mv readlink rm rmdir sh sleep sort tail touch uname
     xargs""".split()
 
 # What ./install copies besides the program, and where to.
@@ -226,7 +226,8 @@ def run_failures(clone):
 
 
 NO_RT = "the command rt of the Rattle kit, which proves and builds it, is not on the PATH\n"
-STALE = f"sixel: dist/sixel isn't the program of these sources, and {NO_RT}"
+OLD = f"sixel: dist/sixel is older than the sources, and {NO_RT}"
+UNKNOWN = f"sixel: dist/sixel isn't the program of these sources, and {NO_RT}"
 SAME, OTHER = "dist/sixel is what these sources build\n", "./prove --write puts it there"
 
 
@@ -308,17 +309,20 @@ def run_other_dist(clone):
     clone.want_unbuilt(0, f"sixel: dist/sixel can't be executed, and {NO_RT}", "", PATH=clone.without_rt)
     clone.dist.chmod(0o755)
 
-    def want_stale(after, path, text, is_old=False):
+    def want_stale(after, path, text, is_old=False, said=OLD):
         kept = path.read_text()
         times = path.stat()
         path.write_text(text(kept))
         if is_old:
             os.utime(path, ns=(times.st_atime_ns, times.st_mtime_ns - 10**12))
-        clone.want_unbuilt(0, STALE, after, PATH=clone.without_rt)
+        clone.want_unbuilt(0, said, after, PATH=clone.without_rt)
         path.write_text(kept)
         clone.want_run("seventh", 0, f"as before it was tried {after}", PATH=clone.without_rt)
         clone.age()
         clone.want_run("seventh", 0, f"an hour after it was tried {after}", PATH=clone.without_rt)
+
+    def shout(text):
+        return text.replace("seventh", "SEVENTH")
 
     sums = clone.dist.with_name("sixel.built")
     want_stale("with a changed source", clone.main, lambda _: "eighth")
@@ -327,18 +331,18 @@ def run_other_dist(clone):
     want_stale("with another list of crates", crates, lambda it: it.replace("sixel: ", "sixel: itoa ", 1))
     want_stale("with the sum of other sources", sums, lambda it: "0" * 64 + it[64:])
     want_stale("with the sum of other sources, and an older time", sums, lambda it: "0" * 64 + it[64:], True)
-    want_stale("without sums", sums, lambda _: "")
-    want_stale("with another dist/sixel of the same size", clone.dist, lambda it: it.replace("seventh", "SEVENTH"))
-    want_stale("with another, older dist/sixel", clone.dist, lambda it: it.replace("seventh", "SEVENTH"), True)
+    want_stale("without sums", sums, lambda _: "", said=UNKNOWN)
+    want_stale("with another dist/sixel of the same size", clone.dist, shout, said=UNKNOWN)
+    want_stale("with another, older dist/sixel", clone.dist, shout, True, UNKNOWN)
     sums.rename(sums.with_name("kept"))
-    clone.want_unbuilt(0, STALE, "without dist/sixel.built", PATH=clone.without_rt)
+    clone.want_unbuilt(0, UNKNOWN, "without dist/sixel.built", PATH=clone.without_rt)
     sums.with_name("kept").rename(sums)
     proofs = clone.root / "crates/sixel_io/proofs"
     proofs.rename(clone.elsewhere / "proofs")
-    clone.want_unbuilt(0, STALE, "without a folder", PATH=clone.without_rt)
+    clone.want_unbuilt(0, OLD, "without a folder", PATH=clone.without_rt)
     if os.geteuid() == 0:
         got = clone.run_as_nobody()
-        said = f"{STALE.partition(' the command')[0]} the program can't be built: {clone.root} can't be written\n"
+        said = f"{OLD.partition(' the command')[0]} the program can't be built: {clone.root} can't be written\n"
         want(got == (125, "", said, 0), f"./sixel as nobody, without a folder: {got}")
     no_room = "the program can't be built: no file can be made in /no/where"
     clone.want_unbuilt(0, no_room, "without a folder for the log", TMPDIR="/no/where")
@@ -362,11 +366,15 @@ def run_install(clone):
     written = [path for path in clone.prefix.rglob("*") if path.is_file()]
     want(sorted(written) == sorted(targets), f"./install wrote {written}")
     clone.want_install(["--uninstall", clone.prefix], 0, "".join(f"removed {path}\n" for path in targets))
-    want(not any(path.exists() for path in targets), "./install --uninstall left files")
+    want(clone.prefix.exists(), "./install --uninstall removed PREFIX")
+    want(not any(clone.prefix.iterdir()), "./install --uninstall left something")
     clone.want_install(["--uninstall", clone.prefix], 1, f"none of its files is below {clone.prefix}\n")
-    # As an older one installed it.
-    (clone.prefix / "bin/sixel").write_text("")
+    # As an older one installed it, beside another program.
+    (clone.prefix / "bin").mkdir()
+    for name in ("sixel", "other"):
+        (clone.prefix / "bin" / name).write_text("")
     clone.want_install(["--uninstall", clone.prefix], 0, f"removed {clone.prefix}/bin/sixel\n")
+    want([path.name for path in clone.prefix.rglob("*")] == ["bin", "other"], "./install --uninstall: another's folder")
     # From the folder that it is called in.
     clone.want_install(["here"], 0, "installed here/bin/sixel")
     want((clone.elsewhere / "here/bin/sixel").exists(), "./install here: nothing is there")
