@@ -10,9 +10,8 @@ use Rattle.std.proofs.lemmas.List.Elements.{All-contains}
 use Rattle.std.proofs.lemmas.List.Folds.{concat-append}
 use Rattle.std.proofs.lemmas.Slice.Eq.{bytes_eq-Decides}
 use Rattle.sixel_explain.specs.declared.explanations.Topic.{Topic}
-use Rattle.sixel_explain.specs.Explanations.{all_called, is_line, last_name, line_of, listed_names, name_called}
+use Rattle.sixel_explain.specs.Explanations.{all_called, is_line, last_name, line_of, listed, listed_names, name_called}
 use Rattle.sixel_explain.specs.Explanations.{name_in, names_in, topic_name, topic_of_end, words_of}
-use Rattle.sixel_explain.specs.Explanations.{refusals_of_pictures, refusals_of_runs, refusals_of_text, rules}
 use Rattle.sixel_run.specs.Texts.{Text}
 use Rattle.sixel_explain.proofs.NameLemmas.{each, name_listed}
 
@@ -43,8 +42,7 @@ pub called : (word : Text) (found : Option Topic)
     → IfSome found (λ t. str_to_ascii_lowercase (topic_name t) ≡ word)
     → (IsNone found → (t : Topic) → str_to_ascii_lowercase (topic_name t) ≡ word → ⊥)
     → name_called word ≡ option_map topic_name found
-called word None is none =
-    no_name word (rules ++ refusals_of_text ++ refusals_of_pictures ++ refusals_of_runs) (none refl)
+called word None is none = no_name word listed (none refl)
 called word (Some t) is none = subst (λ (w : Text). name_called w ≡ Some (topic_name t)) is (called_itself t)
 
 or_none : (o : Option Text) → o ≡ option_or o None

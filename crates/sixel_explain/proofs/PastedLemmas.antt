@@ -27,9 +27,8 @@ use Rattle.sixel_run.specs.Texts.{Text, fault_parts, finding_line, line, pixel_p
 use Rattle.sixel_run.proofs.DigitLemmas.{AreDigits, number, number_digits}
 use Rattle.sixel_explain.specs.declared.explanations.Topic.{Topic}
 use Rattle.sixel_explain.specs.declared.explanations.Topic.TheVariants as topic
-use Rattle.sixel_explain.specs.Explanations.{ArePasted, ends_in, is_line, is_mark, last_name, line_of, listed_names}
-use Rattle.sixel_explain.specs.Explanations.{name_called, names_in}
-use Rattle.sixel_explain.specs.Explanations.{refusals_of_pictures, refusals_of_runs, refusals_of_text, rules}
+use Rattle.sixel_explain.specs.Explanations.{ArePasted, ends_in, is_line, is_mark, last_name, line_of, listed}
+use Rattle.sixel_explain.specs.Explanations.{listed_names, name_called, names_in}
 use Rattle.sixel_explain.specs.Explanations.{topic_name, topic_of, topic_of_end, words_of}
 use Rattle.sixel_explain.proofs.LineLemmas.{by_end, by_word, last_of_both, line_asks, no_name}
 use Rattle.sixel_explain.proofs.NameLemmas.{each, name_listed}
@@ -128,8 +127,7 @@ digits_begin_low (d ∷ ds) are = le-ltb 57 d are.0.1
 
 digits_are_no_name : (ds : Text) → AreDigits ds → name_called ds ≡ None
 digits_are_no_name ds are =
-    no_name ds (rules ++ refusals_of_text ++ refusals_of_pictures ++ refusals_of_runs)
-    (λ t is. true≢false (sym (names_begin_high t) ∙ ap begins_high is ∙ digits_begin_low ds are))
+    no_name ds listed (λ t is. true≢false (sym (names_begin_high t) ∙ ap begins_high is ∙ digits_begin_low ds are))
 
 pub low_number : (n : ℕ) → low (decimal n) ≡ decimal n
 low_number n = digits_are_low (decimal n) (number_digits n)

@@ -1,9 +1,9 @@
 -- What `explain` says, and of which topics.
 use Rattle.std.specs.Prelude.{◌≡◌, ◌∷◌, ◌++◌, ◌==◌, ℕ, Bool, List, [], Option, Some, None, codes, find, map}
 use Rattle.std.specs.Prelude.{◌<◌, ◌≤◌, ◌&&◌, ◌||◌, All, Contains, chars, drop, if◌then◌else◌, is_some, length}
-use Rattle.std.specs.Prelude.{nat_eq, nat_le, option_map}
+use Rattle.std.specs.Prelude.{flat_map, nat_le, option_map}
 use Rattle.std.specs.Io.{StartsWith}
-use Rattle.std.specs.List.{after_first, concat, ends_with, list_any, slice_split}
+use Rattle.std.specs.List.{concat, ends_with, list_any, slice_split}
 use Rattle.std.specs.Option.{option_and_then, option_or}
 use Rattle.std.specs.Str.{bytes_eq, str_to_ascii_lowercase}
 use Rattle.strsim.specs.Edits.{osa_table}
@@ -13,7 +13,9 @@ use Rattle.sixel_grammar.specs.declared.fault.Reason.TheVariants.{Trailing}
 use Rattle.sixel_model.specs.declared.rule.Rule.TheVariants.{RasterFirst, RasterTwice, Ratio, BoxSize, Register}
 use Rattle.sixel_model.specs.declared.rule.Rule.TheVariants.{ColourValue, RepeatZero, Unselected, Undefined, Redefined}
 use Rattle.sixel_model.specs.declared.rule.Rule.TheVariants.{Outside, Uncovered, EightBit}
+use Rattle.sixel_model.specs.Rules.{all_rules}
 use Rattle.sixel_ppm.specs.declared.ppm.PpmReason.TheVariants.{Header, Size, Maxval, Sample, Short, TooManyColours}
+use Rattle.sixel_ppm.specs.declared.ppm.PpmReason.TheVariants.{Trailing as PpmTrailing}
 use Rattle.sixel_explain.specs.declared.explanations.Topic.{Topic}
 use Rattle.sixel_explain.specs.declared.explanations.Topic.TheVariants.{Rule, Grammar, Ppm, NotRgb, NoBox, OutOfMemory}
 use Rattle.sixel_explain.specs.declared.explanations.Topic.TheVariants.{NoString, Empty, TooLarge, Read, Write}
@@ -50,9 +52,7 @@ topic_of fault.Read = Read
 topic_of fault.Write = Write
 
 abbrev pub rules : List Topic
-rules = Rule RasterFirst ∷ Rule RasterTwice ∷ Rule Ratio ∷ Rule BoxSize ∷ Rule Register ∷ Rule ColourValue
-    ∷ Rule RepeatZero ∷ Rule Unselected ∷ Rule Undefined ∷ Rule Redefined ∷ Rule Outside ∷ Rule Uncovered
-    ∷ Rule EightBit ∷ []
+rules = map Rule all_rules
 
 abbrev pub refusals_of_text : List Topic
 refusals_of_text = Grammar NotSixel ∷ Grammar BadByte ∷ Grammar NumberTooLarge ∷ Grammar FieldCount ∷ Grammar BadRepeat
@@ -66,23 +66,61 @@ refusals_of_pictures =
 abbrev pub refusals_of_runs : List Topic
 refusals_of_runs = NotRgb ∷ NoBox ∷ NoString ∷ Empty ∷ TooLarge ∷ OutOfMemory ∷ Read ∷ Write ∷ []
 
--- the listed names, in this order
+-- the listed topics, in this order
+abbrev pub listed : List Topic
+listed = rules ++ refusals_of_text ++ refusals_of_pictures ++ refusals_of_runs
+
 abbrev pub listed_names : List Text
-listed_names = map topic_name (rules ++ refusals_of_text ++ refusals_of_pictures ++ refusals_of_runs)
+listed_names = map topic_name listed
 
-abbrev pub is_line_feed : ℕ → Bool
-is_line_feed byte = nat_eq byte 10
+-- what follows the name of a topic in the list and in its explanation
+abbrev pub summary : Topic → Text
+summary (Rule RasterFirst) = codes "data, return, new line or terminator before any raster attributes"
+summary (Rule RasterTwice) = codes "raster attributes more than once"
+summary (Rule Ratio) = codes "a pixel aspect ratio not written as 1;1"
+summary (Rule BoxSize) = codes "a width or height outside 1 to 2,048"
+summary (Rule Register) = codes "a register above 15, or above 255 with --wide"
+summary (Rule ColourValue) = codes "a colour system other than 1 or 2, or a coordinate out of range"
+summary (Rule RepeatZero) = codes "a repeat of 0"
+summary (Rule Unselected) = codes "painting while no register is known"
+summary (Rule Undefined) = codes "painting in a register that is not defined yet"
+summary (Rule Redefined) = codes "a different colour for a register already painted in"
+summary (Rule Outside) = codes "a set bit outside the box"
+summary (Rule Uncovered) = codes "a pixel of the box that no set bit covers, at the terminator"
+summary (Rule EightBit) = codes "the byte 90 as the introducer, or 9C as the terminator"
+summary (Grammar NotSixel) = codes "input that doesn't start like a sixel string"
+summary (Grammar BadByte) = codes "unexpected byte"
+summary (Grammar NumberTooLarge) = codes "a number above 65,535"
+summary (Grammar FieldCount) = codes "too many or too few numbers in a command"
+summary (Grammar BadRepeat) = codes "a repeat without a sixel after its count"
+summary (Grammar BadTerminator) = codes "an ESC that isn't followed by \\"
+summary (Grammar Truncated) = codes "input that ends before the terminator is complete"
+summary (Grammar TooLong) = codes "input of more than 268,435,456 bytes"
+summary (Grammar Trailing) = codes "data after the terminator, or after the last sample of a PPM"
+summary (Ppm Header) = codes "not a valid P6 header"
+summary (Ppm Size) = codes "a PPM width or height outside 1 to 2,048"
+summary (Ppm Maxval) = codes "a PPM maxval outside 1 to 255"
+summary (Ppm Sample) = codes "a PPM sample above the maxval"
+summary (Ppm TooManyColours) = codes "a picture of more than 16 colours, or more than 256 with --wide"
+summary (Ppm Short) = codes "a PPM that ends before its last sample"
+summary (Ppm PpmTrailing) = codes "data after the terminator, or after the last sample of a PPM"
+summary NotRgb = codes "a colour of hue, lightness and saturation that would appear in a PPM"
+summary NoBox = codes "a text that declares no box of a possible screen size"
+summary NoString = codes "input to scan that has no sixel string"
+summary Empty = codes "a text to mend that paints nothing and declares no width or no height"
+summary TooLarge = codes "a text to mend whose picture has a side above 2,048"
+summary OutOfMemory = codes "an allocation failed"
+summary Read = codes "input that couldn't be opened or read"
+summary Write = codes "output that couldn't be written"
 
--- the text has one line for each name, which begins with the name and a colon
-abbrev pub ListsNames : List Text → Text → Type 0
-ListsNames [] text = text ≡ []
-ListsNames (name ∷ more) text =
-    StartsWith text (name ++ codes ": ") × ListsNames more (after_first is_line_feed text)
+-- the name of a topic, a colon and its summary
+abbrev pub first_line : Topic → Text
+first_line topic = topic_name topic ++ codes ": " ++ summary topic ++ 10 ∷ []
 
--- the explanation of a topic begins with its name and a colon; without a topic, it is the list of names
+-- the explanation of a topic begins with its first line; without a topic, it is the first line of each listed one
 abbrev pub IsExplanation : Option Topic → Text → Type 0
-IsExplanation None text = ListsNames listed_names text
-IsExplanation (Some topic) text = StartsWith text (topic_name topic ++ codes ": ")
+IsExplanation None text = text ≡ flat_map first_line listed
+IsExplanation (Some topic) text = StartsWith text (first_line topic)
 
 -- the explanations of more topics, each after an empty line
 abbrev pub AreFurther : List Topic → Text → Type 0

@@ -1,8 +1,9 @@
 //! What `explain` prints about rules and refusals.
 
-ghost use Rattle.std.specs.Prelude.{◌≡◌, IfSome, IsNone};
+ghost use Rattle.std.specs.Prelude.{◌==◌, ◌≡◌, ◌≤◌, IfSome, IsNone, length};
+ghost use Rattle.std.specs.List.{after_first, before_first};
 ghost use Rattle.std.specs.Str.{str_to_ascii_lowercase};
-ghost use Rattle.sixel_explain.specs.Explanations.{IsExplanation, topic_name};
+ghost use Rattle.sixel_explain.specs.Explanations.{IsExplanation, summary, topic_name};
 ghost use Rattle.sixel_explain.specs.declared.explanations.Topic.{Topic as ATopic};
 
 use crate::refusals;
@@ -61,7 +62,25 @@ pub(crate) fn topic_named(name: &str) -> Option<Topic>
     }
 }
 
-/// The explanation of a topic, or the list of all names, one per line. It ends with a line feed.
+/// What follows a topic's name in the list of names and in its explanation.
+#[tactic(auto, using(crate::proofs::SummaryLemmas::cut_explanation, crate::proofs::SummaryLemmas::is_short))]
+pub fn summary(topic: Topic) -> &'static str
+    ensures text { result.now ≡ summary topic }
+    ensures short { length result.now ≤ 69 }
+{
+    summary_in(explanation(Some(topic)))
+}
+
+/// What follows the first space of a text, up to the end of the line.
+fn summary_in(text: &'static str) -> &'static str
+    ensures { result.now ≡ before_first (λ byte. byte == 10) (after_first (λ byte. byte == 32) text.now) }
+{
+    let (_, rest) = text.split_once(' ').unwrap_or((text, ""));
+    let (summary, _) = rest.split_once('\n').unwrap_or((rest, ""));
+    summary
+}
+
+/// The explanation of a topic, or the list of all names with their summaries, one per line. It ends with a line feed.
 pub fn explanation(topic: Option<Topic>) -> &'static str
     ensures { IsExplanation topic result.now }
 {

@@ -1,10 +1,12 @@
 //! The explanation of each reason for refusing a run. docs/REFUSALS.md has the same text.
 
-ghost use Rattle.std.specs.Prelude.{◌≡◌, ◌++◌, IfSome, IsNone, codes};
+ghost use Rattle.std.specs.Prelude.{◌≡◌, IfSome, IsNone};
 ghost use Rattle.std.specs.Io.{StartsWith};
 ghost use Rattle.std.specs.Str.{str_to_ascii_lowercase};
 ghost use Rattle.sixel_grammar.specs.declared.fault.Reason.{Reason as AReason};
 ghost use Rattle.sixel_ppm.specs.declared.ppm.PpmReason.{PpmReason as APpmReason};
+ghost use Rattle.sixel_explain.specs.declared.explanations.Topic.TheVariants as topic;
+ghost use Rattle.sixel_explain.specs.Explanations.{first_line};
 ghost use Rattle.sixel_run.specs.Texts.{ppm_reason_name, reason_name};
 
 use sixel_grammar::Reason;
@@ -48,7 +50,7 @@ pub fn ppm_reason_named(name: &str) -> Option<PpmReason>
 
 /// Why sixel text is refused, a string that is, and how to fix it.
 pub fn of_reason(reason: Reason) -> &'static str
-    ensures { StartsWith result.now (reason_name reason ++ codes ": ") }
+    ensures { StartsWith result.now (first_line (topic.Grammar reason)) }
 {
     match reason {
         Reason::NotSixel => NOT_SIXEL,
@@ -65,7 +67,7 @@ pub fn of_reason(reason: Reason) -> &'static str
 
 /// The same for a PPM. One explanation of `Trailing` covers both.
 pub fn of_ppm_reason(reason: PpmReason) -> &'static str
-    ensures { StartsWith result.now (ppm_reason_name reason ++ codes ": ") }
+    ensures { StartsWith result.now (first_line (topic.Ppm reason)) }
 {
     match reason {
         PpmReason::Header => HEADER,

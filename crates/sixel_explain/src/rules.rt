@@ -1,9 +1,11 @@
 //! The explanation of each rule. docs/RULES.md has the same text.
 
-ghost use Rattle.std.specs.Prelude.{◌≡◌, ◌++◌, IfSome, IsNone, codes};
+ghost use Rattle.std.specs.Prelude.{◌≡◌, IfSome, IsNone};
 ghost use Rattle.std.specs.Io.{StartsWith};
 ghost use Rattle.std.specs.Str.{str_to_ascii_lowercase};
 ghost use Rattle.sixel_model.specs.declared.rule.Rule.{Rule as ARule};
+ghost use Rattle.sixel_explain.specs.declared.explanations.Topic.TheVariants as topic;
+ghost use Rattle.sixel_explain.specs.Explanations.{first_line};
 ghost use Rattle.sixel_run.specs.Texts.{rule_name};
 
 use sixel_check::Rule;
@@ -34,7 +36,7 @@ pub fn rule_named(name: &str) -> Option<Rule>
 /// What the rule means, what breaks it, how terminals differ, a string that breaks it, how to fix it, and what `mend`
 /// does with it.
 pub fn of_rule(rule: Rule) -> &'static str
-    ensures { StartsWith result.now (rule_name rule ++ codes ": ") }
+    ensures { StartsWith result.now (first_line (topic.Rule rule)) }
 {
     match rule {
         Rule::RasterFirst => RASTER_FIRST,
