@@ -2,7 +2,6 @@
 use Rattle.std.proofs.Common.{◌≡◌, ◌∙◌, ◌∷◌, ℕ, List, [], Option}
 use Rattle.std.proofs.Common.{Some, None, refl, sym, ap, subst, inl, inr}
 use Rattle.std.specs.Prelude.{Result, Ok, Err, IfSome}
-use Rattle.std.specs.List.{concat}
 use Rattle.std.proofs.lemmas.List.{append-nil}
 use Rattle.sixel_grammar.specs.declared.command.Placed.{Placed}
 use Rattle.sixel_grammar.specs.declared.fault.Fault.{Fault}
@@ -24,7 +23,8 @@ use Rattle.sixel_run.specs.declared.fault.RunFault.TheVariants.{Grammar, OutOfMe
 use Rattle.sixel_run.specs.declared.task.Status.{Status}
 use Rattle.sixel_run.specs.Conversions.{of_input}
 use Rattle.sixel_run.specs.Outputs.{CheckGives, outcome_status, status_of}
-use Rattle.sixel_run.specs.Texts.{Text, outcome_line, verdict_line}
+use Rattle.sixel_run.specs.declared.item.Item.TheVariants.{Outcome as Said}
+use Rattle.sixel_run.specs.Texts.{Text, items_text, outcome_line, verdict_line}
 
 -- two verdicts on one document are the same
 pub same_verdict : (registers : ℕ) (bytes : List ℕ) (d e : List Placed) (v w : Verdict)
@@ -89,7 +89,7 @@ status_same (Broken f) = refl
 
 pub checked : (registers : ℕ) (told : Option (List ℕ)) (o : Outcome)
     → IfSome told (AnswersOutcome registers (Ok o))
-    → IfSome told (λ bytes. CheckGives registers bytes (concat (outcome_line o ∷ [])) (Ok (outcome_status o)))
+    → IfSome told (λ bytes. CheckGives registers bytes (items_text (Said o ∷ [])) (Ok (outcome_status o)))
 checked registers None o given = tt
 checked registers (Some bytes) o given = (
   given.1.0,

@@ -12,13 +12,13 @@ use Rattle.sixel_model.specs.declared.rule.Rule.TheVariants as rule
 use Rattle.sixel_judge.specs.declared.verdict.Outcome.{Outcome}
 use Rattle.sixel_judge.specs.declared.verdict.Outcome.TheVariants.{Portable, Broken}
 use Rattle.sixel_survey.specs.declared.entry.Entry.{Entry}
-use Rattle.sixel_survey.specs.declared.entry.Survey.{Survey as ASurvey}
 use Rattle.sixel_scan.specs.declared.answer.Answer.{Answer}
 use Rattle.sixel_scan.specs.declared.answer.Answer.TheVariants as scanned
 use Rattle.sixel_scan.specs.declared.answer.Scanned.{Scanned}
-use Rattle.sixel_run.specs.Scanned.{string_lines}
+use Rattle.sixel_run.specs.declared.item.Item.{Item}
+use Rattle.sixel_run.specs.declared.item.Item.TheVariants as item
 use Rattle.sixel_run.specs.Texts.{IsLine, Text, entry_line, line, numbers, pixel_parts, rule_name, size_line, spaced}
-use Rattle.sixel_run.specs.Texts.{answer_line, reason_name, string_line, survey_lines, outcome_line}
+use Rattle.sixel_run.specs.Texts.{answer_line, item_line, outcome_line, reason_name}
 use Rattle.sixel_run.proofs.DigitLemmas.{AreDigits, number_digits}
 
 -- a text without line feeds
@@ -129,24 +129,6 @@ entry_is_line e =
     is_line (rule_name e.rule) (decimal e.count ∷ decimal e.place ∷ pixel_parts e.rule e.pixel) (rule_unfed e.rule)
     (number_unfed e.count, (number_unfed e.place, pixel_unfed e.rule e.pixel))
 
-entries_are_lines : (entries : List Entry) → All IsLine (map entry_line entries)
-entries_are_lines [] = All-nil IsLine
-entries_are_lines (e ∷ entries) =
-    All-cons IsLine (entry_line e) (map entry_line entries) (entry_is_line e) (entries_are_lines entries)
-
-size_is_line : (size : Option (ℕ × ℕ)) → All IsLine (map (λ size. size_line size.0 size.1) (option_to_list size))
-size_is_line None = All-nil IsLine
-size_is_line (Some size) =
-    All-cons IsLine (size_line size.0 size.1) []
-    (is_line (codes "portable") (numbers (size.0 ∷ size.1 ∷ [])) (name_unfed (codes "portable") refl)
-    (number_unfed size.0, (number_unfed size.1, tt)))
-    (All-nil IsLine)
-
-pub survey_is_lines : (s : ASurvey) → All IsLine (survey_lines s)
-survey_is_lines s =
-    All-append IsLine (map entry_line s.entries.items) (map (λ size. size_line size.0 size.1) (option_to_list s.size))
-    (entries_are_lines s.entries.items) (size_is_line s.size)
-
 -- ---- strings
 
 answer_is_line : (place : ℕ) (a : Answer) → IsLine (decimal place ++ 32 ∷ answer_line a)
@@ -161,8 +143,9 @@ answer_is_line place (scanned.Refused f) =
     after_place place (codes "refused") (reason_name f.reason ∷ decimal f.place ∷ [])
     (name_unfed (codes "refused") refl) (reason_unfed f.reason, (number_unfed f.place, tt))
 
-pub strings_are_lines : (reports : List Scanned) → All IsLine (string_lines reports)
-strings_are_lines [] = All-nil IsLine
-strings_are_lines (r ∷ reports) =
-    All-cons IsLine (string_line r) (string_lines reports) (answer_is_line r.place r.answer)
-    (strings_are_lines reports)
+-- ---- items
+
+pub item_is_line : (i : Item) → IsLine (item_line i)
+item_is_line (item.Outcome outcome) = outcome_is_line outcome
+item_is_line (item.Entry entry) = entry_is_line entry
+item_is_line (item.String s) = answer_is_line s.place s.answer

@@ -3,11 +3,8 @@ use Rattle.std.proofs.Common.{◌≡◌, ◌∙◌, ◌+◌, ◌<◌, ◌++◌, 
 use Rattle.std.proofs.Common.{get_or, inl, inr, length, map, refl, subst, sym}
 use Rattle.std.specs.Prelude.{◌≢◌, Result, Ok, Err, IfSome, OnOk}
 use Rattle.std.specs.Io.KnownBytes.{Appends, IsAtEnd}
-use Rattle.std.specs.List.{All, concat}
 use Rattle.std.proofs.lemmas.List.{append-nil, map-append, take-append-drop, take_more}
 use Rattle.std.proofs.lemmas.Grind.{flat_map-append}
-use Rattle.std.proofs.lemmas.List.Elements.{All-nil}
-use Rattle.arrayvec.specs.ArrayVec.{ArrayVec}
 use Rattle.sixel_io.specs.Devices.{Change, ReadsToEnd, SinkState, SourceState, Writes, change}
 use Rattle.sixel_io.specs.declared.device.DeviceFault.{DeviceFault}
 use Rattle.sixel_io.proofs.SinkLemmas.{Appends-none}
@@ -18,60 +15,52 @@ use Rattle.sixel_grammar.specs.Faults.{IsFaultOf}
 use Rattle.sixel_grammar.specs.Reading.{Explains, NoFaultBefore, failures_after}
 use Rattle.sixel_run.specs.declared.fault.RunFault.{RunFault}
 use Rattle.sixel_run.specs.declared.fault.RunFault.TheVariants.{Grammar, OutOfMemory, Read, Write}
+use Rattle.sixel_run.specs.declared.item.Item.{Item}
+use Rattle.sixel_run.specs.declared.item.Item.TheVariants.{Entry as AnEntry}
+use Rattle.sixel_survey.specs.declared.entry.Entry.{Entry}
 use Rattle.sixel_run.specs.declared.task.Status.{Status}
 use Rattle.sixel_run.specs.declared.task.Task.{Task}
 use Rattle.sixel_run.specs.declared.task.Task.TheVariants.{List as Listing, Scan}
 use Rattle.sixel_run.specs.Conversions.{of_input}
-use Rattle.sixel_run.specs.LineTasks.{EndsAs, IsOverFor, PutsText, ReadsOver, WritesLines, scans, texts_of}
+use Rattle.sixel_run.specs.LineTasks.{EndsAs, IsOverFor, PutsText, ReadsOver, WritesItems, scans}
 use Rattle.sixel_run.specs.Outputs.{CountsWrites, FoundNoFault, Gives, TakesMemory, Wrote, WroteBefore, WroteBy}
 use Rattle.sixel_run.specs.Outputs.{WroteUnread, failures_by}
-use Rattle.sixel_run.specs.Texts.{BeginsWith, IsLine, Text}
+use Rattle.sixel_run.specs.Texts.{BeginsWith, Text, item_line, items_text}
 use Rattle.sixel_run.proofs.PutLemmas.{begins-then}
 use Rattle.sixel_run.proofs.RunLemmas.{gives-once}
-use Rattle.sixel_run.proofs.StringLemmas.{plain_lines}
 
--- ---- some lines
+-- ---- some items
 
--- the texts of some lines and one more
-pub texts_then : (lines : List (ArrayVec ℕ)) (line : ArrayVec ℕ)
-    → texts_of (lines ++ line ∷ []) ≡ texts_of lines ++ line.items ∷ []
-texts_then lines line = map-append (λ (l : ArrayVec ℕ). l.items) lines (line ∷ [])
-
--- what is written for the first lines and the next one
-pub written_more : (written : Text → Text) (lines : List (ArrayVec ℕ)) (i : ℕ) (line : ArrayVec ℕ) → i < length lines
-    → line ≡ get_or lines i line
-    → flat_map written (texts_of (take i lines)) ++ written line.items
-    ≡ flat_map written (texts_of (take (i + 1) lines))
-written_more written lines i line short there =
-    let next = get_or lines i line in
-    let first = texts_of (take i lines) in
-    ap (λ (l : ArrayVec ℕ). flat_map written first ++ written l.items) there
-    ∙ sym (
-    ap (λ (ls : List (ArrayVec ℕ)). flat_map written (texts_of ls)) (take_more lines i line short)
-    ∙ ap (flat_map written) (texts_then (take i lines) next) ∙ flat_map-append written first (next.items ∷ [])
-    ∙ ap (λ (t : Text). flat_map written first ++ t) (append-nil (written next.items))
-    )
+-- what is written for the first items and the next one
+pub written_more : (written : Item → Text) (items : List Item) (i : ℕ) (d : Item) → i < length items
+    → flat_map written (take i items) ++ written (get_or items i d) ≡ flat_map written (take (i + 1) items)
+written_more written items i d short =
+    sym (ap (flat_map written) (take_more items i d short) ∙ flat_map-append written (take i items) _
+    ∙ ap (λ (t : Text). flat_map written (take i items) ++ t) (append-nil (written (get_or items i d))))
 
 -- and for those after it
-pub written_all : (written : Text → Text) (lines : List (ArrayVec ℕ)) (i : ℕ) (line : ArrayVec ℕ) → i < length lines
-    → line ≡ get_or lines i line
-    → flat_map written (texts_of lines)
-    ≡ (flat_map written (texts_of (take i lines)) ++ written line.items)
-    ++ flat_map written (texts_of (drop (i + 1) lines))
-written_all written lines i line short there =
-    let rest = drop (i + 1) lines in
-    ap (λ (ls : List (ArrayVec ℕ)). flat_map written (texts_of ls)) (sym (take-append-drop (i + 1) lines))
-    ∙ ap (flat_map written) (map-append (λ (l : ArrayVec ℕ). l.items) (take (i + 1) lines) rest)
-    ∙ flat_map-append written (texts_of (take (i + 1) lines)) (texts_of rest)
-    ∙ ap (λ (t : Text). t ++ flat_map written (texts_of rest)) (sym (written_more written lines i line short there))
+pub written_all : (written : Item → Text) (items : List Item) (i : ℕ) (d : Item) → i < length items
+    → flat_map written items
+    ≡ (flat_map written (take i items) ++ written (get_or items i d)) ++ flat_map written (drop (i + 1) items)
+written_all written items i d short =
+    let rest = drop (i + 1) items in
+    ap (flat_map written) (sym (take-append-drop (i + 1) items)) ∙ flat_map-append written (take (i + 1) items) rest
+    ∙ ap (λ (t : Text). t ++ flat_map written rest) (sym (written_more written items i d short))
 
--- the first lines and the next one, joined
-pub joined_more : (lines : List (ArrayVec ℕ)) (i : ℕ) (line : ArrayVec ℕ) (before after : Text) → i < length lines
-    → line ≡ get_or lines i line → before ≡ concat (texts_of (take i lines)) → after ≡ before ++ line.items
-    → after ≡ concat (texts_of (take (i + 1) lines))
-joined_more lines i line before after short there is more =
-    more ∙ ap (λ (t : Text). t ++ line.items) (is ∙ sym (plain_lines (texts_of (take i lines))))
-    ∙ written_more (λ (t : Text). t) lines i line short there ∙ plain_lines (texts_of (take (i + 1) lines))
+-- the items of the first entries and the next one
+pub entry_pushed : (entries : List Entry) (i : ℕ) (d : Entry) (before after : List Item) → i < length entries
+    → before ≡ map AnEntry (take i entries) → after ≡ before ++ AnEntry (get_or entries i d) ∷ []
+    → after ≡ map AnEntry (take (i + 1) entries)
+entry_pushed entries i d before after short is more =
+    more ∙ ap (λ (items : List Item). items ++ AnEntry (get_or entries i d) ∷ []) is
+    ∙ sym (ap (map AnEntry) (take_more entries i d short) ∙ map-append AnEntry (take i entries) (get_or entries i d ∷ []))
+
+-- the lines of the first items and of the next one
+pub line_pushed : (items : List Item) (i : ℕ) (d : Item) (before after : Text) → i < length items
+    → before ≡ flat_map item_line (take i items) → after ≡ before ++ item_line (get_or items i d)
+    → after ≡ flat_map item_line (take (i + 1) items)
+line_pushed items i d before after short is more =
+    more ∙ ap (λ (t : Text). t ++ item_line (get_or items i d)) is ∙ written_more item_line items i d short
 
 -- ---- a check or a survey
 
@@ -121,7 +110,7 @@ reads_counted A (input.Grammar f) old new is = is
 reads_counted A input.OutOfMemory old new is = is
 reads_counted A input.Read old new is = is
 
-pub lines_refused : (A : Type 0) (t : Task) → scans t ≡ false → (written : Text → Text) (fault : InputFault)
+pub lines_refused : (A : Type 0) (t : Task) → scans t ≡ false → (written : Item → Text) (fault : InputFault)
     (i : Change SourceState) (o : SinkState)
     → IfSome i.old.remaining
     (λ bytes. Wrote t bytes i.new.remaining (Err (of_input fault)) (Some []) (Some []))
@@ -129,12 +118,11 @@ pub lines_refused : (A : Type 0) (t : Task) → scans t ≡ false → (written :
     → TakesMemory t i.old.remaining)
     → ReadsToEnd (let k : Result A InputFault = Err fault in k) i.old.remaining i.new.remaining
     → i.new.failures ≡ failures_after (let k : Result A InputFault = Err fault in k) i.old.failures
-    → WritesLines t written (Err (of_input fault)) i (change o o)
+    → WritesItems t written (Err (of_input fault)) i (change o o)
 lines_refused A t unscanned written fault i o wrote memory read reads = record {
   found = Err (of_input fault);
-  lines = [];
+  items = [];
   wrote = wrote;
-  are_lines = All-nil IsLine;
   refused = λ none other is. refl;
   unwritten = λ none. fault_unwritten fault;
   ends = inl refl;
@@ -151,10 +139,10 @@ wrote_given : (t : Task) (told left : Option (List ℕ)) (text : Text) (s : Stat
 wrote_given t None left text s given = tt
 wrote_given t (Some bytes) left text s given = (text, given, refl)
 
--- it has these lines
-module _ (A : Type 0) (x : A) (t : Task) (unscanned : scans t ≡ false) (written : Text → Text) (lines : List Text)
+-- it has these items
+module _ (A : Type 0) (x : A) (t : Task) (unscanned : scans t ≡ false) (written : Item → Text) (items : List Item)
     (s : Status) (i : Change SourceState) (o₀ o₁ : SinkState)
-    (given : IfSome i.old.remaining (λ bytes. Gives t bytes (concat lines) (Ok s))) (are : All IsLine lines)
+    (given : IfSome i.old.remaining (λ bytes. Gives t bytes (items_text items) (Ok s)))
     (read : ReadsToEnd (let k : Result A InputFault = Ok x in k) i.old.remaining i.new.remaining)
     (reads : i.new.failures ≡ i.old.failures) where
   over_all : ReadsOver t (Ok s) i.old.remaining i.new.remaining
@@ -166,13 +154,12 @@ module _ (A : Type 0) (x : A) (t : Task) (unscanned : scans t ≡ false) (writte
 
   -- which were put
   pub lines_put : (B : Type 0) (y : B)
-      → Writes (let k : Result B DeviceFault = Ok y in k) o₀ o₁ (flat_map written lines)
-      → WritesLines t written (Ok s) i (change o₀ o₁)
+      → Writes (let k : Result B DeviceFault = Ok y in k) o₀ o₁ (flat_map written items)
+      → WritesItems t written (Ok s) i (change o₀ o₁)
   lines_put B y put = record {
     found = Ok s;
-    lines = lines;
-    wrote = wrote_given t i.old.remaining i.new.remaining (concat lines) s given;
-    are_lines = are;
+    items = items;
+    wrote = wrote_given t i.old.remaining i.new.remaining (items_text items) s given;
     refused = λ none fault is. cc;
     unwritten = λ none is. cc;
     ends = inl refl;
@@ -185,13 +172,12 @@ module _ (A : Type 0) (x : A) (t : Task) (unscanned : scans t ≡ false) (writte
 
   -- or the output failed
   pub lines_cut : (B : Type 0) (f : DeviceFault)
-      → Writes (let k : Result B DeviceFault = Err f in k) o₀ o₁ (flat_map written lines)
-      → WritesLines t written (Err Write) i (change o₀ o₁)
+      → Writes (let k : Result B DeviceFault = Err f in k) o₀ o₁ (flat_map written items)
+      → WritesItems t written (Err Write) i (change o₀ o₁)
   lines_cut B f put = record {
     found = Ok s;
-    lines = lines;
-    wrote = wrote_given t i.old.remaining i.new.remaining (concat lines) s given;
-    are_lines = are;
+    items = items;
+    wrote = wrote_given t i.old.remaining i.new.remaining (items_text items) s given;
     refused = λ none fault is. cc;
     unwritten = λ none is. cc;
     ends = inr (s, refl, refl);
@@ -202,7 +188,7 @@ module _ (A : Type 0) (x : A) (t : Task) (unscanned : scans t ≡ false) (writte
     writes = put.failures;
   }
 
--- ---- lines as they are
+-- ---- items as lines
 
 put_as : (had has : Option (List ℕ)) (xs ys : List ℕ) → xs ≡ ys → Appends had has xs → Appends had has ys
 put_as had has xs ys same put = rw (← same) put
@@ -260,11 +246,11 @@ plain_if t (Some bytes) left had has found answer text ends w put =
     plain_by t bytes left had has found answer text ends w put
 
 module _ (t : Task) (answer : Result Status RunFault) (i : Change SourceState) (o : Change SinkState)
-    (k : WritesLines t (λ line. line) answer i o) where
+    (k : WritesItems t item_line answer i o) where
   pub plain_wrote : IfSome i.old.remaining (λ bytes. Wrote t bytes i.new.remaining answer o.old.taken o.new.taken)
   plain_wrote =
-      plain_if t i.old.remaining i.new.remaining o.old.taken o.new.taken k.found answer (concat k.lines) k.ends k.wrote
-      (subst (PutsText answer o.old.taken o.new.taken) (plain_lines k.lines) k.put)
+      plain_if t i.old.remaining i.new.remaining o.old.taken o.new.taken k.found answer (items_text k.items) k.ends k.wrote
+      k.put
 
 pub same_found : (found answer : Result Status RunFault) → EndsAs found answer → answer ≢ Err Write → answer ≡ found
 same_found found answer (inl same) other = same

@@ -1,5 +1,5 @@
 -- What a run of `scan` owes.
-use Rattle.std.proofs.Common.{◌≡◌, ◌∙◌, ◌≤◌, ℕ, Bool, true, false, List, [], ◌∷◌, ◌++◌, length, take}
+use Rattle.std.proofs.Common.{◌≡◌, ◌∙◌, ◌≤◌, ℕ, Bool, true, false, List, [], ◌∷◌, ◌++◌, length, map, take}
 use Rattle.std.proofs.Common.{Option, Some, None, ap, append_assoc, arith, inl, inr, refl, subst, sym}
 use Rattle.std.specs.List.{list_all}
 use Rattle.std.specs.Prelude.{◌&&◌, Result, Ok, Err, IfSome, OnOk, flat_map, if◌then◌else◌}
@@ -24,23 +24,24 @@ use Rattle.sixel_scan.proofs.StringLemmas.{some_strings}
 use Rattle.sixel_scan.proofs.TellLemmas.{stream_begins, stream_over, told_first}
 use Rattle.sixel_run.specs.declared.fault.RunFault.{RunFault}
 use Rattle.sixel_run.specs.declared.fault.RunFault.TheVariants.{NoString, OutOfMemory, Read, Write}
+use Rattle.sixel_run.specs.declared.item.Item.{Item}
+use Rattle.sixel_run.specs.declared.item.Item.TheVariants.{String}
 use Rattle.sixel_run.specs.declared.task.Status.{Status}
 use Rattle.sixel_run.specs.declared.task.Status.TheVariants.{Done, Unfit}
 use Rattle.sixel_run.specs.declared.task.Task.TheVariants as task
 use Rattle.sixel_run.specs.Conversions.{of_scan}
 use Rattle.sixel_run.specs.Outputs.{CountsWrites, ScanGives, ScansBefore, ScansUnread, Wrote, WroteWith, failures_by}
 use Rattle.sixel_run.specs.Scanned.{AreBeforeAllocation, AreOfFirst, AreOfGiven, AreOfStream, Finds, MayGrowInString}
-use Rattle.sixel_run.specs.Scanned.{answer_of_strings, answer_with, is_portable, scan_text, stream_of, string_lines}
-use Rattle.sixel_run.specs.LineTasks.{PutsText, WritesLines}
-use Rattle.sixel_run.specs.Texts.{Text, string_line}
-use Rattle.sixel_run.proofs.FeedLemmas.{strings_are_lines}
-use Rattle.sixel_run.proofs.StringLemmas.{lines_more, reports_join, scan-begins, short_take}
+use Rattle.sixel_run.specs.Scanned.{answer_of_strings, answer_with, is_portable, scan_text, stream_of}
+use Rattle.sixel_run.specs.LineTasks.{PutsText, WritesItems}
+use Rattle.sixel_run.specs.Texts.{Text}
+use Rattle.sixel_run.proofs.StringLemmas.{reports_join, scan-begins, short_take, strings_more}
 
 -- ---- what the loop keeps
 
 -- with this answer on the strings so far, the scan has read from the input and told them, and what is written for their
 -- lines was appended to the output
-pub record Scanning (written : Text → Text) (eight : Bool) (registers : ℕ) (s : Scan)
+pub record Scanning (written : Item → Text) (eight : Bool) (registers : ℕ) (s : Scan)
     (answer : Result Status RunFault) (input : Change SourceState) (output : Change SinkState) : Type 0 where
   pub strings : List StringAt
   pub reports : List Scanned
@@ -49,11 +50,11 @@ pub record Scanning (written : Text → Text) (eight : Bool) (registers : ℕ) (
   pub has_told : HasTold eight registers s input.new.remaining strings taken
   pub reported : AreReported registers strings reports
   pub answer_is : answer ≡ answer_of_strings reports
-  pub put : Appends output.old.taken output.new.taken (flat_map written (string_lines reports))
+  pub put : Appends output.old.taken output.new.taken (flat_map written (map String reports))
   pub reads : input.new.failures ≡ input.old.failures
   pub writes : output.new.failures ≡ output.old.failures
 
-pub scanning_first : (written : Text → Text) (eight : Bool) (registers : ℕ) (s : Scan) (i : SourceState)
+pub scanning_first : (written : Item → Text) (eight : Bool) (registers : ℕ) (s : Scan) (i : SourceState)
     (o : SinkState) → ((remaining : Option (List ℕ)) → HasTold eight registers s remaining [] [])
     → Scanning written eight registers s (Err NoString) (change i i) (change o o)
 scanning_first written eight registers s i o new = record {
@@ -69,13 +70,13 @@ scanning_first written eight registers s i o new = record {
   writes = refl;
 }
 
-pub scanning_ready : (written : Text → Text) (eight : Bool) (registers : ℕ) (s : Scan)
+pub scanning_ready : (written : Item → Text) (eight : Bool) (registers : ℕ) (s : Scan)
     (answer : Result Status RunFault) (i : Change SourceState) (o : Change SinkState)
     → Scanning written eight registers s answer i o → IsReady s i.new.remaining
 scanning_ready written eight registers s answer i o k = (eight, registers, k.strings, k.taken, k.has_told)
 
 -- what a call of the scan says of all that was taken
-after_call : (written : Text → Text) (eight : Bool) (registers : ℕ) (s : Scan) (answer : Result Status RunFault)
+after_call : (written : Item → Text) (eight : Bool) (registers : ℕ) (s : Scan) (answer : Result Status RunFault)
     (i : Change SourceState) (o : Change SinkState) (new : Option (List ℕ))
     (P : Bool → ℕ → List StringAt → List ℕ → Type 0) → (k : Scanning written eight registers s answer i o)
     → AfterTaking s i.new.remaining new P
@@ -121,13 +122,13 @@ answer_more (r ∷ more) s =
     ∙ ap chosen (sym (all_more (r ∷ more) s))
 
 -- one more string was told, and its line was written
-pub scanning_more : (written : Text → Text) (eight : Bool) (registers : ℕ) (s t : Scan)
+pub scanning_more : (written : Item → Text) (eight : Bool) (registers : ℕ) (s t : Scan)
     (answer now : Result Status RunFault) (scanned : Scanned) (i : Change SourceState) (o : Change SinkState)
     (new : SourceState) (has : SinkState)
     → (k : Scanning written eight registers s answer i o)
     → AfterTaking s i.new.remaining new.remaining
     (λ e r told bytes. TellsNext e r t new.remaining told bytes (scanned ∷ []))
-    → Appends o.new.taken has.taken (written (string_line scanned))
+    → Appends o.new.taken has.taken (written (String scanned))
     → new.failures ≡ i.new.failures → has.failures ≡ o.new.failures
     → now ≡ answer_with answer scanned
     → Scanning written eight registers t now (change i.old new) (change o.old has)
@@ -143,9 +144,9 @@ scanning_more written eight registers s t answer now scanned i o new has k next 
       reported = reports_join registers k.strings n.2.found k.reports (scanned ∷ []) k.reported n.2.reported;
       answer_is = now_is ∙ ap (λ (a : Result Status RunFault). answer_with a scanned) k.answer_is
           ∙ answer_more k.reports scanned;
-      put = Appends-then o.old.taken o.new.taken has.taken (flat_map written (string_lines k.reports))
-          (written (string_line scanned)) (flat_map written (string_lines (k.reports ++ scanned ∷ []))) k.put put
-          (lines_more written k.reports scanned);
+      put = Appends-then o.old.taken o.new.taken has.taken (flat_map written (map String k.reports))
+          (written (String scanned)) (flat_map written (map String (k.reports ++ scanned ∷ []))) k.put put
+          (strings_more written k.reports scanned);
       reads = reads ∙ k.reads;
       writes = writes ∙ k.writes;
     }
@@ -228,11 +229,11 @@ grown_strings eight registers (Some bytes) (Some rest) told taken reports consum
 -- ---- how the loop ends
 
 -- it found some strings, and `written` of the line of each was put
-pub record Scans (written : Text → Text) (eight : Bool) (registers : ℕ) (answer : Result Status RunFault)
+pub record Scans (written : Item → Text) (eight : Bool) (registers : ℕ) (answer : Result Status RunFault)
     (input : Change SourceState) (output : Change SinkState) : Type 0 where
   pub reports : List Scanned
   pub finds : IfSome input.old.remaining (λ bytes. Finds eight registers bytes input.new.remaining answer reports)
-  pub put : PutsText answer output.old.taken output.new.taken (flat_map written (string_lines reports))
+  pub put : PutsText answer output.old.taken output.new.taken (flat_map written (map String reports))
   pub taken : List ℕ
   pub consumed : Consumes input.old.remaining input.new.remaining taken
   pub over : OnOk answer (IsOver input.new.remaining taken)
@@ -283,7 +284,7 @@ always (Ok x) P p = p
 always (Err e) P p = tt
 
 -- the stream is over
-pub scans_ended : (written : Text → Text) (eight : Bool) (registers : ℕ) (s t : Scan)
+pub scans_ended : (written : Item → Text) (eight : Bool) (registers : ℕ) (s t : Scan)
     (answer : Result Status RunFault) (i : Change SourceState) (o : Change SinkState) (new : SourceState)
     → (k : Scanning written eight registers s answer i o)
     → AfterTaking s i.new.remaining new.remaining
@@ -303,7 +304,7 @@ scans_ended written eight registers s t answer i o new k next all reads =
       finds = all_found eight registers i.old.remaining new.remaining k.reports answer unfailed k.answer_is
           (all_strings eight registers i.old.remaining new.remaining k.strings a.0 n.0 k.reports a.1 n.1 within a.2.0
           a.2.1 k.reported);
-      put = all_put answer o.old.taken o.new.taken (flat_map written (string_lines k.reports)) unfailed k.put;
+      put = all_put answer o.old.taken o.new.taken (flat_map written (map String k.reports)) unfailed k.put;
       taken = a.0;
       consumed = a.1;
       over = always answer (IsOver new.remaining a.0) a.2.1;
@@ -312,13 +313,13 @@ scans_ended written eight registers s t answer i o new k next all reads =
     }
 
 -- the line of the string that was told couldn't be written
-pub scans_stopped : (written : Text → Text) (eight : Bool) (registers : ℕ) (s t : Scan)
+pub scans_stopped : (written : Item → Text) (eight : Bool) (registers : ℕ) (s t : Scan)
     (answer : Result Status RunFault) (scanned : Scanned) (i : Change SourceState) (o : Change SinkState)
     (new : SourceState) (has : SinkState)
     → (k : Scanning written eight registers s answer i o)
     → AfterTaking s i.new.remaining new.remaining
     (λ e r told bytes. TellsNext e r t new.remaining told bytes (scanned ∷ []))
-    → (n : ℕ) × Appends o.new.taken has.taken (take n (written (string_line scanned)))
+    → (n : ℕ) × Appends o.new.taken has.taken (take n (written (String scanned)))
     → new.failures ≡ i.new.failures → has.failures ≡ one_more o.new.failures
     → Scans written eight registers (Err Write) (change i.old new) (change o.old has)
 scans_stopped written eight registers s t answer scanned i o new has k next put reads writes =
@@ -330,9 +331,9 @@ scans_stopped written eight registers s t answer scanned i o new has k next put 
       finds = first_strings eight registers t i.old.remaining new.remaining (k.strings ++ n.2.found) n.0
           (k.reports ++ scanned ∷ []) n.1 n.2.has_told
           (reports_join registers k.strings n.2.found k.reports (scanned ∷ []) k.reported n.2.reported);
-      put = puts-joined failed o.old.taken o.new.taken has.taken (flat_map written (string_lines k.reports))
-          (written (string_line scanned)) (flat_map written (string_lines (k.reports ++ scanned ∷ [])))
-          (lines_more written k.reports scanned) k.put put;
+      put = puts-joined failed o.old.taken o.new.taken has.taken (flat_map written (map String k.reports))
+          (written (String scanned)) (flat_map written (map String (k.reports ++ scanned ∷ [])))
+          (strings_more written k.reports scanned) k.put put;
       taken = n.0;
       consumed = n.1;
       over = tt;
@@ -341,7 +342,7 @@ scans_stopped written eight registers s t answer scanned i o new has k next put 
     }
 
 -- the input failed
-scans_unread : (written : Text → Text) (eight : Bool) (registers : ℕ) (s t : Scan)
+scans_unread : (written : Item → Text) (eight : Bool) (registers : ℕ) (s t : Scan)
     (answer : Result Status RunFault) (i : Change SourceState) (o : Change SinkState) (new : SourceState)
     → (k : Scanning written eight registers s answer i o)
     → AfterTaking s i.new.remaining new.remaining
@@ -364,7 +365,7 @@ scans_unread written eight registers s t answer i o new k next reads =
     }
 
 -- an allocation failed
-scans_grown : (written : Text → Text) (eight : Bool) (registers : ℕ) (s : Scan)
+scans_grown : (written : Item → Text) (eight : Bool) (registers : ℕ) (s : Scan)
     (answer : Result Status RunFault) (i : Change SourceState) (o : Change SinkState) (new : SourceState)
     → (k : Scanning written eight registers s answer i o)
     → AfterTaking s i.new.remaining new.remaining GrowsWithin
@@ -383,7 +384,7 @@ scans_grown written eight registers s answer i o new k next reads =
     }
 
 -- a call of the scan failed
-pub scans_failed : (written : Text → Text) (eight : Bool) (registers : ℕ) (s t : Scan)
+pub scans_failed : (written : Item → Text) (eight : Bool) (registers : ℕ) (s t : Scan)
     (answer : Result Status RunFault) (i : Change SourceState) (o : Change SinkState) (new : SourceState)
     (f : ScanFault)
     → (k : Scanning written eight registers s answer i o)
@@ -432,14 +433,13 @@ grew_if eight registers (Some bytes) left answer reports finds is =
     grew eight registers bytes reports
     (subst (λ (a : Result Status RunFault). Finds eight registers bytes left a reports) is finds)
 
-pub scan_ends : (written : Text → Text) (profile : Profile) (eight : Bool) (answer : Result Status RunFault)
+pub scan_ends : (written : Item → Text) (profile : Profile) (eight : Bool) (answer : Result Status RunFault)
     (i : Change SourceState) (o : Change SinkState) → Scans written eight (count_of profile) answer i o
-    → WritesLines (task.Scan profile eight) written answer i o
+    → WritesItems (task.Scan profile eight) written answer i o
 scan_ends written profile eight answer i o k = record {
   found = answer;
-  lines = string_lines k.reports;
+  items = map String k.reports;
   wrote = wrote_if profile eight i.old.remaining i.new.remaining answer k.reports k.finds;
-  are_lines = strings_are_lines k.reports;
   refused = λ is. absurd (let no : true ≡ false = is in cc);
   unwritten = λ is. absurd (let no : true ≡ false = is in cc);
   ends = inl refl;

@@ -4,7 +4,7 @@ use Rattle.std.proofs.Common.{None, ap, ap₂, append_assoc, arith, inl, inr, ma
 use Rattle.std.specs.List.{concat, list_all}
 use Rattle.std.specs.Prelude.{◌+◌, Result, Ok, Err, flat_map, if◌then◌else◌}
 use Rattle.std.proofs.lemmas.List.{append-nil, length-take, map-append}
-use Rattle.std.proofs.lemmas.List.Folds.{concat-append}
+use Rattle.std.proofs.lemmas.Grind.{flat_map-append}
 use Rattle.sixel_grammar.specs.declared.fault.Fault.{Fault}
 use Rattle.sixel_grammar.proofs.TotalLemmas.{document_whole, judged}
 use Rattle.sixel_grammar.proofs.UniqueLemmas.{fault_no_document, fault_once}
@@ -25,12 +25,14 @@ use Rattle.sixel_scan.proofs.StringLemmas.{none_in_nothing, one_list, some_strin
 use Rattle.sixel_scan.proofs.TellLemmas.{stream_begins}
 use Rattle.sixel_run.specs.declared.fault.RunFault.{RunFault}
 use Rattle.sixel_run.specs.declared.fault.RunFault.TheVariants as run
+use Rattle.sixel_run.specs.declared.item.Item.{Item}
+use Rattle.sixel_run.specs.declared.item.Item.TheVariants.{String}
 use Rattle.sixel_run.specs.declared.task.Status.{Status}
 use Rattle.sixel_run.specs.declared.task.Status.TheVariants as status
 use Rattle.sixel_run.specs.Outputs.{ScanGives}
 use Rattle.sixel_run.specs.Scanned.{AreBeforeAllocation, AreOfFirst, AreOfGiven, answer_of_strings}
-use Rattle.sixel_run.specs.Scanned.{is_portable, scan_text, stream_of, string_lines}
-use Rattle.sixel_run.specs.Texts.{Text, BeginsWith, string_line}
+use Rattle.sixel_run.specs.Scanned.{is_portable, scan_text, stream_of}
+use Rattle.sixel_run.specs.Texts.{Text, BeginsWith, item_line, items_text}
 use Rattle.sixel_run.proofs.CheckLemmas.{same_verdict}
 
 -- ---- the answer for the bytes of a string
@@ -157,7 +159,7 @@ scan-gives eight registers bytes =
 
 text_joins : (xs ys : List Scanned) → scan_text (xs ++ ys) ≡ scan_text xs ++ scan_text ys
 text_joins xs ys =
-    ap concat (map-append string_line xs ys) ∙ concat-append (map string_line xs) (map string_line ys)
+    ap items_text (map-append String xs ys) ∙ flat_map-append item_line (map String xs) (map String ys)
 
 -- the text of a scan begins with the lines of the first strings
 pub scan-begins : (eight : Bool) (registers : ℕ) (bytes : List ℕ) (reports : List Scanned)
@@ -226,14 +228,13 @@ short_take n xs = omega (arith, length-take n xs)
 
 -- ---- the lines
 
--- what is written for the lines of some strings and one more
-pub lines_more : (written : Text → Text) (reports : List Scanned) (s : Scanned)
-    → flat_map written (string_lines (reports ++ s ∷ []))
-    ≡ flat_map written (string_lines reports) ++ written (string_line s)
-lines_more written [] s = append-nil (written (string_line s))
-lines_more written (r ∷ reports) s =
-    ap (λ (t : Text). written (string_line r) ++ t) (lines_more written reports s)
-    ∙ sym (append_assoc (written (string_line r)) (flat_map written (string_lines reports)) (written (string_line s)))
+-- what is written for some strings and one more
+pub strings_more : (written : Item → Text) (reports : List Scanned) (s : Scanned)
+    → flat_map written (map String (reports ++ s ∷ [])) ≡ flat_map written (map String reports) ++ written (String s)
+strings_more written [] s = append-nil (written (String s))
+strings_more written (r ∷ reports) s =
+    ap (λ (t : Text). written (String r) ++ t) (strings_more written reports s)
+    ∙ sym (append_assoc (written (String r)) (flat_map written (map String reports)) (written (String s)))
 
 -- lines that are written as they are
 pub plain_lines : (lines : List Text) → flat_map (λ line. line) lines ≡ concat lines

@@ -1,25 +1,20 @@
--- How a check, a survey or a scan ends that writes something for each of its lines.
-use Rattle.std.specs.Prelude.{◌≡◌, ◌≢◌, ◌⊎◌, ℕ, Bool, true, false, List, [], flat_map, map, take, Option, Some, IfSome, OnOk}
+-- How a check, a survey or a scan ends that writes something for each of its items.
+use Rattle.std.specs.Prelude.{◌≡◌, ◌≢◌, ◌⊎◌, ℕ, Bool, true, false, List, [], flat_map, take, Option, Some, IfSome, OnOk}
 use Rattle.std.specs.Prelude.{Result, Ok, Err}
 use Rattle.std.specs.Io.KnownBytes.{Appends, Consumes, IsAtEnd}
-use Rattle.std.specs.List.{All, concat}
-use Rattle.arrayvec.specs.ArrayVec.{ArrayVec}
 use Rattle.sixel_io.specs.Devices.{Change, SinkState, SourceState}
 use Rattle.sixel_scan.specs.Scans.{IsOver}
 use Rattle.sixel_survey.specs.declared.entry.Survey.{Survey as ASurvey}
 use Rattle.sixel_survey.specs.Laws.{IsFirstFinding}
 use Rattle.sixel_run.specs.declared.fault.RunFault.{RunFault}
 use Rattle.sixel_run.specs.declared.fault.RunFault.TheVariants.{OutOfMemory, Read, Write}
+use Rattle.sixel_run.specs.declared.item.Item.{Item}
 use Rattle.sixel_run.specs.declared.task.Status.{Status}
 use Rattle.sixel_run.specs.declared.task.Status.TheVariants.{Done, Broken, Unfit}
 use Rattle.sixel_run.specs.declared.task.Task.{Task}
 use Rattle.sixel_run.specs.declared.task.Task.TheVariants.{Check, Scan, Survey}
 use Rattle.sixel_run.specs.Outputs.{CountsWrites, TakesMemory, Wrote, failures_by}
-use Rattle.sixel_run.specs.Texts.{IsLine, Text}
-
--- the texts of these lines
-abbrev pub texts_of : List (ArrayVec ℕ) → List Text
-texts_of lines = map (λ line. line.items) lines
+use Rattle.sixel_run.specs.Texts.{Text, items_text}
 
 -- whether the task is a check, a survey or a scan
 abbrev pub has_lines : Task → Bool
@@ -53,21 +48,20 @@ PutsText answer had has text = Appends had has text
 abbrev pub EndsAs : Result Status RunFault → Result Status RunFault → Type 0
 EndsAs found answer = (answer ≡ found) ⊎ ((status : Status) × (found ≡ Ok status) × (answer ≡ Err Write))
 
--- a check, a survey or a scan with this answer put `written` of each of its lines to the output. These are the lines of
--- what a run of the task writes, and `found` is what that answers. After Write, which only a scan finds, they are those
--- of the strings up to the one whose line couldn't be written
-pub record WritesLines (t : Task) (written : Text → Text) (answer : Result Status RunFault)
+-- a check, a survey or a scan with this answer put `written` of each of its items to the output. Their lines are what a
+-- run of the task writes, and `found` is what that answers. After Write, which only a scan finds, they are the strings
+-- up to the one that couldn't be written
+pub record WritesItems (t : Task) (written : Item → Text) (answer : Result Status RunFault)
     (input : Change SourceState) (output : Change SinkState) : Type 0 where
   pub found : Result Status RunFault
-  pub lines : List Text
+  pub items : List Item
   pub wrote : IfSome input.old.remaining
-      (λ bytes. Wrote t bytes input.new.remaining found (Some []) (Some (concat lines)))
-  pub are_lines : All IsLine lines
-  -- a check or a survey that is refused has no line
-  pub refused : scans t ≡ false → (fault : RunFault) → found ≡ Err fault → lines ≡ []
+      (λ bytes. Wrote t bytes input.new.remaining found (Some []) (Some (items_text items)))
+  -- a check or a survey that is refused has no item
+  pub refused : scans t ≡ false → (fault : RunFault) → found ≡ Err fault → items ≡ []
   pub unwritten : scans t ≡ false → found ≢ Err Write
   pub ends : EndsAs found answer
-  pub put : PutsText answer output.old.taken output.new.taken (flat_map written lines)
+  pub put : PutsText answer output.old.taken output.new.taken (flat_map written items)
   pub memory : found ≡ Err OutOfMemory → TakesMemory t input.old.remaining
   pub over : ReadsOver t found input.old.remaining input.new.remaining
   pub reads : input.new.failures ≡ failures_by Read found input.old.failures

@@ -2,7 +2,7 @@
 use Rattle.std.specs.Prelude.{◌≡◌, ◌≤◌, ◌++◌, ℕ, Bool, true, false, List, [], ◌∷◌, length, map, take, Option, Some}
 use Rattle.std.specs.Prelude.{Result, Ok, Err, if◌then◌else◌}
 use Rattle.std.specs.Io.KnownBytes.{Consumes}
-use Rattle.std.specs.List.{concat, list_all}
+use Rattle.std.specs.List.{list_all}
 use Rattle.sixel_scan.specs.declared.answer.Answer.{Answer}
 use Rattle.sixel_scan.specs.declared.answer.Answer.TheVariants.{Portable, Broken, Refused}
 use Rattle.sixel_scan.specs.declared.answer.Scanned.{Scanned}
@@ -14,19 +14,16 @@ use Rattle.sixel_run.specs.declared.fault.RunFault.{RunFault}
 use Rattle.sixel_run.specs.declared.fault.RunFault.TheVariants.{NoString, OutOfMemory, Read, Write}
 use Rattle.sixel_run.specs.declared.task.Status.{Status}
 use Rattle.sixel_run.specs.declared.task.Status.TheVariants.{Done, Unfit}
-use Rattle.sixel_run.specs.Texts.{Text, string_line}
+use Rattle.sixel_run.specs.declared.item.Item.TheVariants.{String}
+use Rattle.sixel_run.specs.Texts.{Text, items_text}
 
 -- the stream that a source with these bytes gives: of more than a stream has, the first
 abbrev pub stream_of : List ℕ → List ℕ
 stream_of bytes = take longest_stream bytes
 
 -- a line for each string
-abbrev pub string_lines : List Scanned → List Text
-string_lines reports = map string_line reports
-
--- these lines, one after the other
 abbrev pub scan_text : List Scanned → Text
-scan_text reports = concat (string_lines reports)
+scan_text reports = items_text (map String reports)
 
 abbrev pub is_portable_answer : Answer → Bool
 is_portable_answer (Portable width height) = true

@@ -29,6 +29,8 @@ use Rattle.sixel_survey.specs.declared.entry.Survey.{Survey}
 use Rattle.sixel_scan.specs.declared.answer.Answer.{Answer}
 use Rattle.sixel_scan.specs.declared.answer.Answer.TheVariants as scanned
 use Rattle.sixel_scan.specs.declared.answer.Scanned.{Scanned}
+use Rattle.sixel_run.specs.declared.item.Item.{Item}
+use Rattle.sixel_run.specs.declared.item.Item.TheVariants as item
 use Rattle.sixel_run.specs.declared.fault.RunFault.{RunFault}
 use Rattle.sixel_run.specs.declared.fault.RunFault.TheVariants.{Grammar, Ppm, NotRgb, NoBox, NoString, Empty, TooLarge}
 use Rattle.sixel_run.specs.declared.fault.RunFault.TheVariants.{TooManyColours, OutOfMemory, Read, Write}
@@ -189,14 +191,11 @@ outcome_line (BrokenRule finding) = finding_line finding
 abbrev pub entry_line : Entry → Text
 entry_line e = line (rule_name e.rule) (decimal e.count ∷ decimal e.place ∷ pixel_parts e.rule e.pixel)
 
--- a line for each entry, and that of the size if the survey has one
-abbrev pub survey_lines : Survey → List Text
-survey_lines s =
-    map entry_line s.entries.items ++ map (λ size. size_line size.0 size.1) (option_to_list s.size)
-
--- these lines, one after the other
-abbrev pub survey_text : Survey → Text
-survey_text s = concat (survey_lines s)
+-- an item for each entry, and the size if the survey has one
+abbrev pub survey_items : Survey → List Item
+survey_items s =
+    map item.Entry s.entries.items
+    ++ map (λ size. item.Outcome (PortableSize size.0 size.1)) (option_to_list s.size)
 
 -- ---- strings of a stream
 
@@ -212,3 +211,19 @@ answer_line (scanned.Refused fault) = refusal_line fault
 -- the line of a string: its offset, and after a space the line of its answer
 abbrev pub string_line : Scanned → Text
 string_line s = decimal s.place ++ 32 ∷ answer_line s.answer
+
+-- ---- items
+
+-- the line of what a check, a survey or a scan says
+abbrev pub item_line : Item → Text
+item_line (item.Outcome outcome) = outcome_line outcome
+item_line (item.Entry entry) = entry_line entry
+item_line (item.String s) = string_line s
+
+-- the lines of the items, one after the other
+abbrev pub items_text : List Item → Text
+items_text items = flat_map item_line items
+
+-- the lines of a survey
+abbrev pub survey_text : Survey → Text
+survey_text s = items_text (survey_items s)

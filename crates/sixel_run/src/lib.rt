@@ -2,9 +2,10 @@
 #![tactic(auto)]
 
 mod fault;
+mod item;
 pub mod laws;
 mod lines;
-mod put_line;
+mod put_item;
 mod running;
 mod sixel_line;
 mod string_lines;
@@ -12,11 +13,12 @@ mod survey_lines;
 mod task;
 
 pub use fault::RunFault;
+pub use item::{Item, item_line};
 pub use lines::{
     Line, fault_line, finding_line, outcome_line, reason_name, rule_name, verdict_line,
     write_fault, write_finding, write_verdict,
 };
-pub use put_line::{Plain, PutLine};
+pub use put_item::{Plain, PutItem};
 pub use running::{run, write_lines};
 pub use string_lines::{StringLine, string_line};
 pub use survey_lines::{entry_line, size_line};

@@ -2,7 +2,7 @@
 
 ghost use Rattle.std.specs.Prelude.{◌≡◌, ◌≢◌, Err, IfSome, true};
 ghost use Rattle.sixel_io.specs.Devices.{change};
-ghost use Rattle.sixel_run.specs.LineTasks.{WritesLines, has_lines};
+ghost use Rattle.sixel_run.specs.LineTasks.{WritesItems, has_lines};
 ghost use Rattle.sixel_run.specs.Outputs.{CountsReads, CountsWrites, HasSides, TakesMemory, Wrote, failures_by};
 
 mod box_finder;
@@ -21,7 +21,7 @@ mod show_box;
 mod survey;
 
 use crate::fault::RunFault;
-use crate::put_line::{Plain, PutLine};
+use crate::put_item::{Plain, PutItem};
 use crate::task::{Status, Task};
 use sixel_io::{PIECE, Sink, Source};
 use sixel_mend::Mending;
@@ -59,9 +59,9 @@ pub fn run<S: Source, K: Sink>(
     }
 }
 
-/// Checks, surveys or scans, and writes each line by `put`. A check and a survey read into the caller's room, so a
+/// Checks, surveys or scans, and writes each item by `put`. A check and a survey read into the caller's room, so a
 /// caller with many inputs clears it once. It doesn't flush.
-pub fn write_lines<P: PutLine, S: Source, K: Sink>(
+pub fn write_lines<P: PutItem, S: Source, K: Sink>(
     alloc: Global,
     task: Task,
     put: &P,
@@ -70,7 +70,7 @@ pub fn write_lines<P: PutLine, S: Source, K: Sink>(
     output: &mut K,
 ) -> Result<Status, RunFault>
     requires { has_lines task ≡ true }
-    ensures { WritesLines task (P.written put.now) result
+    ensures { WritesItems task (P.written put.now) result
         (change (S.state input.old) (S.state input.new)) (change (K.state output.old) (K.state output.new)) }
 {
     match task {

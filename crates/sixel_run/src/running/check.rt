@@ -3,20 +3,20 @@
 ghost use Rattle.std.specs.Prelude.{◌≡◌};
 ghost use Rattle.sixel_io.specs.Devices.{change};
 ghost use Rattle.sixel_run.specs.declared.task.Task.TheVariants.{Check};
-ghost use Rattle.sixel_run.specs.LineTasks.{WritesLines};
+ghost use Rattle.sixel_run.specs.LineTasks.{WritesItems};
 ghost use Rattle.sixel_run.specs.Outputs.{outcome_status};
 
 use crate::fault::RunFault;
-use crate::lines::outcome_line;
-use crate::put_line::PutLine;
+use crate::item::Item;
+use crate::put_item::PutItem;
 use crate::task::Status;
 use sixel_check::{Outcome, outcome_with};
 use sixel_io::{PIECE, Sink, Source};
 use sixel_model::Profile;
 use std::alloc::Global;
 
-/// Reads the whole input, and puts the line of the verdict. It doesn't flush.
-pub fn check<P: PutLine, S: Source, K: Sink>(
+/// Reads the whole input, and puts the outcome. It doesn't flush.
+pub fn check<P: PutItem, S: Source, K: Sink>(
     alloc: Global,
     profile: Profile,
     put: &P,
@@ -24,11 +24,11 @@ pub fn check<P: PutLine, S: Source, K: Sink>(
     piece: &mut [u8; PIECE],
     output: &mut K,
 ) -> Result<Status, RunFault>
-    ensures { WritesLines (Check profile) (P.written put.now) result
+    ensures { WritesItems (Check profile) (P.written put.now) result
         (change (S.state input.old) (S.state input.new)) (change (K.state output.old) (K.state output.new)) }
 {
     let outcome = outcome_with(alloc, profile, input, piece)?;
-    match put.put_line(outcome_line(&outcome).as_slice(), output) {
+    match put.put_item(&Item::Outcome(outcome), output) {
         Ok(()) => Ok(status_of(&outcome)),
         Err(_) => Err(RunFault::Write),
     }

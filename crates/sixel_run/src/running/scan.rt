@@ -3,21 +3,21 @@
 ghost use Rattle.std.specs.Prelude.{◌≡◌};
 ghost use Rattle.sixel_io.specs.Devices.{change};
 ghost use Rattle.sixel_run.specs.declared.task.Task.TheVariants.{Scan as Scanning};
-ghost use Rattle.sixel_run.specs.LineTasks.{WritesLines};
+ghost use Rattle.sixel_run.specs.LineTasks.{WritesItems};
 ghost use Rattle.sixel_run.specs.Scanned.{answer_with, is_portable};
 
 use crate::fault::RunFault;
-use crate::put_line::PutLine;
-use crate::string_lines::string_line;
+use crate::item::Item;
+use crate::put_item::PutItem;
 use crate::task::Status;
 use sixel_io::{Sink, Source};
 use sixel_model::Profile;
 use sixel_scan::{Answer, Scan, Scanned};
 use std::alloc::Global;
 
-/// Reads the stream, and puts the line of each string as soon as the string has ended: before the source is asked for
+/// Reads the stream, and puts each string as soon as the string has ended: before the source is asked for
 /// the bytes after it. It doesn't flush.
-pub fn scan<P: PutLine, S: Source, K: Sink>(
+pub fn scan<P: PutItem, S: Source, K: Sink>(
     alloc: Global,
     profile: Profile,
     eight_bit: bool,
@@ -25,7 +25,7 @@ pub fn scan<P: PutLine, S: Source, K: Sink>(
     input: &mut S,
     output: &mut K,
 ) -> Result<Status, RunFault>
-    ensures { WritesLines (Scanning profile eight_bit) (P.written put.now) result
+    ensures { WritesItems (Scanning profile eight_bit) (P.written put.now) result
         (change (S.state input.old) (S.state input.new)) (change (K.state output.old) (K.state output.new)) }
 {
     let mut scan = Scan::new(alloc, profile, eight_bit);
@@ -34,8 +34,7 @@ pub fn scan<P: PutLine, S: Source, K: Sink>(
         let found = scan.next_string(input)?;
         match found {
             Some(scanned) => {
-                let line = string_line(&scanned);
-                match put.put_line(line.as_slice(), output) {
+                match put.put_item(&Item::String(scanned), output) {
                     Ok(()) => answer = with_string(answer, &scanned),
                     Err(_) => return Err(RunFault::Write),
                 }

@@ -2,19 +2,19 @@
 
 ghost use Rattle.sixel_io.specs.Devices.{change};
 ghost use Rattle.sixel_run.specs.declared.task.Task.TheVariants.{Survey as Surveying};
-ghost use Rattle.sixel_run.specs.LineTasks.{IsStatusOf, WritesLines};
+ghost use Rattle.sixel_run.specs.LineTasks.{IsStatusOf, WritesItems};
 
 use crate::fault::RunFault;
-use crate::put_line::PutLine;
-use crate::survey_lines::survey_lines;
+use crate::item::survey_items;
+use crate::put_item::PutItem;
 use crate::task::Status;
 use sixel_io::{PIECE, Sink, Source};
 use sixel_model::Profile;
 use sixel_survey::{Survey, survey_with};
 use std::alloc::Global;
 
-/// Reads the whole input, and puts the lines of its survey. It doesn't flush.
-pub fn survey<P: PutLine, S: Source, K: Sink>(
+/// Reads the whole input, and puts the items of its survey. It doesn't flush.
+pub fn survey<P: PutItem, S: Source, K: Sink>(
     alloc: Global,
     profile: Profile,
     put: &P,
@@ -22,12 +22,12 @@ pub fn survey<P: PutLine, S: Source, K: Sink>(
     piece: &mut [u8; PIECE],
     output: &mut K,
 ) -> Result<Status, RunFault>
-    ensures { WritesLines (Surveying profile) (P.written put.now) result
+    ensures { WritesItems (Surveying profile) (P.written put.now) result
         (change (S.state input.old) (S.state input.new)) (change (K.state output.old) (K.state output.new)) }
 {
     let survey = survey_with(alloc, profile, input, piece)?;
     let status = status_of(&survey);
-    match put.put_lines(survey_lines(&survey).as_slice(), output) {
+    match put.put_items(survey_items(&survey).as_slice(), output) {
         Ok(()) => Ok(status),
         Err(_) => Err(RunFault::Write),
     }

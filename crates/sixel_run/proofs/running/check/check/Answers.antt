@@ -1,14 +1,12 @@
 use Rattle.std.proofs.Common.{[], ◌∷◌, refl, sym}
 use Rattle.std.proofs.lemmas.List.{append-nil}
-use Rattle.std.proofs.lemmas.List.Elements.{All-cons, All-nil}
 use Rattle.std.proofs.lemmas.Result.{err_from_is_err_and}
 use Rattle.sixel_io.proofs.SinkLemmas.{writes-as}
 use Rattle.sixel_model.specs.Profiles.{count_of}
 use Rattle.sixel_run.specs.declared.task.Task.TheVariants.{Check}
 use Rattle.sixel_run.specs.Outputs.{CheckGives, outcome_status}
-use Rattle.sixel_run.specs.Texts.{IsLine, outcome_line}
+use Rattle.sixel_run.specs.declared.item.Item.TheVariants as item
 use Rattle.sixel_run.proofs.CheckLemmas.{checked, grown}
-use Rattle.sixel_run.proofs.FeedLemmas.{outcome_is_line}
 use Rattle.sixel_run.proofs.LineTaskLemmas.{lines_cut, lines_put, lines_refused, refused_if}
 use Rattle.sixel_run.proofs.running.check.check.Goals as goal
 
@@ -16,20 +14,20 @@ pub returns-in-Ok : goal.returns-in-Ok
 returns-in-Ok g c =
     let outcome = c.in_ok-outcome.outcome in
     rw c.status_of.ensures
-    (lines_put _ _ _ refl _ (outcome_line outcome ∷ []) (outcome_status outcome) _ _ _
+    (lines_put _ _ _ refl _ (item.Outcome outcome ∷ []) (outcome_status outcome) _ _ _
     (checked _ (g.S.Source.state c.args.input.now).remaining outcome c.in_ok-outcome.ensures.answer)
-    (All-cons IsLine _ [] (outcome_is_line outcome) (All-nil IsLine)) c.in_ok-outcome.ensures.left
+    c.in_ok-outcome.ensures.left
     c.in_ok-outcome.ensures.failures _ _
-    (writes-as (sym (append-nil _)) (rw (c.as_slice.ensures.value, c.outcome_line.ensures) at c.in-Ok.ensures)))
+    (writes-as (sym (append-nil _)) c.in-Ok.ensures))
 
 pub returns-in-Err : goal.returns-in-Err
 returns-in-Err g c =
     let outcome = c.in_ok-outcome.outcome in
-    lines_cut _ _ _ refl _ (outcome_line outcome ∷ []) (outcome_status outcome) _ _ _
+    lines_cut _ _ _ refl _ (item.Outcome outcome ∷ []) (outcome_status outcome) _ _ _
     (checked _ (g.S.Source.state c.args.input.now).remaining outcome c.in_ok-outcome.ensures.answer)
-    (All-cons IsLine _ [] (outcome_is_line outcome) (All-nil IsLine)) c.in_ok-outcome.ensures.left
+    c.in_ok-outcome.ensures.left
     c.in_ok-outcome.ensures.failures _ _
-    (writes-as (sym (append-nil _)) (rw (c.as_slice.ensures.value, c.outcome_line.ensures) at c.in-Err.ensures))
+    (writes-as (sym (append-nil _)) c.in-Err.ensures)
 
 pub returns-in_err-outcome : goal.returns-in_err-outcome
 returns-in_err-outcome g c =

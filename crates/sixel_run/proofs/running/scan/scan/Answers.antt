@@ -13,14 +13,14 @@ next_string-requires g c = scanning_ready _ _ _ _ _ _ _ c.loop-scan.invariant
 pub loop-scan-preserved : goal.loop-scan-preserved
 loop-scan-preserved g c =
     let told = rw c.in-Some.is at c.in_ok-found.ensures.told in
-    let put = rw (c.as_slice.ensures.value, c.string_line-line.ensures) at c.in-Ok.ensures.taken in
+    let put = c.in-Ok.ensures.taken in
     scanning_more _ _ _ _ _ _ _ _ _ _ _ _ c.loop-scan.invariant told put
     c.in_ok-found.ensures.failures c.in-Ok.ensures.failures c.with_string-answer.ensures
 
 pub returns-in-Err : goal.returns-in-Err
 returns-in-Err g c =
     let told = rw c.in-Some.is at c.in_ok-found.ensures.told in
-    let put = rw (c.as_slice.ensures.value, c.string_line-line.ensures) at c.in-Err.ensures.taken in
+    let put = c.in-Err.ensures.taken in
     scan_ends _ _ _ _ _ _
     (scans_stopped _ _ _ _ _ _ _ _ _ _ _ c.loop-scan.invariant told put
     c.in_ok-found.ensures.failures c.in-Err.ensures.failures)

@@ -6,7 +6,7 @@ use Rattle.sixel_run.proofs.running.scan.scan.Given as goal
 
 abbrev pub invariant-loop-scan : goal.invariant-loop-scan
 invariant-loop-scan g l =
-    Scanning (g.P.PutLine.written l.put) l.eight_bit (count_of l.fn.profile) l.scan l.answer
+    Scanning (g.P.PutItem.written l.put) l.eight_bit (count_of l.fn.profile) l.scan l.answer
     (change (g.S.Source.state l.fn.input) (g.S.Source.state l.input))
     (change (g.K.Sink.state l.fn.output) (g.K.Sink.state l.output))
 

@@ -4,7 +4,6 @@ use Rattle.sixel_model.specs.Profiles.{count_of}
 use Rattle.sixel_run.specs.declared.task.Task.TheVariants.{Survey}
 use Rattle.sixel_run.specs.Outputs.{SurveyGives}
 use Rattle.sixel_run.proofs.CheckLemmas.{grown}
-use Rattle.sixel_run.proofs.FeedLemmas.{survey_is_lines}
 use Rattle.sixel_run.proofs.LineTaskLemmas.{lines_cut, lines_put, lines_refused, refused_if}
 use Rattle.sixel_run.proofs.SurveyLemmas.{surveyed}
 use Rattle.sixel_run.proofs.running.survey.survey.Goals as goal
@@ -15,8 +14,8 @@ returns-in-Ok g c =
     lines_put _ _ _ refl _ _ _ _ _ _
     (surveyed _ (g.S.Source.state c.args.input.now).remaining survey _ c.in_ok-survey.ensures.answer
     c.status_of-status.ensures)
-    (survey_is_lines survey) c.in_ok-survey.ensures.left c.in_ok-survey.ensures.failures _ _
-    (rw (c.as_slice.ensures.value, c.survey_lines.ensures.lines) at c.in-Ok.ensures)
+    c.in_ok-survey.ensures.left c.in_ok-survey.ensures.failures _ _
+    (rw (c.as_slice.ensures.value, c.survey_items.ensures.items) at c.in-Ok.ensures)
 
 pub returns-in-Err : goal.returns-in-Err
 returns-in-Err g c =
@@ -24,8 +23,8 @@ returns-in-Err g c =
     lines_cut _ _ _ refl _ _ _ _ _ _
     (surveyed _ (g.S.Source.state c.args.input.now).remaining survey _ c.in_ok-survey.ensures.answer
     c.status_of-status.ensures)
-    (survey_is_lines survey) c.in_ok-survey.ensures.left c.in_ok-survey.ensures.failures _ _
-    (rw (c.as_slice.ensures.value, c.survey_lines.ensures.lines) at c.in-Err.ensures)
+    c.in_ok-survey.ensures.left c.in_ok-survey.ensures.failures _ _
+    (rw (c.as_slice.ensures.value, c.survey_items.ensures.items) at c.in-Err.ensures)
 
 pub returns-in_err-survey : goal.returns-in_err-survey
 returns-in_err-survey g c =
