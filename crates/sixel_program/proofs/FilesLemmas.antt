@@ -5,15 +5,14 @@ use Rattle.std.proofs.lemmas.Bool.{eqb-true}
 use Rattle.std.specs.Prelude.{◌⊎◌, ◌≢◌, Result, Ok, Err, IfSome, String, string_bytes}
 use Rattle.std.specs.Global.{Global}
 use Rattle.std.specs.Io.KnownBytes.{Appends, Consumes, Keeps}
-use Rattle.std.specs.Option.{option_or}
 use Rattle.std.proofs.KnownBytes.{Consumes-nil, Appends-trans}
-use Rattle.std.proofs.Common.{get_or, slice_get}
-use Rattle.std.specs.List.{cons_option, filter_map, list_any}
-use Rattle.std.proofs.lemmas.List.{append-nil, take-append-drop, take_more}
-use Rattle.std.proofs.lemmas.List.Elements.{All-cons, All-head, All-nil, All-push, All-tail, filter_map-append}
+use Rattle.std.proofs.Common.{cond, get_or}
+use Rattle.std.specs.List.{list_any}
+use Rattle.std.proofs.lemmas.List.{append-nil, length-append, take-append-drop, take_more}
+use Rattle.std.proofs.lemmas.List.Elements.{All-cons, All-head, All-nil, All-push, All-tail}
 use Rattle.std.proofs.lemmas.Grind.{flat_map-append}
 use Rattle.std.proofs.lemmas.List.{map-append}
-use Rattle.std.proofs.lemmas.List.Sums.{fold_push}
+use Rattle.std.proofs.lemmas.List.Sums.{fold_push, sum_by_push}
 use Rattle.sixel_io.specs.Devices.{Change, SinkState, SourceState, change, one_more}
 use Rattle.sixel_io.proofs.SinkLemmas.{Appends-keeps, Appends-none}
 use Rattle.sixel_io.proofs.DeviceLemmas.{Appends-then}
@@ -33,21 +32,23 @@ use Rattle.sixel_run.specs.declared.task.Status.TheVariants as status
 use Rattle.sixel_run.specs.declared.task.Task.{Task}
 use Rattle.sixel_run.specs.declared.task.Task.TheVariants as task
 use Rattle.sixel_run.specs.declared.task.Task.TheVariants.{Check}
-use Rattle.sixel_program.specs.Exits.{IsPut, exit_for_answer, fault_said}
+use Rattle.sixel_program.specs.Exits.{IsPut, exit_for_answer}
 use Rattle.sixel_program.specs.declared.formats.Format.{Format}
-use Rattle.sixel_program.specs.Formats.{IsFormat, advice_on}
+use Rattle.sixel_program.specs.Formats.{IsFormat}
 use Rattle.sixel_program.specs.Files.{AreChecked, ArePut, FileEnd, FilesEnd, IsChecked, IsFileEnd, AreCut}
-use Rattle.sixel_program.specs.Files.{IsFileOpening, IsFinished, IsRead, SaysOfCheck, SaysOfFile, complaints_of}
-use Rattle.sixel_program.specs.Files.{exit_of_end, file_text, files_exit, files_text, first_wrong, is_dash, labels_for}
-use Rattle.sixel_program.specs.Files.{labels_of, name_of, said_of, said_of_check, said_of_file, text_of_end, worse}
+use Rattle.sixel_program.specs.Files.{IsFileOpening, IsFinished, IsRead, causes_among, complaints_of, failed_among}
+use Rattle.sixel_program.specs.Files.{exit_of_end, files_exit, files_text, is_dash, labels_for}
+use Rattle.sixel_program.specs.Files.{labels_of, name_of, said_of, text_of_end, worse}
 use Rattle.sixel_program.specs.Files.{worst}
 use Rattle.sixel_run.specs.LineTasks.{ReadsOver, has_lines}
-use Rattle.sixel_program.specs.Hints.{first_cause, cause_of}
-use Rattle.sixel_program.specs.Names.{unopened_line}
+use Rattle.sixel_program.specs.Hints.{cause_of, causes_of, with_cause}
 use Rattle.sixel_program.specs.Openings.{FailsWith, FolderView, bytes_of}
 use Rattle.sixel_program.specs.declared.folder.Unopened.{Unopened}
 use Rattle.sixel_run.specs.Outputs.{TakesMemory, Wrote, failures_by}
-use Rattle.sixel_run.specs.Texts.{IsLine, Text, fault_line}
+use Rattle.sixel_program.specs.Counts.{has_failed}
+use Rattle.sixel_program.specs.declared.lines.Lines.{Lines}
+use Rattle.sixel_program.specs.declared.lines.Shown.{Shown}
+use Rattle.sixel_run.specs.Texts.{Text, fault_line}
 use Rattle.sixel_program.proofs.DashLemmas.{or_false}
 use Rattle.sixel_program.proofs.EndLemmas.{kept}
 
@@ -65,20 +66,6 @@ pub one_put : (text : Text) (a b : SinkState) → IsPut text (change a b) → Ar
 unfolding ArePut
 one_put text a b put = (b, put, refl)
 
--- what is said of a check was put
-pub said_put : (label : Option Text) (format : Option Format) (answer : Result Status RunFault) (a b : SinkState)
-    → SaysOfCheck label format answer (change a b) → ArePut (said_of_check label format answer) (change a b)
-unfolding ArePut
-said_put label format (Ok status) a b says = says
-said_put label format (Err fault) a b says = one_put (fault_said label fault ++ advice_on format fault) a b says
-
--- what is said of a file was put
-pub file_said_put : (label : Option Text) (unopened : Option Unopened) (format : Option Format)
-    (answer : Result Status RunFault) (a b : SinkState) → SaysOfFile label unopened format answer (change a b)
-    → ArePut (said_of_file label unopened format answer) (change a b)
-file_said_put label None format answer a b says = said_put label format answer a b says
-file_said_put label (Some reason) format answer a b says = one_put (unopened_line (name_of label) reason) a b says
-
 -- texts were put, and then others
 pub put_then : (texts more : List Text) (a b c : SinkState) → ArePut texts (change a b) → ArePut more (change b c)
     → ArePut (texts ++ more) (change a c)
@@ -88,7 +75,7 @@ put_then (text ∷ texts) more a b c before are = (before.0, before.1, put_then 
 
 -- ---- one file more
 
-pub none_checked : (t : Task) (q : Bool) {O : Type 0} (folder : FolderView O) (i : SourceState)
+pub none_checked : (t : Task) (q : Lines) {O : Type 0} (folder : FolderView O) (i : SourceState)
     (o e : SinkState)
     → AreChecked t q folder [] [] exit.Done (change i i) (change o o) (change e e)
 none_checked t q folder i o e = record {
@@ -98,7 +85,7 @@ none_checked t q folder i o e = record {
   openings = λ i e short. let no : ⊥ = omega (arith, short) in absurd no;
   read = λ i e short. let no : ⊥ = omega (arith, short) in absurd no;
   exits = refl;
-  lines = Appends-none o.taken;
+  wrote = Appends-none o.taken;
   unfailed = refl;
   untouched = λ quiet. refl;
   said = none_put e;
@@ -205,19 +192,18 @@ from_done exit.Broken = refl
 from_done exit.Refused = refl
 from_done exit.Usage = refl
 
-first_of_both : (causes : List Cause) (last : Option Cause)
-    → slice_get (causes ++ cons_option last []) 0 ≡ option_or (slice_get causes 0) last
-first_of_both [] None = refl
-first_of_both [] (Some r) = refl
-first_of_both (c ∷ causes) last = refl
+causes_more : (ends : List FileEnd) (e : FileEnd)
+    → causes_among (ends ++ e ∷ []) ≡ with_cause (causes_among ends) (cause_of e.answer)
+causes_more ends e =
+    ap causes_of (map-append (λ (e : FileEnd). e.answer) ends (e ∷ []))
+    ∙ fold_push (λ causes answer. with_cause causes (cause_of answer)) [] (map (λ e. e.answer) ends) e.answer
 
-first_cause_more : (answers : List (Result Status RunFault)) (last : Result Status RunFault)
-    → first_cause (answers ++ last ∷ []) ≡ option_or (first_cause answers) (cause_of last)
-first_cause_more answers last =
-    ap (λ (causes : List Cause). slice_get causes 0) (filter_map-append cause_of answers (last ∷ []))
-    ∙ first_of_both (filter_map cause_of answers) (cause_of last)
+failed_more : (ends : List FileEnd) (e : FileEnd)
+    → failed_among (ends ++ e ∷ []) ≡ failed_among ends + cond (has_failed e.answer) 1 0
+failed_more ends e =
+    sum_by_push (λ (e : FileEnd). cond (has_failed e.answer) 1 0) ends e
 
-module _ (t : Task) (q : Bool) {O : Type 0} (folder : FolderView O) (ends : List FileEnd)
+module _ (t : Task) (q : Lines) {O : Type 0} (folder : FolderView O) (ends : List FileEnd)
     (labels : List (Option Text)) (label : Option Text) (x : Exit) (i₀ i₁ i₂ : SourceState)
     (o₀ o₁ o₂ e₀ e₁ e₂ : SinkState)
     (before : AreChecked t q folder ends labels x (change i₀ i₁) (change o₀ o₁) (change e₀ e₁))
@@ -235,7 +221,8 @@ module _ (t : Task) (q : Bool) {O : Type 0} (folder : FolderView O) (ends : List
       → IsChecked {E = E} t q folder label (Ok y) (change i₁ i₂) (change o₁ o₂) (change e₁ e₂)
       → (all : List FileEnd) × AreChecked t q folder all (labels ++ label ∷ [])
       (worse x (exit_for_answer y)) (change i₀ i₂) (change o₀ o₂) (change e₀ e₂)
-      × (first_wrong all ≡ option_or (first_wrong ends) (cause_of y))
+      × (causes_among all ≡ with_cause (causes_among ends) (cause_of y))
+      × (failed_among all ≡ failed_among ends + cond (has_failed y) 1 0) × (length all ≡ length ends + 1)
   checked_more y one = (
     ends ++ one.e ∷ [],
     record {
@@ -247,18 +234,18 @@ module _ (t : Task) (q : Bool) {O : Type 0} (folder : FolderView O) (ends : List
       openings = All-push (IsFileOpening folder) ends one.e before.openings one.opening;
       read = all_read one.e one.label_is one.read;
       exits = ap₂ worse before.exits (ap exit_for_answer one.outcome.0) ∙ sym (exits_more ends one.e);
-      lines = Appends-then o₀.taken o₁.taken o₂.taken (files_text q ends) (text_of_end q one.e) _ before.lines
+      wrote = Appends-then o₀.taken o₁.taken o₂.taken (files_text q ends) (text_of_end q one.e) _ before.wrote
           (rw one.label_is one.outcome.1) (text_more (text_of_end q) ends one.e);
       unfailed = one.outcome.2 ∙ before.unfailed;
       untouched = λ quiet. one.outcome.4 quiet ∙ before.untouched quiet;
-      said = rw (text_more said_of ends one.e)
-          (put_then (complaints_of ends) (said_of one.e) e₀ e₁ e₂ before.said
-          (file_said_put one.e.label one.e.unopened one.e.format one.e.answer e₁ e₂
-          (rw one.label_is one.outcome.3)));
+      said = rw (text_more (said_of q) ends one.e)
+          (put_then (complaints_of q ends) (said_of q one.e) e₀ e₁ e₂ before.said (rw one.label_is one.outcome.3));
     },
-    ap first_cause (map-append (λ e. e.answer) ends (one.e ∷ []))
-        ∙ first_cause_more (map (λ e. e.answer) ends) one.e.answer
-        ∙ ap (λ (a : Result Status RunFault). option_or (first_wrong ends) (cause_of a)) (sym one.outcome.0),
+    causes_more ends one.e
+        ∙ ap (λ (a : Result Status RunFault). with_cause (causes_among ends) (cause_of a)) (sym one.outcome.0),
+    failed_more ends one.e
+        ∙ ap (λ (a : Result Status RunFault). failed_among ends + cond (has_failed a) 1 0) (sym one.outcome.0),
+    length-append ends (one.e ∷ []),
   )
 
   pub cut_after : {E : Type 0} (f : E) (all rest : List (Option Text)) (e₃ : SinkState)
@@ -284,13 +271,13 @@ module _ (t : Task) (q : Bool) {O : Type 0} (folder : FolderView O) (ends : List
         openings = All-push (IsFileOpening folder) ends one.e before.openings one.opening;
         read = all_read one.e one.label_is one.read;
         exits = refl;
-        lines = Appends-trans o₀.taken o₁.taken o₂.taken (files_text q ends) _ before.lines
+        wrote = Appends-trans o₀.taken o₁.taken o₂.taken (files_text q ends) _ before.wrote
             (rw (append-nil (text_of_end q one.e)) cut.1);
         failed = one.outcome.2 ∙ ap one_more before.unfailed;
-        silent = All-cons (λ (e : FileEnd). (said_of e ≡ []) ⊎ (e.answer ≡ Err run.Write)) one.e []
+        silent = All-cons (λ (e : FileEnd). (said_of q e ≡ []) ⊎ (e.answer ≡ Err run.Write)) one.e []
             (rw one.label_is one.outcome.3)
-            (All-nil (λ (e : FileEnd). (said_of e ≡ []) ⊎ (e.answer ≡ Err run.Write)));
-        said = put_then (complaints_of ends) (fault_line run.Write ∷ []) e₀ e₁ e₃ before.said
+            (All-nil (λ (e : FileEnd). (said_of q e ≡ []) ⊎ (e.answer ≡ Err run.Write)));
+        said = put_then (complaints_of q ends) (fault_line run.Write ∷ []) e₀ e₁ e₃ before.said
             (one_put (fault_line run.Write) e₁ e₃
             (subst (λ (e : SinkState). IsPut (fault_line run.Write) (change e e₃)) one.outcome.4 put));
       }
@@ -335,11 +322,6 @@ pub wrote_kept : (t : Task) (told has left : Option (List ℕ)) (answer : Result
 wrote_kept t told has left answer was is same =
     kept (λ (bytes : List ℕ). Wrote t bytes left answer was is) told has same
 
--- without lines there is no text
-pub no_text : (is_quiet : Bool) (label : Option Text) → file_text is_quiet label [] ≡ []
-no_text true label = refl
-no_text false label = refl
-
 -- a file was opened without a failure; if calls on an input over it failed, calls on it did
 pub fails_with : {O : Type 0} (folder : FolderView O) (name : Text) (answer : Result Status RunFault) (opened ended : O)
     (old new : ℕ) → folder.state opened ≡ record { remaining = bytes_of folder.opening name; failures = 0 }
@@ -361,12 +343,11 @@ pub unopened : (t : Task) → has_lines t ≡ true → (label : Option Text) (re
       told = told;
       left = told;
       format = None;
-      lines = [];
+      items = [];
       answer = Err run.Read;
     })
 unopened t has label reason told = record {
   wrote = nothing t has told;
-  are_lines = All-nil IsLine;
   memory = λ is. cc;
   refused = λ found fault is. refl;
   written = λ found is. cc;
@@ -384,13 +365,14 @@ unopened t has label reason told = record {
 
 -- ---- when all inputs are checked
 
-module _ (t : Task) (q h : Bool) {O : Type 0} (folder : FolderView O) (ends : List FileEnd)
-    (labels : List (Option Text)) (x y : Exit) (cause : Option Cause) (i : Change SourceState)
+module _ (t : Task) (q : Lines) (h : Shown) {O : Type 0} (folder : FolderView O) (ends : List FileEnd)
+    (labels : List (Option Text)) (x y : Exit) (causes : List Cause) (failed all : ℕ) (i : Change SourceState)
     (o₀ o₁ o₂ e₀ e₁ e₂ : SinkState)
     (before : AreChecked t q folder ends labels x i (change o₀ o₁) (change e₀ e₁)) where
-  pub ended : cause ≡ first_wrong ends → IsFinished t q h x cause y (change o₁ o₂) (change e₁ e₂)
+  pub ended : causes ≡ causes_among ends → failed ≡ failed_among ends → all ≡ length ends
+      → IsFinished t q h x causes failed all y (change o₁ o₂) (change e₁ e₂)
       → FilesEnd t q h folder labels y i (change o₀ o₂) (change e₀ e₂)
-  ended first (inl (is, kept, same, flushed, untouched, put)) =
+  ended first counted many (inl (is, kept, same, flushed, untouched, put)) =
       inl (record {
         ends = ends;
         between = e₁;
@@ -401,15 +383,15 @@ module _ (t : Task) (q h : Bool) {O : Type 0} (folder : FolderView O) (ends : Li
           openings = before.openings;
           read = before.read;
           exits = before.exits;
-          lines = Appends-keeps o₀.taken o₁.taken o₂.taken (files_text q ends) before.lines kept;
+          wrote = Appends-keeps o₀.taken o₁.taken o₂.taken (files_text q ends) before.wrote kept;
           unfailed = same ∙ before.unfailed;
           untouched = λ quiet. untouched quiet ∙ before.untouched quiet;
           said = before.said;
         });
         flushed = flushed;
-        hinted = rw first at put;
+        closed = rw (first, counted, many) at put;
       })
-  ended first (inr (is, kept, failed, wanted, put)) =
+  ended first counted many (inr (is, kept, cut, wanted, put)) =
       let none : ends ++ [] ≡ ends = append-nil ends in
       inr (record {
         whole = ends;
@@ -424,27 +406,28 @@ module _ (t : Task) (q h : Bool) {O : Type 0} (folder : FolderView O) (ends : Li
         openings = rw none before.openings;
         read = rw none before.read;
         exits = is;
-        lines = rw (append-nil (files_text q ends))
-            (Appends-keeps o₀.taken o₁.taken o₂.taken (files_text q ends) before.lines kept);
-        failed = failed ∙ ap one_more before.unfailed;
-        silent = All-nil (λ (e : FileEnd). (said_of e ≡ []) ⊎ (e.answer ≡ Err run.Write));
-        said = put_then (complaints_of ends) (fault_line run.Write ∷ []) e₀ e₁ e₂ before.said
+        wrote = rw (append-nil (files_text q ends))
+            (Appends-keeps o₀.taken o₁.taken o₂.taken (files_text q ends) before.wrote kept);
+        failed = cut ∙ ap one_more before.unfailed;
+        silent = All-nil (λ (e : FileEnd). (said_of q e ≡ []) ⊎ (e.answer ≡ Err run.Write));
+        said = put_then (complaints_of q ends) (fault_line run.Write ∷ []) e₀ e₁ e₂ before.said
             (one_put (fault_line run.Write) e₁ e₂ put);
       })
 
 -- one input alone
-module _ (t : Task) (q h : Bool) {O : Type 0} (folder : FolderView O) (label : Option Text) (i₀ i₁ : SourceState)
+module _ (t : Task) (q : Lines) (h : Shown) {O : Type 0} (folder : FolderView O) (label : Option Text) (i₀ i₁ : SourceState)
     (o₀ o₁ o₂ e₀ e₁ e₂ : SinkState) (stays : is_dash (name_of label) ≡ false → i₁ ≡ i₀) where
-  pub one_ended : {E : Type 0} (answer : Result Status RunFault) (x y : Exit) (cause : Option Cause)
+  pub one_ended : {E : Type 0} (answer : Result Status RunFault) (x y : Exit) (causes : List Cause) (failed : ℕ)
       → IsChecked {E = E} t q folder label (Ok answer) (change i₀ i₁) (change o₀ o₁) (change e₀ e₁)
-      → x ≡ exit_for_answer answer → cause ≡ cause_of answer
-      → IsFinished t q h x cause y (change o₁ o₂) (change e₁ e₂)
+      → x ≡ exit_for_answer answer → causes ≡ with_cause [] (cause_of answer) → failed ≡ cond (has_failed answer) 1 0
+      → IsFinished t q h x causes failed 1 y (change o₁ o₂) (change e₁ e₂)
       → FilesEnd t q h folder (label ∷ []) y (change i₀ i₁) (change o₀ o₂) (change e₀ e₂)
-  one_ended answer x y cause one is found finished =
+  one_ended answer x y causes failed one is found counted finished =
       let all = checked_more t q folder [] [] label exit.Done i₀ i₀ i₁ o₀ o₀ o₁ e₀ e₀ e₁
       (none_checked t q folder i₀ o₀ e₀) stays (λ dash. refl) (λ none. refl) answer one in
-      ended t q h folder all.0 (label ∷ []) x y cause (change i₀ i₁) o₀ o₁ o₂ e₀ e₁ e₂
-      (rw (is ∙ sym (from_done (exit_for_answer answer))) all.1) (found ∙ sym all.2) finished
+      ended t q h folder all.0 (label ∷ []) x y causes failed 1 (change i₀ i₁) o₀ o₁ o₂ e₀ e₁ e₂
+      (rw (is ∙ sym (from_done (exit_for_answer answer))) all.1) (found ∙ sym all.2) (omega (arith, counted, all.3))
+      (omega (arith, all.4)) finished
 
   pub one_cut : {E : Type 0} (f : E)
       → IsChecked {E = E} t q folder label (Err f) (change i₀ i₁) (change o₀ o₁) (change e₀ e₁)

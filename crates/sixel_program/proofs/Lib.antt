@@ -2,6 +2,7 @@ pub mod OpeningLemmas
 pub mod PeekedLemmas
 pub mod PutLemmas
 pub mod EndLemmas
+pub mod EmptyLemmas
 pub mod DashLemmas
 pub mod FilesLemmas
 pub mod OneFileLemmas
@@ -11,3 +12,9 @@ pub mod StringLineLemmas
 pub mod RequestLemmas
 pub mod SeveralLemmas
 pub mod StatusLemmas
+pub mod ReportLemmas
+pub mod JsonLemmas
+pub mod MemberLemmas
+pub mod ReadBackLemmas
+pub mod ValueLemmas
+pub mod CauseLemmas

@@ -4,6 +4,9 @@ use Rattle.std.proofs.Common.{subst, inl, inr, fold, map}
 use Rattle.std.specs.Prelude.{◌≢◌, ◌⊎◌, Result, Ok, Err, IfSome, if◌then◌else◌}
 use Rattle.sixel_io.specs.Devices.{Change, SinkState, SourceState}
 use Rattle.sixel_program.specs.declared.exit.Exit.{Exit}
+use Rattle.sixel_program.specs.Lines.{all_of}
+use Rattle.sixel_program.specs.declared.lines.Lines.{Lines}
+use Rattle.sixel_program.specs.declared.lines.Shown.{Shown}
 use Rattle.sixel_program.specs.declared.exit.Exit.TheVariants as exit
 use Rattle.sixel_run.specs.declared.fault.RunFault.{RunFault}
 use Rattle.sixel_run.specs.declared.fault.RunFault.TheVariants as run
@@ -45,21 +48,21 @@ file_run folder t name x i o e ended =
 module _ {O : Type 0} (folder : FolderView O) (x : Exit) (i : Change SourceState)
     (o e : Change SinkState) where
   -- one input was read, or inputs were checked, surveyed or scanned
-  abbrev pub HasRead : Task → Bool → List Text → Type 0
+  abbrev pub HasRead : Task → Shown → List Text → Type 0
   HasRead t h names =
       ((name : Text) × (names_read t names ≡ name ∷ [])
       × IsRunOver t x (told_of (bytes_of folder.opening) i.old.remaining name))
-      ⊎ ((r : Bool) × (names_read t names ≡ map name_of (labels_for names))
+      ⊎ ((r : Lines) × (names_read t names ≡ map name_of (labels_for names))
       × FilesEnd t r h folder (labels_for names) x i o e)
 
-  pub request_read : (t : Task) (q h : Bool) (names : List Text) → RequestEnds t q h names folder x i o e
+  pub request_read : (t : Task) (q : Lines) (h : Shown) (names : List Text) → RequestEnds t q h names folder x i o e
       → HasRead t h names
   request_read (task.Check profile) q h names ended =
       inr (q, sym (labels_read (task.Check profile) names refl), ended)
   request_read (task.Survey profile) q h names ended =
-      inr (false, sym (labels_read (task.Survey profile) names refl), ended)
+      inr (all_of q, sym (labels_read (task.Survey profile) names refl), ended)
   request_read (task.Scan profile eight) q h names ended =
-      inr (false, sym (labels_read (task.Scan profile eight) names refl), ended)
+      inr (all_of q, sym (labels_read (task.Scan profile eight) names refl), ended)
   request_read task.List q h [] ended = inl (codes "-", refl, run_ends task.List None x i o e ended)
   request_read task.List q h (name ∷ more) ended = inl (name, refl, file_run folder task.List name x i o e ended)
   request_read (task.Render profile) q h [] ended =
@@ -99,14 +102,14 @@ greatest_no_usage x [] other = other
 greatest_no_usage x (e ∷ ends) other =
     greatest_no_usage (worse x (exit_of_end e)) ends (one_of_two _ x (exit_of_end e) other (answer_no_usage e.answer))
 
-files_no_usage : (t : Task) (q h : Bool) {O : Type 0} (folder : FolderView O) (labels : List (Option Text)) (x : Exit)
+files_no_usage : (t : Task) (q : Lines) (h : Shown) {O : Type 0} (folder : FolderView O) (labels : List (Option Text)) (x : Exit)
     (i : Change SourceState) (o e : Change SinkState) → FilesEnd t q h folder labels x i o e → x ≢ exit.Usage
 files_no_usage t q h folder labels x i o e (inl done) is =
     greatest_no_usage exit.Done done.ends (λ (none : exit.Done ≡ exit.Usage). cc) (sym done.checked.exits ∙ is)
 files_no_usage t q h folder labels x i o e (inr cut) is =
     let no : exit.Refused ≡ exit.Usage = sym cut.exits ∙ is in cc
 
-pub request_no_usage : (t : Task) (q h : Bool) (names : List Text) {O : Type 0} (folder : FolderView O)
+pub request_no_usage : (t : Task) (q : Lines) (h : Shown) (names : List Text) {O : Type 0} (folder : FolderView O)
     (x : Exit) (i : Change SourceState) (o e : Change SinkState) → RequestEnds t q h names folder x i o e
     → x ≢ exit.Usage
 request_no_usage t q h names folder x i o e ended is =

@@ -2,7 +2,7 @@
 use Rattle.std.proofs.Common.{ap, append_assoc, Err, ◌++◌, ◌≡◌, ◌≤◌, ◌∷◌, ℕ, Bool, true, false, List, [], Option, Some}
 use Rattle.std.proofs.Common.{arith, refl, sym, fold, length, map, slice_index_or, subst, suc, zero, inl, inr, ◌<◌, ◌+◌}
 use Rattle.std.proofs.Common.{◌-◌, ◌^◌, ◌∙◌}
-use Rattle.std.specs.Prelude.{◌⊎◌, ◌≢◌, All, Contains, Ok, nat_lt, if◌then◌else◌}
+use Rattle.std.specs.Prelude.{◌⊎◌, ◌≢◌, All, Contains, Ok, filter, flat_map, nat_lt, not, if◌then◌else◌}
 use Rattle.std.specs.List.{concat}
 use Rattle.std.proofs.lemmas.List.{append-nil}
 use Rattle.std.proofs.lemmas.Bool.{cases_lt, ltb-false, ltb-true}
@@ -10,6 +10,7 @@ use Rattle.sixel_io.specs.Devices.{Change, SinkState, change, one_more}
 use Rattle.sixel_io.proofs.SinkLemmas.{Appends-none}
 use Rattle.sixel_io.proofs.DeviceLemmas.{Appends-then}
 use Rattle.std.proofs.lemmas.List.Elements.{All-cons, All-nil}
+use Rattle.sixel_program.specs.Lines.{is_portable_item}
 use Rattle.sixel_program.specs.declared.exit.Exit.{Exit}
 use Rattle.sixel_program.specs.declared.exit.Exit.TheVariants as exit
 use Rattle.sixel_grammar.specs.declared.fault.Fault.{Fault}
@@ -17,8 +18,13 @@ use Rattle.sixel_run.specs.declared.fault.RunFault.{RunFault}
 use Rattle.sixel_run.specs.declared.fault.RunFault.TheVariants as run
 use Rattle.sixel_run.specs.declared.task.Status.{Status}
 use Rattle.sixel_program.specs.Exits.{IsPut, exit_code, exit_for_answer}
-use Rattle.sixel_program.specs.Files.{ArePut, FileEnd, IsFileEnd, IsSaid, exit_of_end, file_text, files_exit}
-use Rattle.sixel_program.proofs.FilesLemmas.{from_done, no_text}
+use Rattle.sixel_program.specs.Files.{ArePut, FileEnd, IsFileEnd, IsSaid, exit_of_end, files_exit, refusal_object}
+use Rattle.sixel_program.specs.declared.lines.Lines.TheVariants.{Json, Nothing, Plain}
+use Rattle.sixel_program.proofs.FilesLemmas.{from_done}
+use Rattle.sixel_program.specs.Exits.{labelled}
+use Rattle.sixel_program.specs.Files.{written_for}
+use Rattle.sixel_run.specs.declared.item.Item.{Item}
+use Rattle.sixel_program.proofs.NamedLemmas.{none_written}
 use Rattle.sixel_program.specs.Files.{files_text, worse}
 use Rattle.sixel_run.specs.LineTasks.{has_lines, scans}
 use Rattle.sixel_run.proofs.StringLemmas.{not_a_fault}
@@ -29,7 +35,7 @@ use Rattle.sixel_run.specs.declared.task.Task.TheVariants.{Check, Scan, Survey}
 use Rattle.sixel_scan.specs.declared.answer.Scanned.{Scanned}
 use Rattle.sixel_model.specs.Profiles.{count_of}
 use Rattle.sixel_model.specs.declared.profile.Profile.{Profile}
-use Rattle.sixel_run.specs.Texts.{Text}
+use Rattle.sixel_run.specs.Texts.{Text, item_line, items_text}
 
 -- ---- the greatest
 
@@ -138,16 +144,35 @@ said_whole texts sink are =
 
 -- ---- the line of one
 
--- a file that a check or a survey refuses has no text
-pub refused : (t : Task) (is_quiet : Bool) (e : FileEnd) (fault : RunFault) → IsFileEnd t e
-    → scans t ≡ false → e.answer ≡ Err fault → files_text is_quiet (e ∷ []) ≡ []
-refused t is_quiet e fault is found answer =
-    append-nil (file_text is_quiet e.label e.lines)
-    ∙ ap (file_text is_quiet e.label) (is.refused found fault answer) ∙ no_text is_quiet e.label
+-- a file that a check or a survey refuses has no line; in JSON its object is its text
+pub refused : (t : Task) (only_failed : Bool) (e : FileEnd) (fault : RunFault) → IsFileEnd t e
+    → scans t ≡ false → e.answer ≡ Err fault
+    → (files_text (Plain only_failed) (e ∷ []) ≡ [])
+    × (files_text (Json only_failed) (e ∷ []) ≡ refusal_object e.label e.unopened e.answer)
+refused t only_failed e fault is found answer =
+    let none = is.refused found fault answer in (
+      rw none refl,
+      rw none (append-nil (refusal_object e.label e.unopened e.answer)),
+    )
 
-pub quiet : (ends : List FileEnd) → files_text true ends ≡ []
+failures_step : (portable : Bool) (label : Option Text) (i : Item) (items : List Item) → is_portable_item i ≡ portable
+    → flat_map (written_for (Plain true) label) items
+    ≡ flat_map (λ (i : Item). labelled label (item_line i)) (filter (λ (i : Item). not (is_portable_item i)) items)
+    → flat_map (written_for (Plain true) label) (i ∷ items)
+    ≡ flat_map (λ (i : Item). labelled label (item_line i)) (filter (λ (i : Item). not (is_portable_item i)) (i ∷ items))
+failures_step true label i items is rest = rw is rest
+failures_step false label i items is rest = rw is (ap (λ (t : Text). labelled label (item_line i) ++ t) rest)
+
+-- of only failures no line is written of what is portable
+pub failures_of : (label : Option Text) (items : List Item) → flat_map (written_for (Plain true) label) items
+    ≡ flat_map (λ (i : Item). labelled label (item_line i)) (filter (λ (i : Item). not (is_portable_item i)) items)
+failures_of label [] = refl
+failures_of label (i ∷ items) = failures_step (is_portable_item i) label i items refl (failures_of label items)
+
+pub quiet : (ends : List FileEnd) → files_text Nothing ends ≡ []
 quiet [] = refl
-quiet (e ∷ ends) = quiet ends
+quiet (e ∷ ends) =
+    rw (none_written e.label e.items) (quiet ends)
 
 refuses : (t : Task) (bytes text : Text) (fault : Fault) → has_lines t ≡ true
     → Gives t bytes text (Err (run.Grammar fault)) → Gives t bytes [] (Err (run.Grammar fault))
@@ -160,14 +185,14 @@ pub faulty : (t : Task) (e : FileEnd) (bytes : List ℕ) (fault : Fault) → has
     → e.told ≡ Some bytes → e.answer ≡ Err (run.Grammar fault)
     → Gives t bytes [] (Err (run.Grammar fault))
 faulty t e bytes fault has is told answer =
-    let wrote : Wrote t bytes e.left (Err (run.Grammar fault)) (Some []) (Some (concat e.lines)) =
+    let wrote : Wrote t bytes e.left (Err (run.Grammar fault)) (Some []) (Some (items_text e.items)) =
     rw (told, answer) at is.wrote in
     refuses t bytes wrote.0 fault has wrote.1
 
 pub alone : (t : Task) (e : FileEnd) (bytes : List ℕ) (status : Status) → IsFileEnd t e
-    → e.told ≡ Some bytes → e.answer ≡ Ok status → Gives t bytes (concat e.lines) (Ok status)
+    → e.told ≡ Some bytes → e.answer ≡ Ok status → Gives t bytes (items_text e.items) (Ok status)
 alone t e bytes status is told answer =
-    let wrote : Wrote t bytes e.left (Ok status) (Some []) (Some (concat e.lines)) =
+    let wrote : Wrote t bytes e.left (Ok status) (Some []) (Some (items_text e.items)) =
     rw (told, answer) at is.wrote in
     subst (λ (text : Text). Gives t bytes text (Ok status)) (sym wrote.2) wrote.1
 
@@ -186,8 +211,8 @@ scan_found eight registers bytes left fault lines other wrote =
 pub unended : (profile : Profile) (eight : Bool) (e : FileEnd) (bytes : List ℕ) (fault : RunFault)
     → IsFileEnd (Scan profile eight) e → e.told ≡ Some bytes → e.answer ≡ Err fault → fault ≢ run.Write
     → (reports : List Scanned) × Finds eight (count_of profile) bytes e.left (Err fault) reports
-    × (concat e.lines ≡ scan_text reports) × (exit_of_end e ≡ exit.Refused)
+    × (items_text e.items ≡ scan_text reports) × (exit_of_end e ≡ exit.Refused)
 unended profile eight e bytes fault is told answer other =
-    let found = scan_found eight (count_of profile) bytes e.left fault (concat e.lines) other
+    let found = scan_found eight (count_of profile) bytes e.left fault (items_text e.items) other
     (rw (told, answer) at is.wrote) in
     (found.0, found.1, found.2, ap exit_for_answer answer)

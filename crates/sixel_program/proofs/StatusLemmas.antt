@@ -1,11 +1,12 @@
 -- What an exit status says of each file that was read.
 use Rattle.std.proofs.Common.{◌≡◌, ◌∙◌, ◌≤◌, ◌∷◌, ℕ, Bool, List, [], Option, Some, None, arith, inl, inr, ap, map, refl}
 use Rattle.std.proofs.Common.{subst, suc, sym, zero}
-use Rattle.std.specs.List.{concat}
 use Rattle.std.specs.Prelude.{All, Contains, Err, IfSome, Ok, Result, slice_index_or}
 use Rattle.std.proofs.lemmas.List.Elements.{All-cons, All-head, All-nil, All-tail}
 use Rattle.sixel_io.specs.Devices.{Change, SinkState, SourceState}
 use Rattle.sixel_program.specs.declared.exit.Exit.{Exit}
+use Rattle.sixel_program.specs.declared.lines.Lines.{Lines}
+use Rattle.sixel_program.specs.declared.lines.Shown.{Shown}
 use Rattle.sixel_program.specs.declared.exit.Exit.TheVariants as exit
 use Rattle.sixel_run.specs.declared.fault.RunFault.{RunFault}
 use Rattle.sixel_run.specs.declared.task.Status.{Status}
@@ -17,7 +18,7 @@ use Rattle.sixel_program.specs.Files.{FileEnd, FilesEnd, IsBrokenOver, IsDoneOve
 use Rattle.sixel_program.specs.Files.{RequestEnds, exit_of_end, files_exit, labels_for, name_of, names_read, told_of}
 use Rattle.sixel_program.proofs.FilesLemmas.{names_of}
 use Rattle.sixel_program.specs.Openings.{FolderView, bytes_of}
-use Rattle.sixel_run.specs.Texts.{Text}
+use Rattle.sixel_run.specs.Texts.{Text, items_text}
 use Rattle.sixel_program.proofs.EndLemmas.{broken_gives, done_gives}
 use Rattle.sixel_program.proofs.RequestLemmas.{request_read}
 use Rattle.sixel_program.proofs.SeveralLemmas.{contains_later, greatest_of, reached}
@@ -54,7 +55,7 @@ module _ (t : Task) (ends : List FileEnd) (each : All (IsFileEnd t) ends) where
   each_done : files_exit ends ≡ exit.Done → All (λ e. IsDoneOver t e.told) ends
   each_done is = λ k d short.
       let e = slice_index_or ends k d in
-      done_gives t e.told e.left e.answer (Some []) (Some (concat e.lines)) (each k d short).wrote
+      done_gives t e.told e.left e.answer (Some []) (Some (items_text e.items)) (each k d short).wrote
       (least (exit_of_end e)
       (subst (λ (x : Exit). exit_code (exit_of_end e) ≤ exit_code x) is (greatest_of ends k d short)))
 
@@ -66,7 +67,7 @@ module _ (t : Task) (ends : List FileEnd) (each : All (IsFileEnd t) ends) where
   each_judged : files_exit ends ≡ exit.Broken → All (λ e. IsJudgedOver t e.told) ends
   each_judged is = λ k d short.
       let e = slice_index_or ends k d in
-      judged_gives t e.told e.left e.answer (Some []) (Some (concat e.lines)) (each k d short).wrote
+      judged_gives t e.told e.left e.answer (Some []) (Some (items_text e.items)) (each k d short).wrote
       (each_below is k d short)
 
 -- of the files, one that is broken has a name
@@ -78,7 +79,7 @@ told_broken t contents i (e ∷ rest) read each (zero, short, is) = (
   name_of e.label,
   (0, omega arith, refl),
   subst (IsBrokenOver t) (All-head (IsRead contents i) e rest read).told
-      (broken_gives t e.told e.left e.answer (Some []) (Some (concat e.lines))
+      (broken_gives t e.told e.left e.answer (Some []) (Some (items_text e.items))
       (All-head (IsFileEnd t) e rest each).wrote is),
 )
 told_broken t contents i (e ∷ rest) read each (suc k, short, is) =
@@ -90,7 +91,7 @@ one_broken : (ends : List FileEnd) → files_exit ends ≡ exit.Broken → Conta
 one_broken [] is = let no : exit.Done ≡ exit.Broken = is in cc
 one_broken (e ∷ more) is = subst (Contains (map exit_of_end (e ∷ more))) is (reached e more)
 
-module _ (t : Task) (q h : Bool) {O : Type 0} (folder : FolderView O) (labels : List (Option Text))
+module _ (t : Task) (q : Lines) (h : Shown) {O : Type 0} (folder : FolderView O) (labels : List (Option Text))
     (x : Exit) (i : Change SourceState) (o e : Change SinkState) where
   files_done : FilesEnd t q h folder labels x i o e → x ≡ exit.Done
       → All (λ name. IsDoneOver t (told_of (bytes_of folder.opening) i.old.remaining name)) (map name_of labels)
@@ -125,7 +126,7 @@ module _ (t : Task) (q h : Bool) {O : Type 0} (folder : FolderView O) (labels : 
 
 -- ---- what is asked for
 
-module _ (t : Task) (q h : Bool) (names : List Text) {O : Type 0} (folder : FolderView O) (x : Exit)
+module _ (t : Task) (q : Lines) (h : Shown) (names : List Text) {O : Type 0} (folder : FolderView O) (x : Exit)
     (i : Change SourceState) (o e : Change SinkState)
     (ended : RequestEnds t q h names folder x i o e) where
   all_of_one : (P : Option (List ℕ) → Type 0) (name : Text) → P (told_of (bytes_of folder.opening) i.old.remaining name)

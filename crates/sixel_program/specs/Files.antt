@@ -3,7 +3,7 @@ use Rattle.std.specs.Prelude.{◌≡◌, ◌≢◌, ◌⊎◌, ◌-◌, ◌^◌,
 use Rattle.std.specs.Prelude.{Option, Some, None, IfSome, Result, Ok, Err, codes, flat_map, fold, map, take, nat_lt}
 use Rattle.std.specs.Prelude.{◌≤◌, OnOk, count_by, length, option_to_list, if◌then◌else◌, ⊤}
 use Rattle.std.specs.Io.KnownBytes.{Appends, Keeps}
-use Rattle.std.specs.List.{All, concat, list_any}
+use Rattle.std.specs.List.{All, list_any}
 use Rattle.std.specs.Str.{bytes_eq}
 use Rattle.sixel_io.specs.Devices.{Change, SinkState, SourceState, change, one_more}
 use Rattle.sixel_program.specs.declared.hints.Cause.{Cause}
@@ -23,10 +23,17 @@ use Rattle.sixel_program.specs.Formats.{IsFormat, advice_on}
 use Rattle.sixel_program.specs.Exits.{IsPut, RunEnds, exit_code, exit_for_answer, fault_said, labelled}
 use Rattle.sixel_run.specs.LineTasks.{ReadsOver, scans}
 use Rattle.sixel_run.specs.Outputs.{Gives, TakesMemory, Wrote, failures_by}
-use Rattle.sixel_program.specs.Hints.{first_cause, hint_of}
+use Rattle.sixel_program.specs.Hints.{causes_of, hinted, hints_of}
 use Rattle.sixel_program.specs.Names.{unopened_line}
 use Rattle.sixel_program.specs.Openings.{CountsOf, FailsWith, FolderView, IsOpening, Told, bytes_of}
-use Rattle.sixel_run.specs.Texts.{IsLine, Text, fault_line}
+use Rattle.sixel_run.specs.declared.item.Item.{Item}
+use Rattle.sixel_run.specs.Texts.{Text, fault_line, item_line, items_text}
+use Rattle.sixel_program.specs.declared.lines.Lines.{Lines}
+use Rattle.sixel_program.specs.declared.lines.Lines.TheVariants.{Json, Nothing, Plain}
+use Rattle.sixel_program.specs.Json.{fault_members, file_member, item_members, json_line, unread_members}
+use Rattle.sixel_program.specs.Counts.{count_of, has_failed}
+use Rattle.sixel_program.specs.Lines.{all_of, is_portable_item, is_quiet}
+use Rattle.sixel_program.specs.declared.lines.Shown.{Shown}
 
 -- ---- names
 
@@ -92,9 +99,9 @@ waiting_line (Encode profile) = codes "sixel: waiting for a PPM on standard inpu
 waiting_line t = codes "sixel: waiting for sixel text on standard input" ++ 10 ∷ []
 
 -- the notice before a task: one that reads standard input says that it waits, if that is a terminal and it isn't quiet
-abbrev pub notice : Terminals → Task → Bool → List Text → Text
-notice terminals t is_quiet names =
-    if terminals.input && not is_quiet && reads_input t names then waiting_line t else []
+abbrev pub notice : Terminals → Task → Lines → List Text → Text
+notice terminals t lines names =
+    if terminals.input && not (is_quiet lines) && reads_input t names then waiting_line t else []
 
 -- whether the task writes a PPM
 abbrev pub writes_ppm : Task → Bool
@@ -156,23 +163,22 @@ pub record FileEnds {O : Type 0} (t : Task) (folder : FolderView O) (name : Text
 -- ---- checks, surveys and scans
 
 -- how the check, the survey or the scan of an input ended: its label; why it couldn't be opened, if it couldn't; its
--- bytes and what it had left, if they are known; its format; the lines found; and the answer
+-- bytes and what it had left, if they are known; its format; what was found; and the answer
 pub record FileEnd : Type 0 where
   pub label : Option Text
   pub unopened : Option Unopened
   pub told : Option (List ℕ)
   pub left : Option (List ℕ)
   pub format : Option Format
-  pub lines : List Text
+  pub items : List Item
   pub answer : Result Status RunFault
 
--- the task over those bytes may end so, and these are the lines of what it writes. After Write, which only a scan
--- answers, they are those of the strings up to the one whose line couldn't be written
+-- the task over those bytes may end so, and the lines of these items are what it writes. After Write, which only a scan
+-- answers, they are the strings up to the one that couldn't be written
 pub record IsFileEnd (t : Task) (e : FileEnd) : Type 0 where
-  pub wrote : IfSome e.told (λ bytes. Wrote t bytes e.left e.answer (Some []) (Some (concat e.lines)))
-  pub are_lines : All IsLine e.lines
-  -- a check or a survey that is refused has no line
-  pub refused : scans t ≡ false → (fault : RunFault) → e.answer ≡ Err fault → e.lines ≡ []
+  pub wrote : IfSome e.told (λ bytes. Wrote t bytes e.left e.answer (Some []) (Some (items_text e.items)))
+  -- a check or a survey that is refused has no item
+  pub refused : scans t ≡ false → (fault : RunFault) → e.answer ≡ Err fault → e.items ≡ []
   pub memory : e.answer ≡ Err run.OutOfMemory → TakesMemory t e.told
   pub written : scans t ≡ false → e.answer ≢ Err run.Write
   pub reads : ReadsOver t e.answer e.told e.left
@@ -186,34 +192,59 @@ pub record IsFileOpening {O : Type 0} (folder : FolderView O) (e : FileEnd) : Ty
   pub unread : (reason : Unopened) → e.unopened ≡ Some reason → e.answer ≡ Err run.Read
   pub counted : is_dash (name_of e.label) ≡ false → e.unopened ≡ None → FailsWith folder (name_of e.label) e.answer
 
--- the output for an input: each line after its label, if it has one; nothing if the task is quiet
-abbrev pub file_text : Bool → Option Text → List Text → Text
-file_text is_quiet label lines = if is_quiet then [] else flat_map (labelled label) lines
+-- ---- what is written of an input
 
-abbrev pub text_of_end : Bool → FileEnd → Text
-text_of_end is_quiet e = file_text is_quiet e.label e.lines
+-- what is written for an item of the input with this label: its line after the label or an object of JSON, but not for
+-- what is portable, if only failures are wanted
+abbrev pub written_for : Lines → Option Text → Item → Text
+written_for Nothing label i = []
+written_for (Plain only_failed) label i =
+    if only_failed && is_portable_item i then [] else labelled label (item_line i)
+written_for (Json only_failed) label i =
+    if only_failed && is_portable_item i then [] else json_line (file_member label ∷ item_members i)
+
+-- the object of an input with this label that couldn't be opened or is refused. A failed write isn't the input's fault
+abbrev pub refusal_object : Option Text → Option Unopened → Result Status RunFault → Text
+refusal_object label (Some reason) answer = json_line (file_member label ∷ unread_members reason)
+refusal_object label None (Ok status) = []
+refusal_object label None (Err run.Write) = []
+refusal_object label None (Err fault) = json_line (file_member label ∷ fault_members fault)
+
+-- what is written to the output of an input that is refused: in JSON its object
+abbrev pub refusal_text : Lines → Option Text → Option Unopened → Result Status RunFault → Text
+refusal_text (Json only_failed) label unopened answer = refusal_object label unopened answer
+refusal_text lines label unopened answer = []
+
+-- the output for an input
+abbrev pub file_text : Lines → Option Text → Option Unopened → List Item → Result Status RunFault → Text
+file_text lines label unopened items answer =
+    flat_map (written_for lines label) items ++ refusal_text lines label unopened answer
+
+abbrev pub text_of_end : Lines → FileEnd → Text
+text_of_end lines e = file_text lines e.label e.unopened e.items e.answer
 
 -- the output for several inputs
-abbrev pub files_text : Bool → List FileEnd → Text
-files_text is_quiet ends = flat_map (text_of_end is_quiet) ends
+abbrev pub files_text : Lines → List FileEnd → Text
+files_text lines ends = flat_map (text_of_end lines) ends
 
--- the messages about the check of the input with this label and this format: if it is refused one, with the advice on
--- it
-abbrev pub said_of_check : Option Text → Option Format → Result Status RunFault → List Text
-said_of_check label format (Ok status) = []
-said_of_check label format (Err fault) = (fault_said label fault ++ advice_on format fault) ∷ []
+-- the message about the input with this label and this format: why it couldn't be opened, or why it is refused, with the
+-- advice on it
+abbrev pub message_about : Option Text → Option Unopened → Option Format → Result Status RunFault → List Text
+message_about label (Some reason) format answer = unopened_line (name_of label) reason ∷ []
+message_about label None format (Ok status) = []
+message_about label None format (Err fault) = (fault_said label fault ++ advice_on format fault) ∷ []
 
--- the messages about the input with this label and this format: one if it couldn't be opened or is refused
-abbrev pub said_of_file : Option Text → Option Unopened → Option Format → Result Status RunFault → List Text
-said_of_file label None format answer = said_of_check label format answer
-said_of_file label (Some reason) format answer = unopened_line (name_of label) reason ∷ []
+-- what the errors get of an input: that message, but in JSON the output says why
+abbrev pub said_of_file : Lines → Option Text → Option Unopened → Option Format → Result Status RunFault → List Text
+said_of_file (Json only_failed) label unopened format answer = []
+said_of_file lines label unopened format answer = message_about label unopened format answer
 
-abbrev pub said_of : FileEnd → List Text
-said_of e = said_of_file e.label e.unopened e.format e.answer
+abbrev pub said_of : Lines → FileEnd → List Text
+said_of lines e = said_of_file lines e.label e.unopened e.format e.answer
 
 -- the messages about several inputs
-abbrev pub complaints_of : List FileEnd → List Text
-complaints_of ends = flat_map said_of ends
+abbrev pub complaints_of : Lines → List FileEnd → List Text
+complaints_of lines ends = flat_map (said_of lines) ends
 
 -- the greater of two exit statuses
 abbrev pub worse : Exit → Exit → Exit
@@ -229,9 +260,19 @@ exit_of_end e = exit_for_answer e.answer
 abbrev pub files_exit : List FileEnd → Exit
 files_exit ends = worst (map exit_of_end ends)
 
--- what was found wrong first
-abbrev pub first_wrong : List FileEnd → Option Cause
-first_wrong ends = first_cause (map (λ e. e.answer) ends)
+-- what was found wrong in these inputs
+abbrev pub causes_among : List FileEnd → List Cause
+causes_among ends = causes_of (map (λ e. e.answer) ends)
+
+-- how many of the inputs aren't portable, those among them that are refused or couldn't be opened
+abbrev pub failed_among : List FileEnd → ℕ
+failed_among ends = count_by (λ e. has_failed e.answer) ends
+
+-- the last messages, after so many inputs of which so many failed: the hints on what was found wrong, and the line that
+-- counts the inputs
+abbrev pub closing : Task → Lines → Shown → List Cause → ℕ → ℕ → List Text
+closing t lines shown causes failed all =
+    hints_of t (hinted lines shown causes) ++ count_of t lines shown.is_terminal failed all ∷ []
 
 abbrev pub labels_of : List FileEnd → List (Option Text)
 labels_of ends = map (λ e. e.label) ends
@@ -243,32 +284,21 @@ ArePut [] sink = sink.new ≡ sink.old
 ArePut (text ∷ rest) sink =
     (between : SinkState) × IsPut text (change sink.old between) × ArePut rest (change between sink.new)
 
--- the message about the check of an input, which has this name or none and this format, was put to a sink
-abbrev pub SaysOfCheck : Option Text → Option Format → Result Status RunFault → Change SinkState → Type 0
-SaysOfCheck name format (Ok status) errors = errors.new ≡ errors.old
-SaysOfCheck name format (Err fault) errors = IsPut (fault_said name fault ++ advice_on format fault) errors
-
--- the message about the input with this label and this format was put to a sink
-abbrev pub SaysOfFile : Option Text → Option Unopened → Option Format → Result Status RunFault → Change SinkState
-    → Type 0
-SaysOfFile label None format answer errors = SaysOfCheck label format answer errors
-SaysOfFile label (Some reason) format answer errors = IsPut (unopened_line (name_of label) reason) errors
-
--- what the task over the input with this label and this format did to the two sinks, given its lines and its answer.
+-- what the task over the input with this label and this format did to the two sinks, given what it found and its answer.
 -- `Ok`: the text for the input was appended to the output, which a quiet task leaves as it was, and the message about
 -- it was put to the errors. `Err`: the output failed after a prefix of that text, and nothing was put to the errors:
 -- there was nothing to say of the input, or the task wrote while it read. This can't happen if the task is quiet
-abbrev pub IsOutcome : {E : Type 0} → Bool → Option Text → Option Unopened → Option Format → List Text
+abbrev pub IsOutcome : {E : Type 0} → Lines → Option Text → Option Unopened → Option Format → List Item
     → Result Status RunFault → Result (Result Status RunFault) E → Change SinkState → Change SinkState → Type 0
-IsOutcome is_quiet label unopened format lines answer (Ok answered) output errors =
+IsOutcome lines label unopened format items answer (Ok answered) output errors =
     (answered ≡ answer)
-    × Appends output.old.taken output.new.taken (file_text is_quiet label lines)
-    × (output.new.failures ≡ output.old.failures) × SaysOfFile label unopened format answer errors
-    × (is_quiet ≡ true → output.new ≡ output.old)
-IsOutcome is_quiet label unopened format lines answer (Err fault) output errors =
-    ((count : ℕ) × Appends output.old.taken output.new.taken (take count (file_text is_quiet label lines)))
-    × (is_quiet ≡ false) × (output.new.failures ≡ one_more output.old.failures)
-    × ((said_of_file label unopened format answer ≡ []) ⊎ (answer ≡ Err run.Write)) × (errors.new ≡ errors.old)
+    × Appends output.old.taken output.new.taken (file_text lines label unopened items answer)
+    × (output.new.failures ≡ output.old.failures) × ArePut (said_of_file lines label unopened format answer) errors
+    × (is_quiet lines ≡ true → output.new ≡ output.old)
+IsOutcome lines label unopened format items answer (Err fault) output errors =
+    ((count : ℕ) × Appends output.old.taken output.new.taken (take count (file_text lines label unopened items answer)))
+    × (is_quiet lines ≡ false) × (output.new.failures ≡ one_more output.old.failures)
+    × ((said_of_file lines label unopened format answer ≡ []) ⊎ (answer ≡ Err run.Write)) × (errors.new ≡ errors.old)
 
 -- the input is what has its name: standard input with the bytes that it had, or the file's bytes, if they are known. If
 -- it is standard input, then what that has left, and how many calls on it have failed, is as after this input
@@ -279,11 +309,11 @@ pub record IsRead (contents : Text → Option (List ℕ)) (input : Change Source
       → input.new.failures ≡ failures_by run.Read e.answer input.old.failures
 
 -- how the task over an open file, or over standard input, ended, and what it did to the two sinks
-pub record IsNamedEnd {E : Type 0} (t : Task) (is_quiet : Bool) (label : Option Text)
+pub record IsNamedEnd {E : Type 0} (t : Task) (lines : Lines) (label : Option Text)
     (result : Result (Result Status RunFault) E) (input : Change SourceState) (output errors : Change SinkState)
     : Type 0 where
   pub format : Option Format
-  pub lines : List Text
+  pub items : List Item
   pub answer : Result Status RunFault
   pub is_end : IsFileEnd t (record {
     label = label;
@@ -291,15 +321,15 @@ pub record IsNamedEnd {E : Type 0} (t : Task) (is_quiet : Bool) (label : Option 
     told = input.old.remaining;
     left = input.new.remaining;
     format = format;
-    lines = lines;
+    items = items;
     answer = answer;
   })
   pub counted : input.new.failures ≡ failures_by run.Read answer input.old.failures
   pub written : OnOk result (answer ≢ Err run.Write)
-  pub outcome : IsOutcome is_quiet label None format lines answer result output errors
+  pub outcome : IsOutcome lines label None format items answer result output errors
 
 -- how the task over the input with this label ended, beside standard input, and what it did to the two sinks
-pub record IsChecked {O E : Type 0} (t : Task) (is_quiet : Bool) (folder : FolderView O)
+pub record IsChecked {O E : Type 0} (t : Task) (lines : Lines) (folder : FolderView O)
     (label : Option Text) (result : Result (Result Status RunFault) E) (input : Change SourceState)
     (output errors : Change SinkState) : Type 0 where
   pub e : FileEnd
@@ -308,7 +338,7 @@ pub record IsChecked {O E : Type 0} (t : Task) (is_quiet : Bool) (folder : Folde
   pub is_end : IsFileEnd t e
   pub opening : IsFileOpening folder e
   pub written : OnOk result (e.answer ≢ Err run.Write)
-  pub outcome : IsOutcome is_quiet label e.unopened e.format e.lines e.answer result output errors
+  pub outcome : IsOutcome lines label e.unopened e.format e.items e.answer result output errors
 
 -- a call on a sink failed: its count of failures rose, or is the greatest `u64`
 abbrev pub HasFailed : Change SinkState → Type 0
@@ -320,7 +350,7 @@ IsSaid text sink =
     (Appends sink.old.taken sink.new.taken text × (sink.new.failures ≡ sink.old.failures)) ⊎ HasFailed sink
 
 -- all inputs with these labels were checked in turn and ended so
-pub record AreChecked {O : Type 0} (t : Task) (is_quiet : Bool) (folder : FolderView O) (ends : List FileEnd)
+pub record AreChecked {O : Type 0} (t : Task) (lines : Lines) (folder : FolderView O) (ends : List FileEnd)
     (labels : List (Option Text)) (exit : Exit) (input : Change SourceState) (output errors : Change SinkState)
     : Type 0 where
   pub labels_are : labels ≡ labels_of ends
@@ -329,20 +359,20 @@ pub record AreChecked {O : Type 0} (t : Task) (is_quiet : Bool) (folder : Folder
   pub openings : All (IsFileOpening folder) ends
   pub read : All (IsRead (bytes_of folder.opening) input) ends
   pub exits : exit ≡ files_exit ends
-  pub lines : Appends output.old.taken output.new.taken (files_text is_quiet ends)
+  pub wrote : Appends output.old.taken output.new.taken (files_text lines ends)
   pub unfailed : output.new.failures ≡ output.old.failures
-  pub untouched : is_quiet ≡ true → output.new ≡ output.old
-  pub said : ArePut (complaints_of ends) errors
+  pub untouched : is_quiet lines ≡ true → output.new ≡ output.old
+  pub said : ArePut (complaints_of lines ends) errors
 
 -- the output failed at one of the inputs, the last that was read, or when it was flushed. The lines of the inputs
 -- before it were written, and a prefix of its own
-pub record AreCut {O : Type 0} (t : Task) (is_quiet : Bool) (folder : FolderView O) (labels : List (Option Text))
+pub record AreCut {O : Type 0} (t : Task) (lines : Lines) (folder : FolderView O) (labels : List (Option Text))
     (exit : Exit) (input : Change SourceState) (output errors : Change SinkState) : Type 0 where
   pub whole : List FileEnd
   pub last : Option FileEnd
   pub rest : List (Option Text)
   pub count : ℕ
-  pub wanted : is_quiet ≡ false
+  pub wanted : is_quiet lines ≡ false
   pub labels_are : labels ≡ labels_of (whole ++ option_to_list last) ++ rest
   -- if the output failed at no input, it failed at the flush, after all of them
   pub at_the_end : last ≡ None → rest ≡ []
@@ -351,61 +381,63 @@ pub record AreCut {O : Type 0} (t : Task) (is_quiet : Bool) (folder : FolderView
   pub openings : All (IsFileOpening folder) (whole ++ option_to_list last)
   pub read : All (IsRead (bytes_of folder.opening) input) (whole ++ option_to_list last)
   pub exits : exit ≡ Refused
-  pub lines : Appends output.old.taken output.new.taken
-      (files_text is_quiet whole ++ take count (files_text is_quiet (option_to_list last)))
+  pub wrote : Appends output.old.taken output.new.taken
+      (files_text lines whole ++ take count (files_text lines (option_to_list last)))
   pub failed : output.new.failures ≡ one_more output.old.failures
   -- there was nothing to say of the last input, or the task wrote while it read
-  pub silent : All (λ e. (said_of e ≡ []) ⊎ (e.answer ≡ Err run.Write)) (option_to_list last)
-  pub said : ArePut (complaints_of whole ++ fault_line run.Write ∷ []) errors
+  pub silent : All (λ e. (said_of lines e ≡ []) ⊎ (e.answer ≡ Err run.Write)) (option_to_list last)
+  pub said : ArePut (complaints_of lines whole ++ fault_line run.Write ∷ []) errors
 
--- all inputs were checked, and the output is flushed unless the task is quiet. Then the errors got the hint on what
--- was found wrong first, if hints are shown and the task isn't quiet
-pub record AreDone {O : Type 0} (t : Task) (is_quiet is_shown : Bool) (folder : FolderView O)
+-- all inputs were checked, and the output is flushed unless the task is quiet. Then the errors got the last messages
+pub record AreDone {O : Type 0} (t : Task) (lines : Lines) (shown : Shown) (folder : FolderView O)
     (labels : List (Option Text)) (exit : Exit) (input : Change SourceState) (output errors : Change SinkState)
     : Type 0 where
   pub ends : List FileEnd
   pub between : SinkState
-  pub checked : AreChecked t is_quiet folder ends labels exit input output (change errors.old between)
-  pub flushed : is_quiet ≡ false → output.new.is_flushed ≡ true
-  pub hinted : IsPut (hint_of (not is_quiet && is_shown) t (first_wrong ends)) (change between errors.new)
+  pub checked : AreChecked t lines folder ends labels exit input output (change errors.old between)
+  pub flushed : is_quiet lines ≡ false → output.new.is_flushed ≡ true
+  pub closed : ArePut (closing t lines shown (causes_among ends) (failed_among ends) (length ends))
+      (change between errors.new)
 
--- a check, a survey or a scan with this exit status, which found this wrong first, came to its end: the output was
--- flushed unless the task is quiet, and the errors got the hint; or that flush failed
-abbrev pub IsFinished : Task → Bool → Bool → Exit → Option Cause → Exit → Change SinkState → Change SinkState → Type 0
-IsFinished t is_quiet is_shown found cause exit output errors =
+-- a check, a survey or a scan of so many inputs with this exit status, which found this wrong and of which so many
+-- failed, came to its end: the output was flushed unless the task is quiet, and the errors got the last messages; or
+-- that flush failed
+abbrev pub IsFinished : Task → Lines → Shown → Exit → List Cause → ℕ → ℕ → Exit → Change SinkState
+    → Change SinkState → Type 0
+IsFinished t lines shown found causes failed all exit output errors =
     ((exit ≡ found) × Keeps output.old.taken output.new.taken × (output.new.failures ≡ output.old.failures)
-    × (is_quiet ≡ false → output.new.is_flushed ≡ true) × (is_quiet ≡ true → output.new ≡ output.old)
-    × IsPut (hint_of (not is_quiet && is_shown) t cause) errors)
+    × (is_quiet lines ≡ false → output.new.is_flushed ≡ true) × (is_quiet lines ≡ true → output.new ≡ output.old)
+    × ArePut (closing t lines shown causes failed all) errors)
     ⊎ ((exit ≡ Refused) × Keeps output.old.taken output.new.taken
-    × (output.new.failures ≡ one_more output.old.failures) × (is_quiet ≡ false)
+    × (output.new.failures ≡ one_more output.old.failures) × (is_quiet lines ≡ false)
     × IsPut (fault_line run.Write) errors)
 
 -- all inputs were checked, or the output failed
-abbrev pub FilesEnd : {O : Type 0} → Task → Bool → Bool → FolderView O → List (Option Text) → Exit
+abbrev pub FilesEnd : {O : Type 0} → Task → Lines → Shown → FolderView O → List (Option Text) → Exit
     → Change SourceState → Change SinkState → Change SinkState → Type 0
-FilesEnd t is_quiet is_shown folder labels exit input output errors =
-    AreDone t is_quiet is_shown folder labels exit input output errors
-    ⊎ AreCut t is_quiet folder labels exit input output errors
+FilesEnd t lines shown folder labels exit input output errors =
+    AreDone t lines shown folder labels exit input output errors
+    ⊎ AreCut t lines folder labels exit input output errors
 
 -- ---- requests
 
 -- how a request ended. A check, a survey or a scan is of all files that are named, and any other task of the first;
--- without names it is of standard input. A survey and a scan are never quiet
-abbrev pub RequestEnds : {O : Type 0} → Task → Bool → Bool → List Text → FolderView O → Exit → Change SourceState
+-- without names it is of standard input. A survey and a scan write all of their lines
+abbrev pub RequestEnds : {O : Type 0} → Task → Lines → Shown → List Text → FolderView O → Exit → Change SourceState
     → Change SinkState → Change SinkState → Type 0
-RequestEnds (Check profile) is_quiet is_shown names folder exit input output errors =
-    FilesEnd (Check profile) is_quiet is_shown folder (labels_for names) exit input output errors
-RequestEnds (Survey profile) is_quiet is_shown names folder exit input output errors =
-    FilesEnd (Survey profile) false is_shown folder (labels_for names) exit input output errors
-RequestEnds (Scan profile eight) is_quiet is_shown names folder exit input output errors =
-    FilesEnd (Scan profile eight) false is_shown folder (labels_for names) exit input output errors
-RequestEnds t is_quiet is_shown [] folder exit input output errors = RunEnds t None exit input output errors
-RequestEnds t is_quiet is_shown (name ∷ more) folder exit input output errors =
+RequestEnds (Check profile) lines shown names folder exit input output errors =
+    FilesEnd (Check profile) lines shown folder (labels_for names) exit input output errors
+RequestEnds (Survey profile) lines shown names folder exit input output errors =
+    FilesEnd (Survey profile) (all_of lines) shown folder (labels_for names) exit input output errors
+RequestEnds (Scan profile eight) lines shown names folder exit input output errors =
+    FilesEnd (Scan profile eight) (all_of lines) shown folder (labels_for names) exit input output errors
+RequestEnds t lines shown [] folder exit input output errors = RunEnds t None exit input output errors
+RequestEnds t lines shown (name ∷ more) folder exit input output errors =
     FileEnds t folder name exit input output errors
 
 -- a request ended so, after its notice
-abbrev pub NoticedEnds : {O : Type 0} → Text → Task → Bool → Bool → List Text → FolderView O → Exit
+abbrev pub NoticedEnds : {O : Type 0} → Text → Task → Lines → Shown → List Text → FolderView O → Exit
     → Change SourceState → Change SinkState → Change SinkState → Type 0
-NoticedEnds text t is_quiet is_shown names folder exit input output errors =
+NoticedEnds text t lines shown names folder exit input output errors =
     (noticed : SinkState) × IsPut text (change errors.old noticed)
-    × RequestEnds t is_quiet is_shown names folder exit input output (change noticed errors.new)
+    × RequestEnds t lines shown names folder exit input output (change noticed errors.new)

@@ -4,8 +4,8 @@ use Rattle.std.specs.Prelude.{Result, Err, codes, is_none, nat_le, option_map, r
 use Rattle.std.specs.List.{find, list_any}
 use Rattle.std.specs.Option.{option_map_or}
 use Rattle.sixel_grammar.specs.declared.fault.Reason.{Reason}
-use Rattle.sixel_grammar.specs.declared.fault.Reason.TheVariants.{NotSixel}
-use Rattle.sixel_ppm.specs.declared.ppm.PpmReason.TheVariants.{Header}
+use Rattle.sixel_grammar.specs.declared.fault.Reason.TheVariants.{NotSixel, Truncated}
+use Rattle.sixel_ppm.specs.declared.ppm.PpmReason.TheVariants.{Header, Short}
 use Rattle.sixel_run.specs.declared.fault.RunFault.{RunFault}
 use Rattle.sixel_run.specs.declared.fault.RunFault.TheVariants.{Grammar, Ppm as PpmFault}
 use Rattle.sixel_program.specs.declared.formats.Format.{Format}
@@ -92,6 +92,21 @@ sixel_advice Ppm = codes "sixel: this is a PPM; " ++ makes_sixel []
 sixel_advice Netpbm = codes "sixel: this is a Netpbm file; " ++ makes_sixel (codes "ppmtoppm | ")
 sixel_advice Sixel = []
 
+-- the line on an input without bytes
+abbrev pub empty_line : Text
+empty_line = codes "sixel: the input is empty" ++ 10 ∷ []
+
+-- whether the fault is that the input ends too early
+abbrev pub is_early_end : Reason → Bool
+is_early_end Truncated = true
+is_early_end _ = false
+
+-- whether the input has no bytes: it ends too early at offset 0
+abbrev pub is_of_empty : RunFault → Bool
+is_of_empty (Grammar fault) = is_early_end fault.reason && (fault.place == 0)
+is_of_empty (PpmFault Short place) = place == 0
+is_of_empty _ = false
+
 -- the text, if this is the reason and the offset of a fault which says that the first or the second byte isn't that of
 -- sixel text
 abbrev pub if_not_sixel : Reason → ℕ → Text → Text
@@ -100,10 +115,15 @@ if_not_sixel _ place text = []
 
 -- the advice on an input of this format that is refused at its first or its second byte: by `encode`, as no header of a
 -- PPM, or by any other task, as no sixel text
+abbrev pub format_advice : Option Format → RunFault → Text
+format_advice format (Grammar fault) =
+    if_not_sixel fault.reason fault.place (option_map_or sixel_advice format [])
+format_advice format (PpmFault Header place) = if nat_le place 1 then option_map_or ppm_advice format [] else []
+format_advice format _ = []
+
+-- the line after that of the fault: that the input is empty, or the advice on its format
 abbrev pub advice_on : Option Format → RunFault → Text
-advice_on format (Grammar fault) = if_not_sixel fault.reason fault.place (option_map_or sixel_advice format [])
-advice_on format (PpmFault Header place) = if nat_le place 1 then option_map_or ppm_advice format [] else []
-advice_on format _ = []
+advice_on format fault = if is_of_empty fault then empty_line else format_advice format fault
 
 abbrev pub advice_for : Option Format → Result Status RunFault → Text
 advice_for format (Err fault) = advice_on format fault

@@ -1,6 +1,11 @@
--- The hint after a check or a survey: which explanation helps.
-use Rattle.std.specs.Prelude.{◌++◌, ◌∷◌, Bool, true, List, [], codes, filter_map, slice_get, Option, Some, None, Result}
-use Rattle.std.specs.Prelude.{Ok, Err}
+-- The hints after a check or a survey: which explanation helps.
+use Rattle.std.specs.Prelude.{◌++◌, ◌∷◌, Bool, List, [], codes, fold, map, take, Option, Some, None, Result, Ok, Err}
+use Rattle.std.specs.Prelude.{if◌then◌else◌}
+use Rattle.std.specs.List.{list_any}
+use Rattle.std.specs.Str.{bytes_eq}
+use Rattle.sixel_program.specs.Lines.{is_quiet}
+use Rattle.sixel_program.specs.declared.lines.Lines.{Lines}
+use Rattle.sixel_program.specs.declared.lines.Shown.{Shown}
 use Rattle.sixel_model.specs.declared.profile.Profile.{Profile}
 use Rattle.sixel_model.specs.declared.profile.Profile.TheVariants.{Registers16}
 use Rattle.sixel_model.specs.declared.rule.Rule.TheVariants as rule
@@ -20,10 +25,6 @@ cause_of (Ok (Broken finding)) = Some (Rule finding.rule)
 cause_of (Err (Grammar fault)) = Some (Refusal fault.reason)
 cause_of _ = None
 
--- the first that the runs found wrong
-abbrev pub first_cause : List (Result Status RunFault) → Option Cause
-first_cause answers = slice_get (filter_map cause_of answers) 0
-
 abbrev pub cause_name : Cause → Text
 cause_name (Rule broken) = rule_name broken
 cause_name (Refusal reason) = reason_name reason
@@ -33,15 +34,32 @@ abbrev pub option_hint : Cause → Profile → Text
 option_hint (Rule rule.Register) Registers16 = codes "; '--wide' checks for 256 registers"
 option_hint _ _ = []
 
--- the hint on what was found wrong, if hints are shown
-abbrev pub hint : Bool → Profile → Option Cause → Text
-hint true profile (Some cause) =
+-- the hint on what was found wrong
+abbrev pub hint_line : Profile → Cause → Text
+hint_line profile cause =
     codes "sixel: 'sixel explain " ++ cause_name cause ++ codes "' tells how to fix it" ++ option_hint cause profile
     ++ 10 ∷ []
-hint _ _ _ = []
 
--- the hint of a task: only a check and a survey have one
-abbrev pub hint_of : Bool → Task → Option Cause → Text
-hint_of is_shown (Check profile) cause = hint is_shown profile cause
-hint_of is_shown (Survey profile) cause = hint is_shown profile cause
-hint_of is_shown t cause = []
+-- whether two have the same name
+abbrev pub is_same : Cause → Cause → Bool
+is_same a b = bytes_eq (cause_name a) (cause_name b)
+
+-- these causes, and one more if none of them is the same
+abbrev pub with_cause : List Cause → Option Cause → List Cause
+with_cause causes None = causes
+with_cause causes (Some cause) = if list_any (is_same cause) causes then causes else causes ++ cause ∷ []
+
+-- what the runs with these answers found wrong, each once, in the order in which it was found first
+abbrev pub causes_of : List (Result Status RunFault) → List Cause
+causes_of answers = fold (λ causes answer. with_cause causes (cause_of answer)) [] answers
+
+-- those with a hint: all if hints are asked for, else the first if a terminal shows it; none if the task is quiet
+abbrev pub hinted : Lines → Shown → List Cause → List Cause
+hinted lines shown causes =
+    if is_quiet lines then [] else if shown.explains then causes else if shown.is_terminal then take 1 causes else []
+
+-- the hints of a task on what was found wrong: only a check and a survey have some
+abbrev pub hints_of : Task → List Cause → List Text
+hints_of (Check profile) causes = map (hint_line profile) causes
+hints_of (Survey profile) causes = map (hint_line profile) causes
+hints_of t causes = []

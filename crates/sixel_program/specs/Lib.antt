@@ -4,4 +4,7 @@ pub mod Exits
 pub mod Names
 pub mod Hints
 pub mod Openings
+pub mod Json
+pub mod Counts
+pub mod Lines
 pub mod Files

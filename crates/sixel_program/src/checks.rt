@@ -5,22 +5,24 @@ ghost use Rattle.std.specs.Prelude.{map, nat_lt, not, option_copied, true};
 ghost use Rattle.std.specs.Io.KnownBytes.{Keeps};
 ghost use Rattle.std.specs.String.{string_bytes};
 ghost use Rattle.sixel_io.specs.Devices.{CountsFailure, change};
-ghost use Rattle.sixel_program.specs.Exits.{IsPut, labelled};
-ghost use Rattle.sixel_program.specs.Files.{FilesEnd, IsChecked, IsFinished, IsNamedEnd, SaysOfCheck, is_dash};
-ghost use Rattle.sixel_program.specs.Files.{labels_for, name_of, reads_input, worse};
+ghost use Rattle.sixel_program.specs.Exits.{IsPut};
+ghost use Rattle.sixel_program.specs.Files.{FilesEnd, IsChecked, IsFinished, IsNamedEnd, is_dash};
+ghost use Rattle.sixel_program.specs.Lines.{is_quiet};
+ghost use Rattle.sixel_program.specs.Files.{labels_for, name_of, reads_input, worse, written_for};
 ghost use Rattle.sixel_program.specs.Formats.{IsFormat};
 ghost use Rattle.sixel_program.specs.Openings.{folder_view};
-ghost use Rattle.sixel_run.specs.LineTasks.{WritesLines, has_lines, scans};
+ghost use Rattle.sixel_run.specs.LineTasks.{WritesItems, has_lines, scans};
 ghost use Rattle.sixel_run.specs.Texts.{fault_line};
 
+use crate::counts::{failures_in, put_count};
 use crate::exit::{Exit, code_of, exit_of};
 use crate::folder::{Folder, open_file};
 use crate::formats::Format;
-use crate::hints::{Cause, cause_of, put_hint};
-use crate::names::AfterName;
+use crate::hints::{Causes, put_hints};
+use crate::lines::{Lines, Shown, is_quiet};
 use crate::nowhere::Nowhere;
 use crate::peeked::Peeked;
-use crate::saying::{put_refusal, put_unopened};
+use crate::reporting::{Labelled, name_of, say_answer, say_unopened};
 use sixel_io::{DeviceFault, PIECE, Sink, Source};
 use sixel_run::{Plain, RunFault, Status, Task, write_fault, write_lines};
 use std::alloc::Global;
@@ -46,49 +48,37 @@ fn format_for<S: Source>(task: &Task, input: &mut Peeked<S>) -> Option<Format>
     if is_scan { None } else { input.format() }
 }
 
-/// Writes why an input was refused, if it was. The input has this label or none, and this format. Returns the answer of
-/// the task.
-fn say_answer<E: Sink>(
-    label: Option<&str>,
-    format: Option<Format>,
-    answer: Result<Status, RunFault>,
-    errors: &mut E,
-) -> Result<Status, RunFault>
-    ensures answer { result ≡ answer }
-    ensures said { SaysOfCheck (option_copied label.entry) format answer
-        (change (E.state errors.old) (E.state errors.new)) }
-{
-    match answer {
-        Ok(status) => Ok(status),
-        Err(fault) => {
-            let _ = put_refusal(label, format, &fault, errors);
-            Err(fault)
-        }
-    }
-}
-
-/// Writes the lines of an input, each after its label, if it has one; none if the task is quiet.
+/// Writes what is found in the input with this label, or without one; nothing if the task is quiet.
 fn write_labelled<S: Source, K: Sink>(
     alloc: Global,
     task: &Task,
-    is_quiet: bool,
+    lines: Lines,
     label: Option<&str>,
     input: &mut S,
     piece: &mut [u8; PIECE],
     output: &mut K,
 ) -> Result<Status, RunFault>
     requires { has_lines task.now ≡ true }
-    ensures lines { WritesLines task.now (λ line. if is_quiet then [] else labelled (option_copied label.entry) line)
+    ensures wrote { WritesItems task.now (written_for lines (option_copied label.entry))
         result (change (S.state input.old) (S.state input.new)) (change (K.state output.old) (K.state output.new)) }
-    ensures loud { is_quiet ≡ true → result ≢ Err RunFault.Write }
-    ensures untouched { is_quiet ≡ true → output.new ≡ output.old }
+    ensures loud { is_quiet lines ≡ true → result ≢ Err RunFault.Write }
+    ensures untouched { is_quiet lines ≡ true → output.new ≡ output.old }
 {
-    if is_quiet {
-        return write_lines(alloc, *task, &Plain, input, piece, &mut Nowhere::new());
-    }
-    match label {
-        Some(name) => write_lines(alloc, *task, &AfterName { name }, input, piece, output),
-        None => write_lines(alloc, *task, &Plain, input, piece, output),
+    match (lines, label) {
+        (Lines::Nothing, _) => {
+            write_lines(alloc, *task, &Plain, input, piece, &mut Nowhere::new())
+        }
+        (Lines::Plain { only_failed: false }, None) => {
+            write_lines(alloc, *task, &Plain, input, piece, output)
+        }
+        _ => write_lines(
+            alloc,
+            *task,
+            &Labelled { lines, label },
+            input,
+            piece,
+            output,
+        ),
     }
 }
 
@@ -104,7 +94,7 @@ fn is_unwritten(answer: &Result<Status, RunFault>) -> bool
 fn answer_labelled<S: Source, K: Sink, E: Sink>(
     alloc: Global,
     task: &Task,
-    is_quiet: bool,
+    lines: Lines,
     label: Option<&str>,
     input: &mut Peeked<S>,
     piece: &mut [u8; PIECE],
@@ -112,26 +102,16 @@ fn answer_labelled<S: Source, K: Sink, E: Sink>(
     errors: &mut E,
 ) -> Result<Result<Status, RunFault>, DeviceFault>
     requires { has_lines task.now ≡ true }
-    ensures { IsNamedEnd task.now is_quiet (option_copied label.entry) result
+    ensures { IsNamedEnd task.now lines (option_copied label.entry) result
         (change (⟦<Peeked<S> as Source>⟧.state input.old) (⟦<Peeked<S> as Source>⟧.state input.new))
         (change (K.state output.old) (K.state output.new)) (change (E.state errors.old) (E.state errors.new)) }
 {
     let format = format_for(task, input);
-    let answer = write_labelled(alloc, task, is_quiet, label, input, piece, output);
+    let answer = write_labelled(alloc, task, lines, label, input, piece, output);
     if is_unwritten(&answer) {
         return Err(DeviceFault);
     }
-    Ok(say_answer(label, format, answer, errors))
-}
-
-/// The name of the input with this label: `-` without one.
-fn name_of(label: Option<&str>) -> &str
-    ensures { result.now ≡ name_of (option_copied label.entry) }
-{
-    match label {
-        Some(name) => name,
-        None => "-",
-    }
+    say_answer(lines, label, format, answer, output, errors)
 }
 
 /// Checks, surveys or scans the file with this label, or standard input if that is `-` or there is none. Returns the
@@ -139,7 +119,7 @@ fn name_of(label: Option<&str>) -> &str
 fn check_file<F: Folder, S: Source, K: Sink, E: Sink>(
     alloc: Global,
     task: &Task,
-    is_quiet: bool,
+    lines: Lines,
     label: Option<&str>,
     folder: &F,
     input: &mut Peeked<S>,
@@ -148,7 +128,7 @@ fn check_file<F: Folder, S: Source, K: Sink, E: Sink>(
     errors: &mut E,
 ) -> Result<Result<Status, RunFault>, DeviceFault>
     requires { has_lines task.now ≡ true }
-    ensures checked { IsChecked task.now is_quiet (folder_view (F.opening folder.now) F.Opened.state)
+    ensures checked { IsChecked task.now lines (folder_view (F.opening folder.now) F.Opened.state)
         (option_copied label.entry) result
         (change (⟦<Peeked<S> as Source>⟧.state input.old) (⟦<Peeked<S> as Source>⟧.state input.new))
         (change (K.state output.old) (K.state output.new)) (change (E.state errors.old) (E.state errors.new)) }
@@ -156,17 +136,15 @@ fn check_file<F: Folder, S: Source, K: Sink, E: Sink>(
 {
     let name = name_of(label);
     if name == "-" {
-        return answer_labelled(alloc, task, is_quiet, label, input, piece, output, errors);
+        return answer_labelled(alloc, task, lines, label, input, piece, output, errors);
     }
     match open_file(folder, name) {
         Ok(file) => {
             let mut file = Peeked::new(file);
-            answer_labelled(
-                alloc, task, is_quiet, label, &mut file, piece, output, errors,
-            )
+            answer_labelled(alloc, task, lines, label, &mut file, piece, output, errors)
         }
         Err(reason) => {
-            let _ = put_unopened(name, reason, errors);
+            say_unopened(lines, label, reason, output, errors)?;
             Ok(Err(RunFault::Read))
         }
     }
@@ -190,41 +168,57 @@ fn unwritten<E: Sink>(errors: &mut E) -> Exit
 }
 
 /// Flushes the output, unless the task is quiet.
-fn flush_verdicts<K: Sink>(is_quiet: bool, output: &mut K) -> Result<(), DeviceFault>
+fn flush_verdicts<K: Sink>(lines: Lines, output: &mut K) -> Result<(), DeviceFault>
     ensures bytes { Keeps (K.state output.old).taken (K.state output.new).taken }
     ensures failures { CountsFailure result (K.state output.old).failures (K.state output.new).failures }
-    ensures flushed { is_quiet ≡ false → OnOk result ((K.state output.new).is_flushed ≡ true) }
-    ensures loud { IfErr result (λ _. is_quiet ≡ false) }
-    ensures untouched { is_quiet ≡ true → output.new ≡ output.old }
+    ensures flushed { is_quiet lines ≡ false → OnOk result ((K.state output.new).is_flushed ≡ true) }
+    ensures loud { IfErr result (λ _. is_quiet lines ≡ false) }
+    ensures untouched { is_quiet lines ≡ true → output.new ≡ output.old }
 {
-    if is_quiet { Ok(()) } else { output.flush() }
+    if is_quiet(lines) {
+        Ok(())
+    } else {
+        output.flush()
+    }
 }
 
-/// Whether a hint comes last: if hints are shown and the task isn't quiet.
-fn has_hint(is_quiet: bool, is_shown: bool) -> bool
-    ensures { result ≡ (not is_quiet && is_shown) }
-{
-    !is_quiet && is_shown
+/// What was found in the inputs so far.
+#[derive(Drop)]
+struct Found {
+    /// The greatest exit status.
+    exit: Exit,
+    /// What was found wrong.
+    causes: Causes,
+    /// How many inputs aren't portable.
+    failed: usize,
+    /// How many inputs there were.
+    all: usize,
 }
 
-/// Ends a check, a survey or a scan with this exit status: flushes the output, and writes the hint on what was found
-/// wrong first, if hints are shown.
+/// Ends a check, a survey or a scan that found this: flushes the output, and writes the last messages.
 fn finish<K: Sink, E: Sink>(
     task: &Task,
-    is_quiet: bool,
-    is_shown: bool,
-    exit: Exit,
-    cause: Option<Cause>,
+    lines: Lines,
+    shown: Shown,
+    found: &Found,
     output: &mut K,
     errors: &mut E,
 ) -> Exit
-    ensures { IsFinished task.now is_quiet is_shown exit cause result
-        (change (K.state output.old) (K.state output.new)) (change (E.state errors.old) (E.state errors.new)) }
+    ensures { IsFinished task.now lines shown found.now.exit found.now.causes.found.items found.now.failed found.now.all
+        result (change (K.state output.old) (K.state output.new)) (change (E.state errors.old) (E.state errors.new)) }
 {
-    match flush_verdicts(is_quiet, output) {
+    match flush_verdicts(lines, output) {
         Ok(()) => {
-            put_hint(has_hint(is_quiet, is_shown), *task, cause, errors);
-            exit
+            put_hints(task, lines, shown, found.causes.as_slice(), errors);
+            put_count(
+                task,
+                lines,
+                shown.is_terminal,
+                found.failed,
+                found.all,
+                errors,
+            );
+            found.exit
         }
         Err(_) => unwritten(errors),
     }
@@ -234,8 +228,8 @@ fn finish<K: Sink, E: Sink>(
 fn check_input<F: Folder, S: Source, K: Sink, E: Sink>(
     alloc: Global,
     task: &Task,
-    is_quiet: bool,
-    is_shown: bool,
+    lines: Lines,
+    shown: Shown,
     folder: &F,
     input: &mut Peeked<S>,
     piece: &mut [u8; PIECE],
@@ -243,25 +237,24 @@ fn check_input<F: Folder, S: Source, K: Sink, E: Sink>(
     errors: &mut E,
 ) -> Exit
     requires { has_lines task.now ≡ true }
-    ensures { FilesEnd task.now is_quiet is_shown (folder_view (F.opening folder.now) F.Opened.state)
+    ensures { FilesEnd task.now lines shown (folder_view (F.opening folder.now) F.Opened.state)
         (None ∷ []) result
         (change (⟦<Peeked<S> as Source>⟧.state input.old) (⟦<Peeked<S> as Source>⟧.state input.new))
         (change (K.state output.old) (K.state output.new)) (change (E.state errors.old) (E.state errors.new)) }
 {
     match check_file(
-        alloc, task, is_quiet, None, folder, input, piece, output, errors,
+        alloc, task, lines, None, folder, input, piece, output, errors,
     ) {
         Ok(answer) => {
-            let cause = cause_of(&answer);
-            finish(
-                task,
-                is_quiet,
-                is_shown,
-                exit_of(answer),
-                cause,
-                output,
-                errors,
-            )
+            let mut causes = Causes::new();
+            causes.note(&answer);
+            let found = Found {
+                exit: exit_of(answer),
+                causes,
+                failed: failures_in(&answer),
+                all: 1,
+            };
+            finish(task, lines, shown, &found, output, errors)
         }
         Err(_) => unwritten(errors),
     }
@@ -269,16 +262,16 @@ fn check_input<F: Folder, S: Source, K: Sink, E: Sink>(
 
 /// Checks, surveys or scans the files with these names in turn; one `-` at most is among them. Without names it is over
 /// standard input. A refused file doesn't end this, but a failed write does. The exit status is the greatest of theirs.
-/// If hints are shown (`is_shown`), one on what was found wrong first comes last, but not after a quiet check or a
-/// scan.
+/// At a terminal a hint on what was found wrong first comes last, or if hints are asked for one on each, but not after a
+/// quiet check or a scan; and then how many of several files failed, which a check of only failures says too.
 ///
 /// It isn't inlined, or its room would be on the stack of every task.
 #[inline(never)]
 pub fn check_files<F: Folder, S: Source, K: Sink, E: Sink>(
     alloc: Global,
     task: &Task,
-    is_quiet: bool,
-    is_shown: bool,
+    lines: Lines,
+    shown: Shown,
     names: &[String],
     folder: &F,
     input: &mut Peeked<S>,
@@ -287,7 +280,7 @@ pub fn check_files<F: Folder, S: Source, K: Sink, E: Sink>(
 ) -> Exit
     requires lines { has_lines task.now ≡ true }
     requires once { nat_lt 1 (count_by is_dash (map string_bytes names.now)) ≡ false }
-    ensures checked { FilesEnd task.now is_quiet is_shown (folder_view (F.opening folder.now) F.Opened.state)
+    ensures checked { FilesEnd task.now lines shown (folder_view (F.opening folder.now) F.Opened.state)
         (labels_for (map string_bytes names.now)) result
         (change (⟦<Peeked<S> as Source>⟧.state input.old) (⟦<Peeked<S> as Source>⟧.state input.new))
         (change (K.state output.old) (K.state output.new)) (change (E.state errors.old) (E.state errors.new)) }
@@ -296,22 +289,30 @@ pub fn check_files<F: Folder, S: Source, K: Sink, E: Sink>(
     let mut piece = [0u8; PIECE];
     if names.is_empty() {
         return check_input(
-            alloc, task, is_quiet, is_shown, folder, input, &mut piece, output, errors,
+            alloc, task, lines, shown, folder, input, &mut piece, output, errors,
         );
     }
     let mut exit = Exit::Done;
-    let mut cause = None;
+    let mut causes = Causes::new();
+    let mut failed = 0;
     for name in names {
         let label = Some(name.as_str());
         match check_file(
-            alloc, task, is_quiet, label, folder, input, &mut piece, output, errors,
+            alloc, task, lines, label, folder, input, &mut piece, output, errors,
         ) {
             Ok(answer) => {
-                cause = cause.or(cause_of(&answer));
+                causes.note(&answer);
+                failed += failures_in(&answer);
                 exit = worse(exit, exit_of(answer));
             }
             Err(_) => return unwritten(errors),
         }
     }
-    finish(task, is_quiet, is_shown, exit, cause, output, errors)
+    let found = Found {
+        exit,
+        causes,
+        failed,
+        all: names.len(),
+    };
+    finish(task, lines, shown, &found, output, errors)
 }

@@ -7,6 +7,7 @@ ghost use Rattle.sixel_program.specs.Exits.{IsPut};
 ghost use Rattle.sixel_program.specs.Files.{IsBrokenOver, IsDoneOver, IsJudgedOver, NoticedEnds, is_misasked};
 ghost use Rattle.sixel_program.specs.Files.{is_misdirected, mistake, names_input_twice, names_read, notice, reads_input};
 ghost use Rattle.sixel_program.specs.Files.{told_of};
+ghost use Rattle.sixel_program.specs.Lines.{shown_at};
 ghost use Rattle.sixel_program.specs.Openings.{bytes_of, folder_view};
 ghost use Rattle.sixel_run.specs.Outputs.{HasSides};
 ghost use Rattle.sixel_run.specs.Texts.{Text};
@@ -36,8 +37,8 @@ pub fn execute<F: Folder, S: Source, K: Sink, E: Sink>(
 ) -> Exit
     requires { HasSides request.now.task }
     ensures ends { is_misasked terminals request.now.task (map string_bytes request.now.files.items) ≡ false →
-        NoticedEnds (notice terminals request.now.task request.now.is_quiet (map string_bytes request.now.files.items))
-        request.now.task request.now.is_quiet terminals.errors (map string_bytes request.now.files.items)
+        NoticedEnds (notice terminals request.now.task request.now.lines (map string_bytes request.now.files.items))
+        request.now.task request.now.lines (shown_at terminals request.now.explains) (map string_bytes request.now.files.items)
         (folder_view (F.opening folder.now) F.Opened.state) result
         (change (⟦<Peeked<S> as Source>⟧.state input.old) (⟦<Peeked<S> as Source>⟧.state input.new))
         (change (K.state output.old) (K.state output.new)) (change (E.state errors.old) (E.state errors.new)) }

@@ -5,12 +5,14 @@ ghost use Rattle.std.specs.String.{string_bytes};
 ghost use Rattle.sixel_io.specs.Devices.{change};
 ghost use Rattle.sixel_program.specs.Exits.{RunEnds};
 ghost use Rattle.sixel_program.specs.Files.{FileEnds, RequestEnds, is_dash, names_input_twice, reads_input};
+ghost use Rattle.sixel_program.specs.Lines.{shown_at};
 ghost use Rattle.sixel_program.specs.Openings.{folder_view};
 ghost use Rattle.sixel_run.specs.Outputs.{HasSides};
 
 use crate::checks::check_files;
 use crate::exit::{Exit, exit_of};
 use crate::folder::{Folder, open_file};
+use crate::lines::{all_of, shown_at};
 use crate::peeked::Peeked;
 use crate::request::Request;
 use crate::saying::{put_said, put_unopened};
@@ -86,7 +88,7 @@ pub fn answer<F: Folder, S: Source, K: Sink, E: Sink>(
 ) -> Exit
     requires sides { HasSides request.now.task }
     requires once { names_input_twice request.now.task (map string_bytes request.now.files.items) ≡ false }
-    ensures ends { RequestEnds request.now.task request.now.is_quiet terminals.errors
+    ensures ends { RequestEnds request.now.task request.now.lines (shown_at terminals request.now.explains)
         (map string_bytes request.now.files.items) (folder_view (F.opening folder.now) F.Opened.state) result
         (change (⟦<Peeked<S> as Source>⟧.state input.old) (⟦<Peeked<S> as Source>⟧.state input.new))
         (change (K.state output.old) (K.state output.new)) (change (E.state errors.old) (E.state errors.new)) }
@@ -95,14 +97,22 @@ pub fn answer<F: Folder, S: Source, K: Sink, E: Sink>(
 {
     let task = &request.task;
     let names = request.files.as_slice();
-    let is_quiet = request.is_quiet;
-    let is_shown = terminals.errors;
+    let lines = request.lines;
+    let shown = shown_at(terminals, request.explains);
     match (request.task, names) {
         (Task::Check { .. }, _) => check_files(
-            alloc, task, is_quiet, is_shown, names, folder, input, output, errors,
+            alloc, task, lines, shown, names, folder, input, output, errors,
         ),
         (Task::Survey { .. } | Task::Scan { .. }, _) => check_files(
-            alloc, task, false, is_shown, names, folder, input, output, errors,
+            alloc,
+            task,
+            all_of(lines),
+            shown,
+            names,
+            folder,
+            input,
+            output,
+            errors,
         ),
         (_, []) => report(alloc, task, None, input, output, errors),
         (_, [name, ..]) => report_file(alloc, task, name.as_str(), folder, input, output, errors),

@@ -1,11 +1,14 @@
-//! The hint after a check or a survey of an input that isn't portable.
+//! The hints after a check or a survey of an input that isn't portable.
 
-ghost use Rattle.std.specs.Prelude.{◌≡◌, ◌+◌, ◌≤◌, ◌++◌, Some, length, true};
+ghost use Rattle.std.specs.Prelude.{◌≡◌, ◌+◌, ◌≤◌, ◌++◌, [], Some, length, map};
+ghost use Rattle.std.specs.List.{IsDistinct, IsDistinct-prop, list_any};
 ghost use Rattle.arrayvec.specs.ArrayVec.{array_vec_len};
 ghost use Rattle.sixel_io.specs.Devices.{change};
-ghost use Rattle.sixel_program.specs.Exits.{IsPut};
-ghost use Rattle.sixel_program.specs.Hints.{cause_name, cause_of, hint, hint_of, option_hint};
+ghost use Rattle.sixel_program.specs.Files.{ArePut};
+ghost use Rattle.sixel_program.specs.Hints.{cause_name, cause_of, hint_line, hinted, hints_of, is_same, option_hint};
+ghost use Rattle.sixel_program.specs.Hints.{with_cause};
 
+use crate::lines::{Lines, Shown, is_quiet};
 use arrayvec::ArrayVec;
 use sixel_check::Rule;
 use sixel_grammar::Reason;
@@ -22,8 +25,15 @@ pub enum Cause {
     Refusal(Reason),
 }
 
+/// What fills the room of an `ArrayVec` that isn't in use.
+impl Default for Cause {
+    fn default() -> Cause {
+        Cause::Rule(Rule::RasterFirst)
+    }
+}
+
 /// What a run found wrong with its input.
-pub fn cause_of(answer: &Result<Status, RunFault>) -> Option<Cause>
+fn cause_of(answer: &Result<Status, RunFault>) -> Option<Cause>
     ensures { result ≡ cause_of answer.now }
 {
     match answer {
@@ -68,8 +78,8 @@ fn push_all(line: &mut Hint, text: &[u8])
 }
 
 /// Which explanation helps, and for a register above 15 which option.
-fn cause_hint(profile: Profile, cause: Cause) -> Hint
-    ensures { result.items ≡ hint true profile (Some cause) }
+fn hint_line(profile: Profile, cause: Cause) -> Hint
+    ensures { result.items ≡ hint_line profile cause }
 {
     let mut line = ArrayVec::new();
     push_all(&mut line, b"sixel: 'sixel explain ");
@@ -80,29 +90,96 @@ fn cause_hint(profile: Profile, cause: Cause) -> Hint
     line
 }
 
-/// The hint on what was found wrong, if hints are shown.
-fn hint(is_shown: bool, profile: Profile, cause: Option<Cause>) -> Hint
-    ensures { result.items ≡ hint is_shown profile cause }
-{
-    match cause {
-        Some(cause) if is_shown => cause_hint(profile, cause),
-        _ => ArrayVec::new(),
+/// How many there are: thirteen rules, and nine reasons for no sixel text.
+const CAUSE_COUNT: usize = 22;
+
+/// What was found wrong, each once, in the order in which it was found first.
+#[derive(Drop)]
+pub struct Causes {
+    found: ArrayVec<Cause, CAUSE_COUNT>,
+    /// No two of them are the same.
+    ghost distinct: { IsDistinct is_same found.items } by { IsDistinct-prop is_same found.items },
+}
+
+impl Causes {
+    pub fn new() -> Causes
+        ensures { result.found.items ≡ [] }
+    {
+        Causes {
+            found: ArrayVec::new(),
+        }
+    }
+
+    /// Adds what this answer says, unless it is there.
+    pub fn note(&mut self, answer: &Result<Status, RunFault>)
+        ensures { self.new.found.items ≡ with_cause self.old.found.items (cause_of answer.now) }
+    {
+        if let Some(cause) = cause_of(answer) {
+            self.add(cause);
+        }
+    }
+
+    fn add(&mut self, cause: Cause)
+        ensures { self.new.found.items ≡ with_cause self.old.found.items (Some cause) }
+    {
+        if !is_among(self.found.as_slice(), cause) {
+            self.found.push(cause);
+        }
+    }
+
+    pub fn as_slice(&self) -> &[Cause]
+        ensures { result.now ≡ self.now.found.items }
+    {
+        self.found.as_slice()
     }
 }
 
-/// The hint of a task, if hints are shown. Only a check and a survey have one.
-fn hint_of(is_shown: bool, task: Task, cause: Option<Cause>) -> Hint
-    ensures { result.items ≡ hint_of is_shown task cause }
+/// Whether one of the causes is the same.
+fn is_among(causes: &[Cause], cause: Cause) -> bool
+    ensures { result ≡ list_any (is_same cause) causes.now }
+{
+    for other in causes {
+        if cause_name(cause) == cause_name(*other) {
+            return true;
+        }
+    }
+    false
+}
+
+/// Those of the causes that have a hint.
+fn hinted<'a>(lines: Lines, shown: Shown, causes: &'a [Cause]) -> &'a [Cause]
+    ensures { result.now ≡ hinted lines shown causes.now }
+{
+    if is_quiet(lines) {
+        return &[];
+    }
+    if shown.explains {
+        return causes;
+    }
+    if shown.is_terminal {
+        return &causes[..causes.len().min(1)];
+    }
+    &[]
+}
+
+/// Writes the hints on these causes, each on a line.
+fn put_each<E: Sink>(profile: Profile, causes: &[Cause], errors: &mut E)
+    ensures { ArePut (map (hint_line profile) causes.now) (change (E.state errors.old) (E.state errors.new)) }
+{
+    for cause in causes {
+        let _ = put_all(errors, hint_line(profile, *cause).as_slice());
+    }
+}
+
+/// Writes the hints of a task on what was found wrong. Only a check and a survey have some.
+pub fn put_hints<E: Sink>(task: &Task, lines: Lines, shown: Shown, causes: &[Cause], errors: &mut E)
+    ensures { ArePut (hints_of task.now (hinted lines shown causes.now))
+        (change (E.state errors.old) (E.state errors.new)) }
 {
     match task {
-        Task::Check { profile } | Task::Survey { profile } => hint(is_shown, profile, cause),
-        _ => ArrayVec::new(),
+        Task::Check { profile } | Task::Survey { profile } => {
+            put_each(*profile, hinted(lines, shown, causes), errors);
+        }
+        _ => {}
     }
-}
-
-/// Writes the hint of a task on what was found wrong, if it has one.
-pub fn put_hint<E: Sink>(is_shown: bool, task: Task, cause: Option<Cause>, errors: &mut E)
-    ensures { IsPut (hint_of is_shown task cause) (change (E.state errors.old) (E.state errors.new)) }
-{
-    let _ = put_all(errors, hint_of(is_shown, task, cause).as_slice());
 }

@@ -1,12 +1,17 @@
 //! Laws about the definitions. Each function's contract is the law.
 
-ghost use Rattle.std.specs.Prelude.{◌≡◌, ◌≢◌, ◌<◌, ◌≤◌, ◌∷◌, ◌++◌, [], ℕ, All, Bool, Contains, List, Err, Ok, Some};
-ghost use Rattle.std.specs.Prelude.{Option, codes, false, flat_map, map, true};
+ghost use Rattle.std.specs.Prelude.{◌≡◌, ◌≢◌, ◌↔◌, ◌<◌, ◌≤◌, ◌∷◌, ◌++◌, [], ℕ, All, Bool, Contains, List, Err, Ok, Some};
+ghost use Rattle.std.specs.Prelude.{Option, codes, false, filter, flat_map, map, not, true};
 ghost use Rattle.std.specs.List.{concat};
+ghost use Rattle.json.specs.Json.{document, object as json_object};
+ghost use Rattle.json.specs.Lex.{tokens};
 ghost use Rattle.sixel_io.specs.Devices.{Change, SinkState};
+ghost use Rattle.sixel_grammar.specs.Faults.{IsFaultOf};
 ghost use Rattle.sixel_grammar.specs.declared.fault.Fault.{Fault};
+ghost use Rattle.sixel_ppm.specs.PpmReading.{at_fault, ppm_read};
+ghost use Rattle.sixel_ppm.specs.declared.ppm.PpmReason.{PpmReason};
 ghost use Rattle.sixel_run.specs.declared.fault.RunFault.{RunFault};
-ghost use Rattle.sixel_run.specs.declared.fault.RunFault.TheVariants.{Grammar, Write};
+ghost use Rattle.sixel_run.specs.declared.fault.RunFault.TheVariants.{Grammar, Ppm, Write};
 ghost use Rattle.sixel_run.specs.declared.task.Task.{Task};
 ghost use Rattle.sixel_run.specs.declared.task.Task.TheVariants.{Scan};
 ghost use Rattle.sixel_run.specs.LineTasks.{has_lines, scans};
@@ -22,38 +27,52 @@ ghost use Rattle.sixel_program.specs.declared.exit.Exit.TheVariants.{Refused as 
 ghost use Rattle.sixel_program.specs.declared.folder.Unopened.{Unopened};
 ghost use Rattle.sixel_program.specs.Exits.{exit_code, fault_said, labelled};
 ghost use Rattle.sixel_program.specs.Files.{ArePut, FileEnd, IsFileEnd, IsSaid, exit_of_end, files_exit, files_text};
+ghost use Rattle.sixel_program.specs.Files.{refusal_object};
+ghost use Rattle.sixel_program.specs.Lines.{is_portable_item};
+ghost use Rattle.sixel_program.specs.declared.lines.Lines.{Lines};
+ghost use Rattle.sixel_program.specs.declared.lines.Lines.TheVariants.{Json, Nothing, Plain};
+ghost use Rattle.sixel_program.specs.Json.{FitsFault, FitsItem, HaveValues, Member, fault_members, file_member};
+ghost use Rattle.sixel_program.specs.Json.{item_members, json_line, members_of, object, unread_members};
+ghost use Rattle.sixel_program.specs.Formats.{is_of_empty};
 ghost use Rattle.sixel_program.specs.Names.{is_control, printed, unopened_line};
+ghost use Rattle.sixel_run.specs.declared.item.Item.{Item};
 ghost use Rattle.sixel_run.specs.Outputs.{Gives};
-ghost use Rattle.sixel_run.specs.Texts.{IsLine, Text, entry_line, finding_line, reason_name, rule_name, string_line};
+ghost use Rattle.sixel_run.specs.Texts.{IsLine, Text, entry_line, finding_line, item_line, items_text, reason_name};
+ghost use Rattle.sixel_run.specs.Texts.{rule_name, string_line};
 ghost use Rattle.sixel_scan.specs.declared.answer.Answer.TheVariants.{Broken, Refused};
 ghost use Rattle.sixel_survey.specs.declared.entry.Entry.{Entry};
 
-/// The output of a check, a survey or a scan of several files is their lines joined. Each line begins with the file's
+/// The output of a check, a survey or a scan of several files is that of each, joined. Each line begins with the file's
 /// name, if it was given, and without it they are the lines that the task writes over only this file's bytes. A file
-/// that a check or a survey refuses has no line, and a grammar fault is the one that the task finds in only this file's
-/// bytes. A scan that wasn't done has the lines of the strings that it found, and the status of a refusal. A quiet check
-/// writes no lines. The exit status is the greatest: it is that of one of the files, and no file has a greater one.
-/// Texts that were put to a sink in turn are appended to it joined, unless a call on the sink failed.
+/// that a check or a survey refuses has no line, or in JSON one object, and a grammar fault is the one that the task
+/// finds in only this file's bytes. A scan that wasn't done has the lines of the strings that it found, and the status of
+/// a refusal. A quiet check writes no lines, and one of only failures no line of a portable picture. The exit status is
+/// the greatest: it is that of one of the files, and no file has a greater one. Texts that were put to a sink in turn are
+/// appended to it joined, unless a call on the sink failed.
 pub fn several_files_are_checked_one_by_one()
-    ensures joined { (is_quiet : Bool) (prefix rest : List FileEnd) →
-        files_text is_quiet (prefix ++ rest) ≡ files_text is_quiet prefix ++ files_text is_quiet rest }
+    ensures joined { (lines : Lines) (prefix rest : List FileEnd) →
+        files_text lines (prefix ++ rest) ≡ files_text lines prefix ++ files_text lines rest }
     ensures named { (e : FileEnd) (name : Text) → e.label ≡ Some name →
-        files_text false (e ∷ []) ≡ flat_map (λ line. printed name ++ codes ": " ++ line) e.lines }
-    ensures unnamed { (e : FileEnd) → e.label ≡ None → files_text false (e ∷ []) ≡ concat e.lines }
-    ensures lines { (task : Task) (e : FileEnd) → IsFileEnd task e → All IsLine e.lines }
+        files_text (Plain false) (e ∷ [])
+        ≡ flat_map (λ item. printed name ++ codes ": " ++ item_line item) e.items }
+    ensures unnamed { (e : FileEnd) → e.label ≡ None → files_text (Plain false) (e ∷ []) ≡ items_text e.items }
+    ensures failures { (e : FileEnd) → files_text (Plain true) (e ∷ [])
+        ≡ flat_map (λ item. labelled e.label (item_line item)) (filter (λ item. not (is_portable_item item)) e.items) }
+    ensures lines { (item : Item) → IsLine (item_line item) }
     ensures alone { (task : Task) (e : FileEnd) (bytes : List ℕ) (status : Status) → IsFileEnd task e →
-        e.told ≡ Some bytes → e.answer ≡ Ok status → Gives task bytes (concat e.lines) (Ok status) }
-    ensures refused { (task : Task) (is_quiet : Bool) (e : FileEnd) (fault : RunFault) →
+        e.told ≡ Some bytes → e.answer ≡ Ok status → Gives task bytes (items_text e.items) (Ok status) }
+    ensures refused { (task : Task) (only_failed : Bool) (e : FileEnd) (fault : RunFault) →
         IsFileEnd task e → scans task ≡ false → e.answer ≡ Err fault →
-        files_text is_quiet (e ∷ []) ≡ [] }
-    ensures quiet { (ends : List FileEnd) → files_text true ends ≡ [] }
+        (files_text (Plain only_failed) (e ∷ []) ≡ [])
+        × (files_text (Json only_failed) (e ∷ []) ≡ refusal_object e.label e.unopened e.answer) }
+    ensures quiet { (ends : List FileEnd) → files_text Nothing ends ≡ [] }
     ensures faulty { (task : Task) (e : FileEnd) (bytes : List ℕ) (fault : Fault) → has_lines task ≡ true →
         IsFileEnd task e → e.told ≡ Some bytes → e.answer ≡ Err (Grammar fault) →
         Gives task bytes [] (Err (Grammar fault)) }
     ensures unended { (profile : Profile) (eight : Bool) (e : FileEnd) (bytes : List ℕ) (fault : RunFault) →
         IsFileEnd (Scan profile eight) e → e.told ≡ Some bytes → e.answer ≡ Err fault → fault ≢ Write →
         (reports : List Scanned) × Finds eight (count_of profile) bytes e.left (Err fault) reports
-        × (concat e.lines ≡ scan_text reports) × (exit_of_end e ≡ RefusedExit) }
+        × (items_text e.items ≡ scan_text reports) × (exit_of_end e ≡ RefusedExit) }
     ensures greatest { (ends : List FileEnd) → All (λ e. exit_code (exit_of_end e) ≤ exit_code (files_exit ends)) ends }
     ensures reached { (e : FileEnd) (more : List FileEnd) →
         Contains (map exit_of_end (e ∷ more)) (files_exit (e ∷ more)) }
@@ -85,4 +104,30 @@ pub fn each_line_can_be_explained()
         ArePasted said (fault_said name fault) → Asks (Some said) (topic_name (topic_of fault) ∷ []) }
     ensures unopened { (name : Text) (reason : Unopened) (said : List Text) →
         ArePasted said (unopened_line name reason) → Asks (Some said) (topic_name Read ∷ []) }
+{}
+
+/// An object of JSON is written as one line, whatever the file's name. What comes before the line feed reads back as the
+/// tokens of the object, and as the object itself. This holds if each value is nothing, a text or the decimal digits of
+/// a number below 2^64, as it is in the objects of an item, of a fault and of a file that can't be opened.
+pub fn json_lines_read_back()
+    ensures line { (members : List Member) → HaveValues members → IsLine (json_line members) }
+    ensures read { (members : List Member) (front : Text) → HaveValues members →
+        json_line members ≡ front ++ 10 ∷ [] → tokens front ≡ object members }
+    ensures value { (members : List Member) (front : Text) → HaveValues members →
+        json_line members ≡ front ++ 10 ∷ [] → document front ≡ Some (json_object (members_of members)) }
+    ensures item { (label : Option Text) (item : Item) → FitsItem item →
+        HaveValues (file_member label ∷ item_members item) }
+    ensures fault { (label : Option Text) (fault : RunFault) → FitsFault fault →
+        HaveValues (file_member label ∷ fault_members fault) }
+    ensures unread { (label : Option Text) (reason : Unopened) →
+        HaveValues (file_member label ∷ unread_members reason) }
+{}
+
+/// An input is called empty exactly if it has no bytes, whether it was read as sixel text or as a picture file.
+pub fn empty_inputs_are_named()
+    ensures text { (bytes : List ℕ) (fault : Fault) → IsFaultOf bytes fault →
+        is_of_empty (Grammar fault) ≡ true ↔ bytes ≡ [] }
+    ensures picture { (profile : Profile) (bytes : List ℕ) (reason : PpmReason) (place : ℕ) →
+        ppm_read (count_of profile) bytes ≡ at_fault reason place →
+        is_of_empty (Ppm reason place) ≡ true ↔ bytes ≡ [] }
 {}

@@ -2,6 +2,7 @@
 #![tactic(auto)]
 
 mod checks;
+mod counts;
 mod dashes;
 mod execution;
 mod exit;
@@ -10,9 +11,12 @@ mod folder;
 mod formats;
 mod hints;
 pub mod laws;
+mod lines;
 mod names;
 mod nowhere;
+mod objects;
 mod peeked;
+mod reporting;
 mod request;
 mod saying;
 mod terminals;
@@ -20,6 +24,7 @@ mod terminals;
 pub use execution::execute;
 pub use exit::{Exit, code_of};
 pub use folder::{Folder, Input, System, Unopened};
+pub use lines::Lines;
 pub use peeked::Peeked;
 pub use request::Request;
 pub use terminals::Terminals;

@@ -1,13 +1,16 @@
 //! What the program is to do.
 
+use crate::lines::Lines;
 use sixel_run::Task;
 
 /// A task, and the options that aren't part of it.
 #[derive(Debug, Drop)]
 pub struct Request {
     pub task: Task,
-    /// Whether a check prints no verdict.
-    pub is_quiet: bool,
+    /// Which lines a check, a survey or a scan writes.
+    pub lines: Lines,
+    /// Whether a check or a survey ends with a hint on each different thing that it found wrong.
+    pub explains: bool,
     /// The files to read instead of standard input, in order; `-` is standard input.
     pub files: Vec<String>,
 }

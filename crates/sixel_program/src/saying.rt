@@ -1,9 +1,9 @@
-//! Messages about a run: why the input was refused, and how to convert an input of another format.
+//! Messages about a run: why the input was refused, that it is empty, and how to convert one of another format.
 
 ghost use Rattle.std.specs.Prelude.{◌≡◌, ◌≤◌, ◌++◌, Ok, length, option_copied};
 ghost use Rattle.sixel_io.specs.Devices.{Writes};
 ghost use Rattle.sixel_program.specs.Exits.{complaint, fault_said, labelled};
-ghost use Rattle.sixel_program.specs.Formats.{advice_for, advice_on};
+ghost use Rattle.sixel_program.specs.Formats.{advice_for, advice_on, format_advice, is_of_empty};
 ghost use Rattle.sixel_program.specs.Names.{unopened_line};
 
 use crate::folder::{Unopened, reason_text};
@@ -17,9 +17,28 @@ use sixel_run::{RunFault, Status, Task, fault_line, finding_line, write_fault};
 /// The length of `sixel:`, after which the line of a fault has the input's name.
 const MARK: usize = 6;
 
+/// Whether the input has no bytes: it ends too early at offset 0.
+fn is_of_empty(fault: &RunFault) -> bool
+    ensures { result ≡ is_of_empty fault.now }
+{
+    match fault {
+        RunFault::Grammar(
+            Fault {
+                reason: Reason::Truncated,
+                place,
+            },
+        )
+        | RunFault::Ppm {
+            reason: PpmReason::Short,
+            place,
+        } => *place == 0,
+        _ => false,
+    }
+}
+
 /// How to convert an input of this format, if it was refused within the magic number; otherwise nothing.
-fn advice(format: Option<Format>, fault: &RunFault) -> &'static str
-    ensures text { result.now ≡ advice_on format fault.now }
+fn format_advice(format: Option<Format>, fault: &RunFault) -> &'static str
+    ensures text { result.now ≡ format_advice format fault.now }
     ensures short { length result.now ≤ 116 }
 {
     match (format, fault) {
@@ -43,8 +62,24 @@ fn advice(format: Option<Format>, fault: &RunFault) -> &'static str
     }
 }
 
+/// What follows the line of a fault: that the input is empty, or how to convert it.
+fn advice(format: Option<Format>, fault: &RunFault) -> &'static str
+    ensures text { result.now ≡ advice_on format fault.now }
+    ensures short { length result.now ≤ 116 }
+{
+    if is_of_empty(fault) {
+        "sixel: the input is empty\n"
+    } else {
+        format_advice(format, fault)
+    }
+}
+
 /// Writes a line about an input, after the input's name if it has one.
-fn put_labelled<K: Sink>(name: Option<&str>, line: &[u8], out: &mut K) -> Result<(), DeviceFault>
+pub fn put_labelled<K: Sink>(
+    name: Option<&str>,
+    line: &[u8],
+    out: &mut K,
+) -> Result<(), DeviceFault>
     ensures { Writes result (K.state out.old) (K.state out.new) (labelled (option_copied name.entry) line.now) }
 {
     match name {
@@ -79,10 +114,11 @@ pub fn put_fault<K: Sink>(
 pub fn put_unopened<K: Sink>(name: &str, reason: Unopened, out: &mut K) -> Result<(), DeviceFault>
     ensures { Writes result (K.state out.old) (K.state out.new) (unopened_line name.now reason) }
 {
-    put_named(out, b"sixel: ", name, b":", reason_text(reason).as_bytes())
+    put_named(out, b"sixel: ", name, b":", reason_text(reason).as_slice())
 }
 
-/// Writes why an input of this format was refused, and then how to convert it to what the task reads.
+/// Writes why an input of this format was refused, and then that it is empty, or how to convert it to what the task
+/// reads.
 pub fn put_refusal<K: Sink>(
     name: Option<&str>,
     format: Option<Format>,

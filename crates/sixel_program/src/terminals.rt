@@ -7,6 +7,7 @@ ghost use Rattle.sixel_program.specs.Exits.{IsPut};
 ghost use Rattle.sixel_program.specs.Files.{is_misdirected, notice, redirection, waiting_line};
 
 use crate::dashes::reads_input;
+use crate::lines::is_quiet;
 use crate::request::Request;
 use sixel_io::{Sink, put_all};
 use sixel_run::Task;
@@ -56,9 +57,9 @@ fn waiting_line(task: Task) -> &'static [u8]
 /// The notice before a task: one that reads a terminal says that it waits, unless it is quiet.
 fn notice(terminals: Terminals, request: &Request) -> &'static [u8]
     ensures { result.now
-        ≡ notice terminals request.now.task request.now.is_quiet (map string_bytes request.now.files.items) }
+        ≡ notice terminals request.now.task request.now.lines (map string_bytes request.now.files.items) }
 {
-    if terminals.input && !request.is_quiet && reads_input(request) {
+    if terminals.input && !is_quiet(request.lines) && reads_input(request) {
         waiting_line(request.task)
     } else {
         b""
@@ -67,7 +68,7 @@ fn notice(terminals: Terminals, request: &Request) -> &'static [u8]
 
 /// Says that the task waits, if it is to read a terminal and isn't quiet.
 pub fn announce<E: Sink>(terminals: Terminals, request: &Request, errors: &mut E)
-    ensures { IsPut (notice terminals request.now.task request.now.is_quiet (map string_bytes request.now.files.items))
+    ensures { IsPut (notice terminals request.now.task request.now.lines (map string_bytes request.now.files.items))
         (change (E.state errors.old) (E.state errors.new)) }
 {
     let _ = put_all(errors, notice(terminals, request));

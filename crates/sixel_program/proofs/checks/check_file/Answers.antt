@@ -1,53 +1,13 @@
-use Rattle.std.proofs.Common.{◌≡◌, ◌∙◌, [], None, Some, ap, false, refl, sym, true}
-use Rattle.sixel_io.proofs.SinkLemmas.{Appends-none}
-use Rattle.sixel_program.proofs.PutLemmas.{is_put}
+use Rattle.std.proofs.Common.{◌≡◌, ◌∙◌, [], None, Some, ap, false, inl, refl, sym, true}
+use Rattle.std.proofs.lemmas.Result.{err_from_is_err_and}
 use Rattle.std.specs.Prelude.{Err, option_copied}
 use Rattle.sixel_io.specs.Devices.{SourceState}
 use Rattle.sixel_run.specs.declared.fault.RunFault.TheVariants.{Read}
 use Rattle.sixel_program.specs.Files.{is_dash, name_of}
 use Rattle.sixel_program.specs.Openings.{bytes_of, folder_view}
-use Rattle.sixel_program.proofs.FilesLemmas.{fails_with, no_text, unopened}
+use Rattle.sixel_program.proofs.FilesLemmas.{fails_with, unopened}
 use Rattle.sixel_program.proofs.PeekedLemmas.{source_failed}
 use Rattle.sixel_program.proofs.checks.check_file.Goals as goal
-
-pub returns-in-Err-clause-checked : goal.returns-in-Err-clause-checked
-returns-in-Err-clause-checked g c =
-    let label = option_copied c.args.label in
-    let named = c.name_of-name.ensures in
-    let file : is_dash (name_of label) ≡ false = ap is_dash (sym named) ∙ sym c.eq.ensures ∙ c.if-eq.false in
-    let told = bytes_of (g.F.Folder.opening c.args.folder.now) (name_of label) in
-    record {
-      e = record {
-        label = label;
-        unopened = Some _;
-        told = told;
-        left = told;
-        format = None;
-        lines = [];
-        answer = Err Read;
-      };
-      label_is = refl;
-      read = record {
-        told = rw file refl;
-        left = λ is. let no : true ≡ false = sym is ∙ file in cc;
-        counted = λ is. let no : true ≡ false = sym is ∙ file in cc;
-      };
-      is_end = unopened c.args.task.now c.requires _ _ _;
-      opening = record {
-        input = λ is. let no : true ≡ false = sym is ∙ file in cc;
-        opening = λ is. rw named at c.in-Err.ensures.ended;
-        unread = λ reason is. refl;
-        counted = λ is none. cc;
-      };
-      written = λ is. cc;
-      outcome = (
-        refl,
-        rw (no_text c.args.is_quiet label) (Appends-none _),
-        refl,
-        is_put c.put_unopened.result _ _ _ (rw named at c.put_unopened.ensures),
-        λ quiet. refl,
-      );
-    }
 
 pub returns-in-Ok-clause-checked : goal.returns-in-Ok-clause-checked
 returns-in-Ok-clause-checked g c =
@@ -63,7 +23,7 @@ returns-in-Ok-clause-checked g c =
         told = _;
         left = _;
         format = checked.format;
-        lines = checked.lines;
+        items = checked.items;
         answer = checked.answer;
       };
       label_is = refl;
@@ -101,7 +61,7 @@ returns-then-eq-clause-checked g c =
         told = _;
         left = _;
         format = checked.format;
-        lines = checked.lines;
+        items = checked.items;
         answer = checked.answer;
       };
       label_is = refl;
@@ -115,4 +75,79 @@ returns-then-eq-clause-checked g c =
       };
       written = checked.written;
       outcome = checked.outcome;
+    }
+
+pub returns-in_err-say_unopened-in-Err-clause-checked : goal.returns-in_err-say_unopened-in-Err-clause-checked
+returns-in_err-say_unopened-in-Err-clause-checked g c =
+    let said = c.in_err-say_unopened-in-Err.ensures in
+    let failed = err_from_is_err_and c.from_residual.result c.from_residual.ensures.1 in
+    let label = option_copied c.args.label in
+    let named = c.name_of-name.ensures in
+    let file : is_dash (name_of label) ≡ false = ap is_dash (sym named) ∙ sym c.eq.ensures ∙ c.if-eq.false in
+    let told = bytes_of (g.F.Folder.opening c.args.folder.now) (name_of label) in
+    rw failed.1 (record {
+      e = record {
+        label = label;
+        unopened = Some c.in-Err.reason;
+        told = told;
+        left = told;
+        format = None;
+        items = [];
+        answer = Err Read;
+      };
+      label_is = refl;
+      read = record {
+        told = rw file refl;
+        left = λ is. let no : true ≡ false = sym is ∙ file in cc;
+        counted = λ is. let no : true ≡ false = sym is ∙ file in cc;
+      };
+      is_end = unopened c.args.task.now c.requires _ _ _;
+      opening = record {
+        input = λ is. let no : true ≡ false = sym is ∙ file in cc;
+        opening = λ is. rw named at c.in-Err.ensures.ended;
+        unread = λ reason is. refl;
+        counted = λ is none. cc;
+      };
+      written = tt;
+      outcome = (said.put.taken, said.loud, said.put.failures, inl said.silent, said.unchanged);
+    })
+
+pub returns-in_ok-say_unopened-in-Err-clause-checked : goal.returns-in_ok-say_unopened-in-Err-clause-checked
+returns-in_ok-say_unopened-in-Err-clause-checked g c =
+    let said = c.in_ok-say_unopened-in-Err.ensures in
+    let label = option_copied c.args.label in
+    let named = c.name_of-name.ensures in
+    let file : is_dash (name_of label) ≡ false = ap is_dash (sym named) ∙ sym c.eq.ensures ∙ c.if-eq.false in
+    let told = bytes_of (g.F.Folder.opening c.args.folder.now) (name_of label) in
+    record {
+      e = record {
+        label = label;
+        unopened = Some c.in-Err.reason;
+        told = told;
+        left = told;
+        format = None;
+        items = [];
+        answer = Err Read;
+      };
+      label_is = refl;
+      read = record {
+        told = rw file refl;
+        left = λ is. let no : true ≡ false = sym is ∙ file in cc;
+        counted = λ is. let no : true ≡ false = sym is ∙ file in cc;
+      };
+      is_end = unopened c.args.task.now c.requires _ _ _;
+      opening = record {
+        input = λ is. let no : true ≡ false = sym is ∙ file in cc;
+        opening = λ is. rw named at c.in-Err.ensures.ended;
+        unread = λ reason is. refl;
+        counted = λ is none. cc;
+      };
+      written = λ is. cc;
+      outcome = (
+        refl,
+        said.put.taken,
+        said.put.failures,
+        said.said,
+        λ quiet. ap (g.K.Sink.state) (said.untouched quiet),
+      );
     }

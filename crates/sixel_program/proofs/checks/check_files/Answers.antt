@@ -1,5 +1,6 @@
-use Rattle.std.proofs.Common.{◌≡◌, ◌∙◌, ◌+◌, ◌∷◌, ◌++◌, [], ap₂, drop, false, inr, map, refl, sym, take, true}
-use Rattle.std.specs.Option.{option_or}
+use Rattle.std.proofs.Common.{◌≡◌, ◌∙◌, ◌+◌, ◌∷◌, ◌++◌, [], ℕ, List, ap, ap₂, arith, drop, false, inr, map, refl, sym, take, true}
+use Rattle.sixel_program.specs.declared.hints.Cause.{Cause}
+use Rattle.sixel_program.specs.Hints.{cause_of, with_cause}
 use Rattle.std.specs.String.{string_bytes}
 use Rattle.std.proofs.lemmas.List.{take_all}
 use Rattle.sixel_program.proofs.FilesLemmas.{all_labels, all_names, checked_more, cut_after, ended, labels_none}
@@ -19,7 +20,7 @@ returns-then-is_empty-clause-unread g c = λ none.
     cc
 
 pub loop-name-init : goal.loop-name-init
-loop-name-init g c = (([], none_checked _ _ _ _ _ _, refl), λ none. refl)
+loop-name-init g c = (([], none_checked _ _ _ _ _ _, c.new-causes.ensures, refl, refl), λ none. refl)
 
 pub loop-name-preserved : goal.loop-name-preserved
 loop-name-preserved g c =
@@ -40,7 +41,9 @@ loop-name-preserved g c =
       (
         all.0,
         rw (more, c.worse-exit.ensures, c.exit_of.ensures) all.1,
-        rw c.or-cause.ensures (ap₂ option_or c.loop-name.invariant.0.2 c.cause_of.ensures ∙ sym all.2),
+        c.note.ensures ∙ ap (λ (cs : List Cause). with_cause cs (cause_of c.in-Ok.answer)) c.loop-name.invariant.0.2 ∙ sym all.2,
+        ap₂ ◌+◌ c.loop-name.invariant.0.3 c.failures_in-failed.ensures ∙ sym all.3,
+        all.4 ∙ ap (λ (n : ℕ). n + 1) c.loop-name.invariant.0.4,
       ),
       rw (more_names c.args.names.now c.loop-name.name-index c.name-item.result name c.loop-name-test.true
           c.name-item.is c.as_str.ensures.value)
@@ -85,4 +88,6 @@ returns-clause-checked g c =
     let all = rw
     (take_all c.loop-name.name-index c.args.names.now c.loop-name-test.false) at c.loop-name.invariant.0.1 in
     rw (labels_some c.args.names.now (sym c.is_empty.ensures ∙ c.if-is_empty.false))
-    (ended _ _ _ _ _ _ _ _ _ _ _ _ _ _ _ _ all c.loop-name.invariant.0.2 c.finish.ensures)
+    (ended _ _ _ _ _ _ _ _ _ _ _ _ _ _ _ _ _ _ all c.loop-name.invariant.0.2 c.loop-name.invariant.0.3
+    (omega (arith, c.loop-name.invariant.0.4, c.loop-name-test.false, c.loop-name.auto.name-index-end))
+    c.finish.ensures)

@@ -1,20 +1,22 @@
 use Rattle.std.proofs.Common.{◌≡◌, ◌∙◌, ◌∷◌, ◌++◌, ℕ, [], List, None, Option, Some, ap, append_assoc, codes, refl, sym}
+use Rattle.std.proofs.lemmas.List.{map-append}
+use Rattle.std.specs.Char.{to_ascii_lowercase}
 use Rattle.sixel_grammar.specs.declared.fault.Fault.{Fault}
 use Rattle.sixel_judge.specs.declared.verdict.Finding.{Finding}
 use Rattle.sixel_run.specs.declared.fault.RunFault.{RunFault}
 use Rattle.sixel_run.specs.declared.fault.RunFault.TheVariants as fault
 use Rattle.sixel_survey.specs.declared.entry.Entry.{Entry}
 use Rattle.sixel_scan.specs.declared.answer.Answer.TheVariants.{Broken, Refused}
-use Rattle.sixel_run.specs.Texts.{Text, entry_line, finding_line, reason_name, rule_name, string_line}
+use Rattle.sixel_run.specs.Texts.{Text, entry_line, finding_line, line, reason_name, rule_name, string_line}
 use Rattle.sixel_explain.specs.declared.explanations.Topic.TheVariants.{Read}
-use Rattle.sixel_explain.specs.Explanations.{ArePasted, line_of, names_in, topic_name, topic_of}
+use Rattle.sixel_explain.specs.Explanations.{ArePasted, line_of, names_in, topic_name, topic_of, topic_of_end}
 use Rattle.sixel_explain.proofs.PastedLemmas.{ending_pasted, fault_pasted, finding_pasted, is_a_folder, no_such_file}
-use Rattle.sixel_explain.proofs.PastedLemmas.{not_utf8, permission_denied, read_failed}
+use Rattle.sixel_explain.proofs.PastedLemmas.{low, not_utf8, permission_denied, read_failed}
 use Rattle.sixel_program.proofs.EntryLemmas.{entry_pasted, entry_pasted_after}
 use Rattle.sixel_program.proofs.StringLineLemmas.{string_finding_pasted, string_refusal_pasted}
 use Rattle.sixel_program.specs.declared.folder.Unopened.{Unopened}
 use Rattle.sixel_program.specs.declared.folder.Unopened.TheVariants.{Failed, IsFolder, NotFound, NotText}
-use Rattle.sixel_program.specs.declared.folder.Unopened.TheVariants.{PermissionDenied}
+use Rattle.sixel_program.specs.declared.folder.Unopened.TheVariants.{Links, LongName, NotFolder, PermissionDenied}
 use Rattle.sixel_program.specs.Exits.{fault_said, labelled}
 use Rattle.sixel_program.specs.Names.{printed, unopened_line}
 use Rattle.sixel_program.specs.Openings.{reason_text}
@@ -23,6 +25,15 @@ use Rattle.sixel_program.proofs.laws.each_line_can_be_explained.Goals as goal
 -- what is before the line of a file
 abbrev begun : Text → Text
 begun name = codes "sixel: " ++ printed name ++ codes ":"
+
+-- in small letters, too, it ends in the words for a failed read
+after_words : (words x : Text) → topic_of_end (x ++ 32 ∷ low (words ++ codes " read failed")) ≡ Some Read
+after_words words x =
+    let split : low (words ++ codes " read failed") ≡ low words ++ codes " read failed" =
+    map-append to_ascii_lowercase words (codes " read failed") in
+    ap (λ (t : Text). topic_of_end (x ++ 32 ∷ t)) split
+    ∙ ap topic_of_end (sym (append_assoc x (32 ∷ low words) (codes " read failed")))
+    ∙ read_failed (x ++ 32 ∷ low words)
 
 broken : (name : Option Text) (finding : Finding) (said : List Text)
     → ArePasted said (labelled name (finding_line finding))
@@ -68,12 +79,22 @@ refused (Some name) fault.TooManyColours said are = fault_pasted (begun name) fa
 refused (Some name) fault.OutOfMemory said are = fault_pasted (begun name) fault.OutOfMemory said refl are
 refused (Some name) fault.Read said are = fault_pasted (begun name) fault.Read said refl are
 
+-- a line that ends in the words for a failed read, after the words of the system
+failed_after : (name words : Text) (said : List Text)
+    → ArePasted said (line (begun name) ((words ++ codes " read failed") ∷ []))
+    → names_in (line_of said) ≡ Some (topic_name Read ∷ [])
+failed_after name words said are =
+    ending_pasted (begun name) (words ++ codes " read failed") Read said (after_words words) are
+
 unopened : (name : Text) (reason : Unopened) (said : List Text) → ArePasted said (unopened_line name reason)
     → names_in (line_of said) ≡ Some (topic_name Read ∷ [])
 unopened name NotFound said are = ending_pasted (begun name) (reason_text NotFound) Read said no_such_file are
 unopened name PermissionDenied said are =
     ending_pasted (begun name) (reason_text PermissionDenied) Read said permission_denied are
 unopened name IsFolder said are = ending_pasted (begun name) (reason_text IsFolder) Read said is_a_folder are
+unopened name NotFolder said are = failed_after name (codes "not a directory:") said are
+unopened name Links said are = failed_after name (codes "too many levels of symbolic links:") said are
+unopened name LongName said are = failed_after name (codes "file name too long:") said are
 unopened name NotText said are = ending_pasted (begun name) (reason_text NotText) Read said not_utf8 are
 unopened name Failed said are = ending_pasted (begun name) (reason_text Failed) Read said read_failed are
 

@@ -3,7 +3,8 @@ use Rattle.std.proofs.lemmas.Grind.{flat_map-append}
 use Rattle.std.proofs.lemmas.List.{take-append-drop}
 use Rattle.std.proofs.lemmas.Result.{err_from_is_err_and}
 use Rattle.sixel_io.proofs.SinkLemmas.{writes-done, writes-next, writes-stopped}
-use Rattle.sixel_program.specs.Names.{printed, printed_byte}
+use Rattle.sixel_program.specs.Json.{spelled, spelled_byte}
+use Rattle.sixel_program.specs.declared.names.Spelling.{Spelling}
 use Rattle.sixel_run.specs.Texts.{Text}
 use Rattle.sixel_program.proofs.names.put_name.Goals as goal
 
@@ -15,12 +16,12 @@ parted name first rest part more k is front back =
     (sym (take-append-drop k rest) ∙ ap₂ (λ (a b : Text). a ++ b) (sym front) (sym back))
     ∙ sym (append_assoc first part more)
 
--- and so is what is printed
-printed_parts : (name first part more : Text) → name ≡ (first ++ part) ++ more
-    → printed name ≡ (printed first ++ printed part) ++ printed more
-printed_parts name first part more is =
-    ap printed is ∙ flat_map-append printed_byte (first ++ part) more
-    ∙ ap (λ (t : Text). t ++ printed more) (flat_map-append printed_byte first part)
+-- and so is how it is spelled
+spelled_parts : (s : Spelling) (name first part more : Text) → name ≡ (first ++ part) ++ more
+    → spelled s name ≡ (spelled s first ++ spelled s part) ++ spelled s more
+spelled_parts s name first part more is =
+    ap (spelled s) is ∙ flat_map-append (spelled_byte s) (first ++ part) more
+    ∙ ap (λ (t : Text). t ++ spelled s more) (flat_map-append (spelled_byte s) first part)
 
 pub returns-in_err-put_all : goal.returns-in_err-put_all
 returns-in_err-put_all g c =
@@ -28,15 +29,15 @@ returns-in_err-put_all g c =
     let inv = c.loop-rest.invariant in
     rw failed.1
     (writes-stopped _
-    (printed_parts _ inv.0 _ _
+    (spelled_parts c.args.spelling _ inv.0 _ _
     (parted c.args.name.now inv.0 _ _ _ _ inv.1 c.split_at.ensures.front c.split_at.ensures.back)) inv.2
-    (rw c.printed_part.ensures at (rw c.as_slice.ensures.value at c.in_err-put_all.ensures)))
+    (rw c.spelled_part.ensures at (rw c.as_slice.ensures.value at c.in_err-put_all.ensures)))
 
 pub loop-rest-preserved : goal.loop-rest-preserved
 loop-rest-preserved g c =
     let inv = c.loop-rest.invariant in (
       inv.0 ++ _,
       parted c.args.name.now inv.0 _ _ _ _ inv.1 c.split_at.ensures.front c.split_at.ensures.back,
-      writes-done (sym (flat_map-append printed_byte inv.0 _))
-          (writes-next inv.2 (rw c.printed_part.ensures at (rw c.as_slice.ensures.value at c.in_ok-put_all.ensures))),
+      writes-done (sym (flat_map-append (spelled_byte c.args.spelling) inv.0 _))
+          (writes-next inv.2 (rw c.spelled_part.ensures at (rw c.as_slice.ensures.value at c.in_ok-put_all.ensures))),
     )

@@ -1,5 +1,5 @@
 use Rattle.std.proofs.Common.{append_assoc}
-use Rattle.sixel_program.proofs.hints.cause_hint.Goals as goal
+use Rattle.sixel_program.proofs.hints.hint_line.Goals as goal
 
 pub returns : goal.returns
 returns c =

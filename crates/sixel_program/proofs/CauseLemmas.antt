@@ -1,0 +1,110 @@
+-- What is found wrong, each once: there is room for all.
+use Rattle.std.proofs.Common.{◌≡◌, ◌∙◌, ◌++◌, ◌∷◌, ◌<◌, ◌+◌, ℕ, true, false, List, [], ap, arith, get_or, length, map, refl}
+use Rattle.std.proofs.Common.{sym, take}
+use Rattle.std.proofs.lemmas.List.{length-append, map-append, take_more}
+use Rattle.std.proofs.lemmas.List.Folds.{list_any-append, list_any_at}
+use Rattle.std.specs.List.{IsDistinct, list_any}
+use Rattle.std.specs.Cmp.{IsEquivalence}
+use Rattle.std.specs.Cmp.Lexicographic.{nat_list_eq_equiv}
+use Rattle.std.proofs.lemmas.Map.Keys.{IsDistinct-push}
+use Rattle.std.proofs.lemmas.Map.Made.{length-le_from_is_member}
+use Rattle.sixel_grammar.specs.declared.fault.Reason.TheVariants as reason
+use Rattle.sixel_model.specs.declared.rule.Rule.TheVariants as rule
+use Rattle.sixel_program.specs.declared.hints.Cause.{Cause}
+use Rattle.sixel_program.specs.declared.hints.Cause.TheVariants.{Refusal, Rule}
+use Rattle.sixel_io.specs.Devices.{SinkState, change}
+use Rattle.sixel_run.specs.Texts.{Text}
+use Rattle.sixel_program.specs.Exits.{IsPut}
+use Rattle.sixel_program.specs.Files.{ArePut}
+use Rattle.sixel_model.specs.declared.profile.Profile.{Profile}
+use Rattle.sixel_run.specs.declared.task.Task.{Task}
+use Rattle.sixel_run.specs.declared.task.Task.TheVariants.{Check, Survey}
+use Rattle.sixel_program.specs.Hints.{cause_name, hints_of, is_same}
+use Rattle.sixel_program.proofs.FilesLemmas.{one_put, put_then}
+
+same_equivalence : IsEquivalence is_same
+same_equivalence = record {
+  refl = λ a. nat_list_eq_equiv.refl (cause_name a);
+  symm = λ a b. nat_list_eq_equiv.symm (cause_name a) (cause_name b);
+  congr = λ a b c same. nat_list_eq_equiv.congr (cause_name a) (cause_name b) (cause_name c) same;
+}
+
+-- all that can be found wrong
+all_causes : List Cause
+all_causes = Rule rule.RasterFirst ∷ Rule rule.RasterTwice ∷ Rule rule.Ratio ∷ Rule rule.BoxSize ∷ Rule rule.Register
+    ∷ Rule rule.ColourValue ∷ Rule rule.RepeatZero ∷ Rule rule.Unselected ∷ Rule rule.Undefined ∷ Rule rule.Redefined
+    ∷ Rule rule.Outside ∷ Rule rule.Uncovered ∷ Rule rule.EightBit ∷ Refusal reason.NotSixel ∷ Refusal reason.BadByte
+    ∷ Refusal reason.NumberTooLarge ∷ Refusal reason.FieldCount ∷ Refusal reason.BadRepeat
+    ∷ Refusal reason.BadTerminator ∷ Refusal reason.Truncated ∷ Refusal reason.TooLong ∷ Refusal reason.Trailing ∷ []
+
+is_one_of_all : (cause : Cause) → list_any (is_same cause) all_causes ≡ true
+unfolding all_causes
+is_one_of_all (Rule rule.RasterFirst) = refl
+is_one_of_all (Rule rule.RasterTwice) = refl
+is_one_of_all (Rule rule.Ratio) = refl
+is_one_of_all (Rule rule.BoxSize) = refl
+is_one_of_all (Rule rule.Register) = refl
+is_one_of_all (Rule rule.ColourValue) = refl
+is_one_of_all (Rule rule.RepeatZero) = refl
+is_one_of_all (Rule rule.Unselected) = refl
+is_one_of_all (Rule rule.Undefined) = refl
+is_one_of_all (Rule rule.Redefined) = refl
+is_one_of_all (Rule rule.Outside) = refl
+is_one_of_all (Rule rule.Uncovered) = refl
+is_one_of_all (Rule rule.EightBit) = refl
+is_one_of_all (Refusal reason.NotSixel) = refl
+is_one_of_all (Refusal reason.BadByte) = refl
+is_one_of_all (Refusal reason.NumberTooLarge) = refl
+is_one_of_all (Refusal reason.FieldCount) = refl
+is_one_of_all (Refusal reason.BadRepeat) = refl
+is_one_of_all (Refusal reason.BadTerminator) = refl
+is_one_of_all (Refusal reason.Truncated) = refl
+is_one_of_all (Refusal reason.TooLong) = refl
+is_one_of_all (Refusal reason.Trailing) = refl
+
+pub no_causes : (causes : List Cause) → causes ≡ [] → IsDistinct is_same causes
+unfolding IsDistinct
+no_causes causes none = rw none tt
+
+-- one more that isn't there leaves no two the same
+pub distinct_more : (causes : List Cause) (cause : Cause) → IsDistinct is_same causes
+    → list_any (is_same cause) causes ≡ false → IsDistinct is_same (causes ++ cause ∷ [])
+distinct_more causes cause distinct absent = IsDistinct-push same_equivalence causes cause distinct absent
+
+-- and so there was room for it
+pub has_room : (causes : List Cause) (cause : Cause) → IsDistinct is_same causes
+    → list_any (is_same cause) causes ≡ false → length causes < 22
+unfolding all_causes
+has_room causes cause distinct absent =
+    let few = length-le_from_is_member same_equivalence (causes ++ cause ∷ []) all_causes
+    (distinct_more causes cause distinct absent) (λ q has. is_one_of_all q) in
+    omega (arith, few, length-append causes (cause ∷ []))
+
+-- none of the first causes is the same, nor is the next one
+pub none_more : (cause : Cause) (causes : List Cause) (i : ℕ) (d : Cause) → i < length causes
+    → list_any (is_same cause) (take i causes) ≡ false → is_same cause (get_or causes i d) ≡ false
+    → list_any (is_same cause) (take (i + 1) causes) ≡ false
+none_more cause causes i d short none other =
+    ap (list_any (is_same cause)) (take_more causes i d short)
+    ∙ list_any-append (is_same cause) (take i causes) (get_or causes i d ∷ []) ∙ rw (none, other) refl
+
+-- one of them is
+pub found_at : (cause : Cause) (causes : List Cause) (i : ℕ) (d : Cause) → i < length causes
+    → is_same cause (get_or causes i d) ≡ true → true ≡ list_any (is_same cause) causes
+found_at cause causes i d short same = sym (list_any_at (is_same cause) causes i d short same)
+
+-- the lines of the first causes were put, and that of the next one
+pub puts_more : (line : Cause → Text) (causes : List Cause) (i : ℕ) (d : Cause) (a b c : SinkState)
+    → i < length causes → ArePut (map line (take i causes)) (change a b)
+    → IsPut (line (get_or causes i d)) (change b c) → ArePut (map line (take (i + 1) causes)) (change a c)
+puts_more line causes i d a b c short are more =
+    rw (ap (map line) (take_more causes i d short) ∙ map-append line (take i causes) (get_or causes i d ∷ []))
+    (put_then (map line (take i causes)) (line (get_or causes i d) ∷ []) a b c are
+    (one_put (line (get_or causes i d)) b c more))
+
+-- neither a check nor a survey: there are no hints
+pub no_hints : (t : Task) (causes : List Cause) → ((profile : Profile) → t ≡ Check profile → ⊥)
+    → ((profile : Profile) → t ≡ Survey profile → ⊥) → hints_of t causes ≡ []
+no_hints (Check profile) causes unchecked unsurveyed = absurd (unchecked profile refl)
+no_hints (Survey profile) causes unchecked unsurveyed = absurd (unsurveyed profile refl)
+no_hints t causes unchecked unsurveyed = refl

@@ -1,0 +1,16 @@
+use Rattle.std.proofs.Common.{[], ◌∷◌, ap, inl, refl}
+use Rattle.sixel_program.proofs.FilesLemmas.{one_put, put_then}
+use Rattle.sixel_program.proofs.checks.finish.Goals as goal
+
+pub returns-in-Ok : goal.returns-in-Ok
+returns-in-Ok g c =
+    let flushed = c.in-Ok.ensures in
+    inl (
+      refl,
+      flushed.bytes,
+      flushed.failures,
+      flushed.flushed,
+      λ quiet. ap (g.K.Sink.state) (flushed.untouched quiet),
+      put_then _ (_ ∷ []) _ (g.E.Sink.state c.put_hints.new.errors) _
+          (rw c.as_slice.ensures at c.put_hints.ensures) (one_put _ _ _ c.put_count.ensures),
+    )

@@ -1,0 +1,74 @@
+//! Which lines a check, a survey or a scan writes.
+
+ghost use Rattle.std.specs.Prelude.{◌≡◌};
+ghost use Rattle.sixel_program.specs.Lines.{all_of, is_json, is_portable_item, is_quiet, shown_at};
+
+use crate::terminals::Terminals;
+use sixel_check::Outcome;
+use sixel_run::Item;
+use sixel_scan::Answer;
+
+/// Which lines a check, a survey or a scan writes, and in which form.
+#[derive(Clone, Copy, Debug, PartialEq, Eq)]
+pub enum Lines {
+    /// None. Why an input is refused is said all the same.
+    Nothing,
+    /// A line for each answer, or only for each that isn't portable.
+    Plain { only_failed: bool },
+    /// An object of JSON in place of each line, and one for each input that is refused or can't be read.
+    Json { only_failed: bool },
+}
+
+/// Which messages come last.
+#[derive(Clone, Copy, Debug, PartialEq, Eq)]
+pub struct Shown {
+    /// Whether standard error is a terminal.
+    pub is_terminal: bool,
+    /// Whether hints are asked for.
+    pub explains: bool,
+}
+
+/// Those of a request at these terminals, which asks for hints or doesn't.
+pub fn shown_at(terminals: Terminals, explains: bool) -> Shown
+    ensures { result ≡ shown_at terminals explains }
+{
+    Shown {
+        is_terminal: terminals.errors,
+        explains,
+    }
+}
+
+/// Whether nothing is written of an input that isn't refused.
+pub fn is_quiet(lines: Lines) -> bool
+    ensures { result ≡ is_quiet lines }
+{
+    matches!(lines, Lines::Nothing)
+}
+
+/// Whether they are objects of JSON.
+pub fn is_json(lines: Lines) -> bool
+    ensures { result ≡ is_json lines }
+{
+    matches!(lines, Lines::Json { .. })
+}
+
+/// As many lines as there are, in the same form.
+pub fn all_of(lines: Lines) -> Lines
+    ensures { result ≡ all_of lines }
+{
+    match lines {
+        Lines::Json { .. } => Lines::Json { only_failed: false },
+        _ => Lines::Plain { only_failed: false },
+    }
+}
+
+/// Whether a line says that a picture is portable.
+pub fn is_portable_item(item: &Item) -> bool
+    ensures { result ≡ is_portable_item item.now }
+{
+    match item {
+        Item::Outcome(Outcome::Portable { .. }) => true,
+        Item::String(scanned) => matches!(scanned.answer, Answer::Portable { .. }),
+        _ => false,
+    }
+}
