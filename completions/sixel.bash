@@ -25,9 +25,9 @@ _sixel() {
             names='list check survey scan render encode show mend explain help'
             ;;
         list) options='-h --help -V --version' ;;
-        check) options='--wide -q --quiet -h --help -V --version' operands=0 ;;
-        survey) options='--wide -h --help -V --version' operands=0 ;;
-        scan) options='--wide --eight-bit -h --help -V --version' operands=0 ;;
+        check) options='--wide -q --quiet --failed --json --explain -h --help -V --version' operands=0 ;;
+        survey) options='--wide --json --explain -h --help -V --version' operands=0 ;;
+        scan) options='--wide --eight-bit --json -h --help -V --version' operands=0 ;;
         render) options='--wide -h --help -V --version' ;;
         encode) options='--wide -h --help -V --version' ;;
         show) options='--wide --showing --fill --define-selects --width --height --box -h --help -V --version' ;;

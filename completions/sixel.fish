@@ -29,17 +29,23 @@ complete -c sixel -n '__fish_sixel_is list' -s V -l version -d 'Print version'
 complete -c sixel -n '__fish_sixel_is check' -F
 complete -c sixel -n '__fish_sixel_is check' -l wide -d 'Use 256 colour registers instead of 16'
 complete -c sixel -n '__fish_sixel_is check' -s q -l quiet -d 'Print no verdict; use the exit status'
+complete -c sixel -n '__fish_sixel_is check' -l failed -d 'Print only the lines of files that aren\'t portable'
+complete -c sixel -n '__fish_sixel_is check' -l json -d 'Print objects of JSON, one a line, also for refusals'
+complete -c sixel -n '__fish_sixel_is check' -l explain -d 'End with a hint on each rule or refusal, also into a pipe'
 complete -c sixel -n '__fish_sixel_is check' -s h -l help -d 'Print help'
 complete -c sixel -n '__fish_sixel_is check' -s V -l version -d 'Print version'
 
 complete -c sixel -n '__fish_sixel_is survey' -F
 complete -c sixel -n '__fish_sixel_is survey' -l wide -d 'Use 256 colour registers instead of 16'
+complete -c sixel -n '__fish_sixel_is survey' -l json -d 'Print objects of JSON, one a line, also for refusals'
+complete -c sixel -n '__fish_sixel_is survey' -l explain -d 'End with a hint on each rule or refusal, also into a pipe'
 complete -c sixel -n '__fish_sixel_is survey' -s h -l help -d 'Print help'
 complete -c sixel -n '__fish_sixel_is survey' -s V -l version -d 'Print version'
 
 complete -c sixel -n '__fish_sixel_is scan' -F
 complete -c sixel -n '__fish_sixel_is scan' -l wide -d 'Use 256 colour registers instead of 16'
 complete -c sixel -n '__fish_sixel_is scan' -l eight-bit -d 'Let the bytes 90 and 9C start and end a picture, too'
+complete -c sixel -n '__fish_sixel_is scan' -l json -d 'Print objects of JSON, one a line, also for refusals'
 complete -c sixel -n '__fish_sixel_is scan' -s h -l help -d 'Print help'
 complete -c sixel -n '__fish_sixel_is scan' -s V -l version -d 'Print version'
 

@@ -12,8 +12,9 @@ use Rattle.clap.specs.Takes.{default_passes, is_valid, settle_passes, takes, tur
 use Rattle.clap.specs.Walk.{Row, Text, Walk, answers_to, finished, nothing_held, walk, walk_from, walked}
 use Rattle.sixel_model.specs.declared.profile.Profile.TheVariants.{Registers16, Registers256}
 use Rattle.sixel_run.specs.declared.task.Task.TheVariants.{Check}
-use Rattle.sixel_words.specs.Words.{IsRequestOf, check_app, check_flags, files_of, is_among, is_given, profile_of}
-use Rattle.sixel_words.specs.Words.{sixel_app}
+use Rattle.sixel_words.specs.Words.{IsRequestOf, check_app, check_flags, files_of, is_among, is_given, lines_of}
+use Rattle.sixel_words.specs.Words.{profile_of, sixel_app}
+use Rattle.sixel_program.specs.declared.lines.Lines.TheVariants.{Nothing, Plain}
 
 abbrev whole : App
 whole = built sixel_app
@@ -260,21 +261,22 @@ quiet_after g (flag ∷ flags) are =
 -- what these flags ask for
 record AsksSo (g : Given) : Type 0 where
   pub profile : profile_of (rows_for g) ≡ (if had_wide g then Registers256 else Registers16)
-  pub quiet : is_given (codes "quiet") (rows_for g) ≡ had_quiet g
+  pub lines : lines_of (rows_for g) ≡ (if had_quiet g then Nothing else Plain false)
+  pub explains : is_given (codes "explain") (rows_for g) ≡ false
   pub files : files_of (rows_for g) ≡ []
 
 asks_so : (g : Given) → AsksSo g
 unfolding walked
-asks_so none = record { profile = refl; quiet = refl; files = refl }
-asks_so wide = record { profile = refl; quiet = refl; files = refl }
-asks_so quiet = record { profile = refl; quiet = refl; files = refl }
-asks_so wide_quiet = record { profile = refl; quiet = refl; files = refl }
-asks_so quiet_wide = record { profile = refl; quiet = refl; files = refl }
+asks_so none = record { profile = refl; lines = refl; explains = refl; files = refl }
+asks_so wide = record { profile = refl; lines = refl; explains = refl; files = refl }
+asks_so quiet = record { profile = refl; lines = refl; explains = refl; files = refl }
+asks_so wide_quiet = record { profile = refl; lines = refl; explains = refl; files = refl }
+asks_so quiet_wide = record { profile = refl; lines = refl; explains = refl; files = refl }
 
 pub flags_ask : (program : Text) (flags : List Text) → AreFlags flags
     → IsRequestOf (program ∷ codes "check" ∷ flags)
     (Check (if is_among flags (codes "--wide") then Registers256 else Registers16))
-    (is_among flags (codes "-q") || is_among flags (codes "--quiet")) []
+    (if is_among flags (codes "-q") || is_among flags (codes "--quiet") then Nothing else Plain false) false []
 flags_ask program flags are =
     let g = after_all none flags in
     let asks = asks_so g in
@@ -286,7 +288,8 @@ flags_ask program flags are =
       rows_for g,
       found,
       (refl, asks.profile ∙ wide),
-      asks.quiet ∙ quiet_after none flags are,
+      asks.lines ∙ ap (λ (b : Bool). if b then Nothing else Plain false) (quiet_after none flags are),
+      asks.explains,
       asks.files,
     )
 

@@ -21,7 +21,7 @@ use Rattle.sixel_run.specs.declared.task.Task.TheVariants.{List as Listing, Chec
 use Rattle.sixel_run.specs.declared.task.Task.TheVariants.{Encode, Scan}
 use Rattle.sixel_program.specs.declared.request.Request.{Request}
 use Rattle.sixel_model.specs.declared.colour.Parts.{Parts}
-use Rattle.sixel_words.specs.Words.{HasColour, HasSide, IsSideText, IsTask, files_of, is_given, is_named, is_of_words}
+use Rattle.sixel_words.specs.Words.{HasColour, HasSide, IsSideText, IsTask, files_of, is_given, is_named, is_of_words, lines_of}
 
 pub both_parts : {X Y : Type 0} (o : Option (X × Y)) (x : X) (y : Y) → option_map (λ p. p.0) o ≡ Some x
     → option_map (λ p. p.1) o ≡ Some y → o ≡ Some (x, y)
@@ -201,10 +201,11 @@ same_parts o n m r s e f = (sym (ap name_in e) ∙ ap name_in f, sym (ap rows_in
 -- the request of a subcommand: its task, and its other options
 pub request_is : {E : Type 0} (o : Option (Text × List Row)) (n : Text) (rows : List Row) (t : Task)
     (r : Result Request E) → o ≡ Some (n, rows) → IsTask n rows t
-    → IfOk r (λ asked. asked.task ≡ t) → IfOk r (λ asked. is_given (codes "quiet") rows ≡ asked.is_quiet)
+    → IfOk r (λ asked. asked.task ≡ t) → IfOk r (λ asked. lines_of rows ≡ asked.lines)
+    → IfOk r (λ asked. is_given (codes "explain") rows ≡ asked.explains)
     → IfOk r (λ asked. files_of rows ≡ map string_bytes asked.files.items)
     → IfOk r (λ asked. (name : Text) × (given : List Row) × (o ≡ Some (name, given)) × IsTask name given asked.task
-    × (is_given (codes "quiet") given ≡ asked.is_quiet) × (files_of given ≡ map string_bytes asked.files.items))
-request_is o n rows t (Err fault) e is task quiet files = tt
-request_is o n rows t (Ok asked) e is task quiet files =
-    (n, rows, e, subst (λ (k : Task). IsTask n rows k) (sym task) is, quiet, files)
+    × (lines_of given ≡ asked.lines) × (is_given (codes "explain") given ≡ asked.explains) × (files_of given ≡ map string_bytes asked.files.items))
+request_is o n rows t (Err fault) e is task lines explains files = tt
+request_is o n rows t (Ok asked) e is task lines explains files =
+    (n, rows, e, subst (λ (k : Task). IsTask n rows k) (sym task) is, lines, explains, files)

@@ -1,5 +1,5 @@
 -- Explanations that are put one after another.
-use Rattle.std.proofs.Common.{◌≡◌, ◌∙◌, ◌∷◌, ◌++◌, ℕ, [], List, Option, Some, ap, append-nil, append_assoc, codes}
+use Rattle.std.proofs.Common.{◌≡◌, ◌∙◌, ◌∷◌, ◌++◌, ℕ, [], List, Option, Some, ap, append-nil, append_assoc}
 use Rattle.std.proofs.Common.{◌+◌, ◌<◌, drop, get_or, length, refl, subst, sym, take, take-append-drop}
 use Rattle.std.proofs.Math.Seq.{take-length}
 use Rattle.std.proofs.lemmas.List.{take_more}
@@ -8,12 +8,12 @@ use Rattle.std.specs.Io.KnownBytes.{Appends}
 use Rattle.sixel_io.specs.Devices.{Puts}
 use Rattle.sixel_io.proofs.SinkLemmas.{puts-longer, puts-then}
 use Rattle.sixel_explain.specs.declared.explanations.Topic.{Topic}
-use Rattle.sixel_explain.specs.Explanations.{AreExplanations, AreFurther, IsExplanation, topic_name}
+use Rattle.sixel_explain.specs.Explanations.{AreExplanations, AreFurther, IsExplanation, first_line}
 use Rattle.sixel_run.specs.Texts.{Text}
 
 -- some text begins as the explanation of a topic does
 pub any_explanation : (t : Topic) → (text : Text) × IsExplanation (Some t) text
-any_explanation t = (topic_name t ++ codes ": ", take-length (topic_name t ++ codes ": "))
+any_explanation t = (first_line t, take-length (first_line t))
 
 -- there are explanations of any topics
 any_further : (ts : List Topic) → (text : Text) × AreFurther ts text

@@ -24,6 +24,8 @@ use Rattle.clap.specs.declared.error.kind.ErrorKind.{ErrorKind}
 use Rattle.clap.specs.declared.error.kind.ErrorKind.TheVariants as kind
 use Rattle.clap.specs.declared.parser.matches.ValueSource.{ValueSource}
 use Rattle.clap.specs.declared.parser.matches.ValueSource.TheVariants.{CommandLine}
+use Rattle.sixel_program.specs.declared.lines.Lines.{Lines}
+use Rattle.sixel_program.specs.declared.lines.Lines.TheVariants.{Json, Nothing, Plain}
 use Rattle.sixel_run.specs.declared.task.Task.{Task}
 use Rattle.sixel_run.specs.declared.task.Task.TheVariants as task
 use Rattle.sixel_words.specs.declared.words.WordsFault.{WordsFault}
@@ -75,15 +77,31 @@ profiled_app name = with_rule (with_rule (new_app name) (flag (codes "wide"))) f
 
 -- `check`
 abbrev pub check_app : App
-check_app = with_rule (with_rule (with_rule (new_app (codes "check")) (flag (codes "wide"))) quiet) files
+check_app =
+    with_rule (with_rule (with_rule (with_rule (with_rule (with_rule (new_app (codes "check"))
+    (flag (codes "wide")))
+    quiet)
+    (flag (codes "failed")))
+    (flag (codes "json")))
+    (flag (codes "explain")))
+    files
 
 -- `survey`
 abbrev pub survey_app : App
-survey_app = with_rule (with_rule (new_app (codes "survey")) (flag (codes "wide"))) files
+survey_app =
+    with_rule (with_rule (with_rule (with_rule (new_app (codes "survey"))
+    (flag (codes "wide")))
+    (flag (codes "json")))
+    (flag (codes "explain")))
+    files
 
 -- `scan`
 abbrev pub scan_app : App
-scan_app = with_rule (with_rule (with_rule (new_app (codes "scan")) (flag (codes "wide"))) (flag (codes "eight-bit")))
+scan_app =
+    with_rule (with_rule (with_rule (with_rule (new_app (codes "scan"))
+    (flag (codes "wide")))
+    (flag (codes "eight-bit")))
+    (flag (codes "json")))
     files
 
 -- `show`
@@ -129,7 +147,7 @@ sixel_app =
     (plain_app (codes "list")).top) check_app.top) survey_app.top) scan_app.top) (profiled_app (codes "render")).top)
     (profiled_app (codes "encode")).top) show_app.top) mend_app.top) explain_app.top
 
--- the flags of `check`
+-- the flags of `check` for its profile and for no lines
 abbrev pub check_flags : List Text
 check_flags = codes "-q" ∷ codes "--quiet" ∷ codes "--wide" ∷ []
 
@@ -243,17 +261,24 @@ abbrev pub IsTaskOf : List Text → Task → Type 0
 IsTaskOf words t = (name : Text) × (rows : List Row)
     × (subcommand_of sixel_app words ≡ Some (name, rows)) × IsTask name rows t
 
--- ---- files and `--quiet`
+-- ---- files and lines
+
+-- the lines that are asked for: none with `--quiet`; objects with `--json`; only those of failures with `--failed`
+abbrev pub lines_of : List Row → Lines
+lines_of rows = if is_given (codes "quiet") rows then Nothing
+    else if is_given (codes "json") rows then Json (is_given (codes "failed") rows)
+    else Plain (is_given (codes "failed") rows)
 
 -- the names of the files, in the order of the arguments
 abbrev pub files_of : List Row → List Text
 files_of rows = unwrap_or (all_of (codes "FILE") rows) []
 
--- what the arguments ask for, the first being the program's name: the task, whether it is quiet, and the files
-abbrev pub IsRequestOf : List Text → Task → Bool → List Text → Type 0
-IsRequestOf words t is_quiet names = (name : Text) × (rows : List Row)
+-- what the arguments ask for, the first being the program's name: the task, its lines, whether it ends with hints, and
+-- the files
+abbrev pub IsRequestOf : List Text → Task → Lines → Bool → List Text → Type 0
+IsRequestOf words t lines explains names = (name : Text) × (rows : List Row)
     × (subcommand_of sixel_app words ≡ Some (name, rows)) × IsTask name rows t
-    × (is_given (codes "quiet") rows ≡ is_quiet) × (files_of rows ≡ names)
+    × (lines_of rows ≡ lines) × (is_given (codes "explain") rows ≡ explains) × (files_of rows ≡ names)
 
 -- ---- explanations
 

@@ -95,7 +95,7 @@ pub fn task_in(
     ensures task { IfOk result (λ asked. IfOk arguments (λ words. IsTaskOf (map string_bytes words.items) asked.task)) }
     ensures request { IfOk result (λ asked. IfOk arguments (λ words.
         IsRequestOf (map string_bytes words.items)
-        asked.task asked.is_quiet (map string_bytes asked.files.items))) }
+        asked.task asked.lines asked.explains (map string_bytes asked.files.items))) }
     ensures sides { IfOk result (λ asked. HasSides asked.task) }
     ensures taken { IfOk result (λ asked. IfOk arguments (λ words. kinds_of (map string_bytes words.items) ≡ [])) }
     ensures memory { IfErr arguments (λ _. IsErrOf result WordsFault.OutOfMemory) }

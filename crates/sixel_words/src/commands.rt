@@ -147,6 +147,13 @@ pub fn check_command<'a>(alloc: Global) -> Result<Command<'a>, AllocError>
     )?
     .arg(wide_arg(alloc))?
     .arg(quiet_arg(alloc))?
+    .arg(flag_arg(
+        alloc,
+        "failed",
+        "Print only the lines of files that aren't portable",
+    ))?
+    .arg(json_arg(alloc))?
+    .arg(explain_arg(alloc))?
     .arg(files_arg(alloc))
 }
 
@@ -162,6 +169,8 @@ pub fn survey_command<'a>(alloc: Global) -> Result<Command<'a>, AllocError>
         help::SURVEY,
     )?
     .arg(wide_arg(alloc))?
+    .arg(json_arg(alloc))?
+    .arg(explain_arg(alloc))?
     .arg(files_arg(alloc))
 }
 
@@ -182,6 +191,7 @@ pub fn scan_command<'a>(alloc: Global) -> Result<Command<'a>, AllocError>
         "eight-bit",
         "Let the bytes 90 and 9C start and end a picture, too",
     ))?
+    .arg(json_arg(alloc))?
     .arg(files_arg(alloc))
 }
 
@@ -292,6 +302,30 @@ fn wide_arg<'a>(alloc: Global) -> Arg<'a>
     ensures local { result.global ≡ false }
 {
     flag_arg(alloc, "wide", "Use 256 colour registers instead of 16")
+}
+
+/// `--json`.
+fn json_arg<'a>(alloc: Global) -> Arg<'a>
+    ensures rule { rule_of result ≡ flag (codes "json") }
+    ensures local { result.global ≡ false }
+{
+    flag_arg(
+        alloc,
+        "json",
+        "Print objects of JSON, one a line, also for refusals",
+    )
+}
+
+/// `--explain`.
+fn explain_arg<'a>(alloc: Global) -> Arg<'a>
+    ensures rule { rule_of result ≡ flag (codes "explain") }
+    ensures local { result.global ≡ false }
+{
+    flag_arg(
+        alloc,
+        "explain",
+        "End with a hint on each rule or refusal, also into a pipe",
+    )
 }
 
 /// `-q` or `--quiet`.

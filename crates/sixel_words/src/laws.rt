@@ -13,6 +13,7 @@ ghost use Rattle.sixel_run.specs.declared.task.Task.TheVariants.{Check, List as 
 ghost use Rattle.sixel_run.specs.declared.task.Task.TheVariants.{Survey};
 ghost use Rattle.sixel_explain.specs.Explanations.{topic_name};
 ghost use Rattle.sixel_run.specs.Texts.{Text};
+ghost use Rattle.sixel_program.specs.declared.lines.Lines.TheVariants.{Json, Nothing, Plain};
 ghost use Rattle.sixel_words.specs.Words.{AsksFor, IsRequestOf, IsTaskOf, check_flags, is_among, kinds_of};
 ghost use Rattle.sixel_words.specs.Words.{sixel_app, subcommands};
 
@@ -30,7 +31,7 @@ pub fn the_word_survey_gives_a_survey()
         takes sixel_app (program ∷ codes "survey" ∷ codes "--wide" ∷ codes "a" ∷ codes "b" ∷ []) ≡ true }
     ensures files { (program : Text) →
         IsRequestOf (program ∷ codes "survey" ∷ codes "--wide" ∷ codes "a" ∷ codes "b" ∷ [])
-        (Survey Registers256) false (codes "a" ∷ codes "b" ∷ []) }
+        (Survey Registers256) (Plain false) false (codes "a" ∷ codes "b" ∷ []) }
 {}
 
 /// `sixel scan` is accepted, and scans with 16 registers and without 8-bit controls. So it is with `--wide` and
@@ -42,7 +43,7 @@ pub fn the_word_scan_gives_a_scan()
         ∷ codes "--eight-bit" ∷ codes "a" ∷ codes "b" ∷ []) ≡ true }
     ensures files { (program : Text) →
         IsRequestOf (program ∷ codes "scan" ∷ codes "--wide" ∷ codes "--eight-bit" ∷ codes "a" ∷ codes "b" ∷ [])
-        (Scan Registers256 true) false (codes "a" ∷ codes "b" ∷ []) }
+        (Scan Registers256 true) (Plain false) false (codes "a" ∷ codes "b" ∷ []) }
 {}
 
 /// `sixel mend` is accepted, and mends without any flag, with 16 registers and a black background. So is `--background`,
@@ -119,11 +120,36 @@ pub fn an_option_may_come_again()
     ensures request { (program : Text) (flags : List Text) → All (Contains check_flags) flags →
         IsRequestOf (program ∷ codes "check" ∷ flags)
         (Check (if is_among flags (codes "--wide") then Registers256 else Registers16))
-        (is_among flags (codes "-q") || is_among flags (codes "--quiet")) [] }
+        (if is_among flags (codes "-q") || is_among flags (codes "--quiet") then Nothing else Plain false) false [] }
     ensures number_taken { (program : Text) → takes sixel_app (program ∷ codes "show" ∷ codes "--width" ∷ codes "3"
         ∷ codes "--width" ∷ codes "2" ∷ []) ≡ true }
     ensures number { (program : Text) → IsTaskOf (program ∷ codes "show" ∷ codes "--width" ∷ codes "3"
         ∷ codes "--width" ∷ codes "2" ∷ []) (Show Registers16 false false false 2 480) }
+{}
+
+/// `--failed` asks a check for the lines of failures, and `--json` a check, a survey or a scan for JSON. `-q` asks for no
+/// lines, whatever else is asked for. `--explain` asks a check or a survey for hints.
+pub fn options_ask_for_lines()
+    ensures failed { (program : Text) → IsRequestOf (program ∷ codes "check" ∷ codes "--failed" ∷ codes "a" ∷ [])
+        (Check Registers16) (Plain true) false (codes "a" ∷ []) }
+    ensures check { (program : Text) → IsRequestOf (program ∷ codes "check" ∷ codes "--json" ∷ codes "a" ∷ [])
+        (Check Registers16) (Json false) false (codes "a" ∷ []) }
+    ensures survey { (program : Text) → IsRequestOf (program ∷ codes "survey" ∷ codes "--json" ∷ [])
+        (Survey Registers16) (Json false) false [] }
+    ensures scan { (program : Text) → IsRequestOf (program ∷ codes "scan" ∷ codes "--json" ∷ [])
+        (Scan Registers16 false) (Json false) false [] }
+    ensures both { (program : Text) →
+        IsRequestOf (program ∷ codes "check" ∷ codes "--json" ∷ codes "--failed" ∷ [])
+        (Check Registers16) (Json true) false [] }
+    ensures quiet { (program : Text) →
+        IsRequestOf (program ∷ codes "check" ∷ codes "--json" ∷ codes "-q" ∷ codes "--failed" ∷ [])
+        (Check Registers16) Nothing false [] }
+    ensures explained { (program : Text) → IsRequestOf (program ∷ codes "check" ∷ codes "--explain" ∷ [])
+        (Check Registers16) (Plain false) true [] }
+    ensures survey_explained { (program : Text) → IsRequestOf (program ∷ codes "survey" ∷ codes "--explain" ∷ [])
+        (Survey Registers16) (Plain false) true [] }
+    ensures taken { (program : Text) → takes sixel_app (program ∷ codes "check" ∷ codes "--json" ∷ codes "-q"
+        ∷ codes "--failed" ∷ codes "--explain" ∷ []) ≡ true }
 {}
 
 /// `sixel explain` is accepted, and asks for the list of names.

@@ -13,7 +13,7 @@ ghost use Rattle.sixel_model.specs.declared.colour.Parts.{Parts};
 ghost use Rattle.sixel_words.specs.Words.{HasColour, HoldsError, IsExplanationOf, HasSide, IsAskedIn, IsFaultFor};
 ghost use Rattle.sixel_words.specs.Words.{IsRefusal, IsRequestOf, IsNoHelp, IsSortedOut, IsTask, IsTaskOf};
 ghost use Rattle.sixel_words.specs.Words.{IsUnexplained};
-ghost use Rattle.sixel_words.specs.Words.{files_of, is_given, is_named, kinds_of, profile_of};
+ghost use Rattle.sixel_words.specs.Words.{files_of, is_given, is_named, kinds_of, lines_of, profile_of};
 ghost use Rattle.sixel_explain.specs.Explanations.{Asks};
 
 use crate::colours::colour_of;
@@ -24,7 +24,7 @@ use clap::parser::ValueSource;
 use clap::{ArgMatches, Error};
 use sixel_explain::{Topic, topics_asked};
 use sixel_model::{Colour, Profile};
-use sixel_program::Request;
+use sixel_program::{Lines, Request};
 use sixel_run::{MOST_SCREEN_SIDE, Task};
 use std::alloc::{AllocError, Global};
 
@@ -52,11 +52,12 @@ pub fn parse_words(alloc: Global, words: &[String]) -> Result<Task, WordsFault>
     Ok(request.task)
 }
 
-/// What these arguments ask for: the task of `parse_words`, whether a check is quiet, and the files to read.
+/// What these arguments ask for: the task of `parse_words`, which lines it writes, whether it ends with hints, and the
+/// files to read.
 pub fn parse_request(alloc: Global, words: &[String]) -> Result<Request, WordsFault>
     ensures task { IfOk result (λ asked. IsTaskOf (map string_bytes words.now) asked.task) }
     ensures request { IfOk result (λ asked.
-        IsRequestOf (map string_bytes words.now) asked.task asked.is_quiet (map string_bytes asked.files.items)) }
+        IsRequestOf (map string_bytes words.now) asked.task asked.lines asked.explains (map string_bytes asked.files.items)) }
     ensures sides { IfOk result (λ asked. HasSides asked.task) }
     ensures taken { IfOk result (λ asked. kinds_of (map string_bytes words.now) ≡ []) }
     ensures fault { IfErr result (IsFaultFor (map string_bytes words.now)) }
@@ -182,8 +183,9 @@ fn sorted_out(alloc: Global, words: &[String], error: Error) -> WordsFault
 /// The task, with the other options of its subcommand.
 fn request_of(alloc: Global, task: Task, matches: &ArgMatches<'_>) -> Result<Request, WordsFault>
     ensures task { IfOk result (λ asked. asked.task ≡ task) }
-    ensures quiet { IfOk result (λ asked.
-        is_given (codes "quiet") (rows_of (found_of matches.now)) ≡ asked.is_quiet) }
+    ensures lines { IfOk result (λ asked. lines_of (rows_of (found_of matches.now)) ≡ asked.lines) }
+    ensures explains { IfOk result (λ asked.
+        is_given (codes "explain") (rows_of (found_of matches.now)) ≡ asked.explains) }
     ensures files { IfOk result (λ asked.
         files_of (rows_of (found_of matches.now)) ≡ map string_bytes asked.files.items) }
     ensures memory { IfErr result (λ fault. fault ≡ WordsFault.OutOfMemory) }
@@ -191,10 +193,25 @@ fn request_of(alloc: Global, task: Task, matches: &ArgMatches<'_>) -> Result<Req
     match files_of(alloc, matches) {
         Ok(files) => Ok(Request {
             task,
-            is_quiet: flag_of(matches, "quiet"),
+            lines: lines_of(matches),
+            explains: flag_of(matches, "explain"),
             files,
         }),
         Err(_) => Err(WordsFault::OutOfMemory),
+    }
+}
+
+/// The lines that the options ask for.
+fn lines_of(matches: &ArgMatches<'_>) -> Lines
+    ensures { lines_of (rows_of (found_of matches.now)) ≡ result }
+{
+    let only_failed = flag_of(matches, "failed");
+    if flag_of(matches, "quiet") {
+        Lines::Nothing
+    } else if flag_of(matches, "json") {
+        Lines::Json { only_failed }
+    } else {
+        Lines::Plain { only_failed }
     }
 }
 

@@ -20,7 +20,11 @@ Writes one line for each to standard output: `portable` and the size, or
 `broken`, the rule, the byte offset and, for two rules, a pixel. With files,
 each line starts with `FILE: `. If a file is refused, the reason goes to
 standard error, and the files after it are still checked. sixel explain NAME
-says what a rule or a refusal means, and how to fix it.
+says what a rule or a refusal means, and how to fix it. With --failed the last
+line on standard error says how many of several files aren't portable.
+
+Terminals have limits of their own: xterm draws nothing of a box with a side
+above 1,000 pixels, and docs/FIELD.md has the rest.
 
 Exit status: 0 portable, 1 broken, 2 refused, 3 usage error; with several files
 the greatest.

@@ -13,7 +13,7 @@ returns-clause-task c = λ program. (codes "survey", _, refl, (refl, refl))
 
 pub returns-clause-files : goal.returns-clause-files
 unfolding walked
-returns-clause-files c = λ program. (codes "survey", _, refl, (refl, refl), refl, refl)
+returns-clause-files c = λ program. (codes "survey", _, refl, (refl, refl), refl, refl, refl)
 
 pub returns-clause-files_taken : goal.returns-clause-files_taken
 unfolding walked walk_passes

@@ -67,7 +67,8 @@ returns-in-Some-task_of c =
     let request = request_is (subcommand_of sixel_app words) c.in-Some.name.now
     (rows_of (found_of c.in-Some.found.now)) c.in-Some-task_of.task result
     (met (goal.at.returns-in-Some-task_of c).In-Some) c.in-Some-task_of.ensures.task
-    c.request_of.ensures.task c.request_of.ensures.quiet c.request_of.ensures.files in
+    c.request_of.ensures.task c.request_of.ensures.lines c.request_of.ensures.explains
+    c.request_of.ensures.files in
     let taken = taken_by (goal.at.returns-in-Some-task_of c).In-Ok-try_get_matches_from in
     record {
       task = IfOk-weaker result _ _ (λ asked is. (is.0, is.1, is.2, is.3)) request;
