@@ -5,7 +5,7 @@ ghost use Rattle.sixel_run.specs.Outputs.{HasSides};
 
 use crate::digest::{Digest, Digested};
 use sixel_io::{FromRead, ToWrite};
-use sixel_program::{Exit, Folder, Peeked, Request, Terminals, Unopened, code_of, execute};
+use sixel_program::{Exit, Folder, Lines, Peeked, Request, Terminals, Unopened, code_of, execute};
 use sixel_run::Task;
 use std::alloc::{AllocError, Global};
 use std::io;
@@ -81,7 +81,8 @@ impl Session {
     {
         let request = Request {
             task: *task,
-            is_quiet: false,
+            lines: Lines::Plain { only_failed: false },
+            explains: false,
             files: names,
         };
         let mut said = Digest::new();

@@ -5,7 +5,7 @@ ghost use Rattle.sixel_run.specs.Outputs.{HasSides};
 use crate::memory_folder::MemoryFolder;
 use sixel_io::{FromRead, ToWrite};
 use sixel_model::{Colour, Profile};
-use sixel_program::{Exit, Peeked, Request, Terminals, execute};
+use sixel_program::{Exit, Lines, Peeked, Request, Terminals, execute};
 use sixel_run::Task;
 use std::alloc::Global;
 use std::io::{Read, Write};
@@ -87,7 +87,8 @@ pub fn exit_over<R: Read + Drop, W: Write + Drop, E: Write + Drop>(
 {
     let request = Request {
         task,
-        is_quiet: false,
+        lines: Lines::Plain { only_failed: false },
+        explains: false,
         files: Vec::new(alloc),
     };
     execute(

@@ -5,6 +5,7 @@ ghost use Rattle.sixel_run.specs.Outputs.{HasSides};
 
 mod faults;
 mod hints;
+mod lines;
 mod mended;
 mod named;
 mod notices;
@@ -20,7 +21,7 @@ use crate::ends::{CHECK, NO_TERMINALS};
 use crate::memory_folder::MemoryFolder;
 use sixel_io::{FromRead, ToWrite};
 use sixel_model::Profile;
-use sixel_program::{Exit, Peeked, Request, Terminals, Unopened, execute};
+use sixel_program::{Exit, Lines, Peeked, Request, Terminals, Unopened, execute};
 use sixel_run::Task;
 use sixel_test_devices::Narrow;
 use std::alloc::{AllocError, Global};
@@ -76,11 +77,15 @@ const FOLDER: MemoryFolder<'static> = MemoryFolder {
     ],
 };
 
+/// A line for each answer.
+const ALL: Lines = Lines::Plain { only_failed: false };
+
 /// A request, and the bytes of standard input.
 #[derive(Clone, Copy)]
 struct Asked<'a> {
     task: Task,
-    is_quiet: bool,
+    lines: Lines,
+    explains: bool,
     names: &'a [&'a str],
     input: &'a [u8],
 }
@@ -173,7 +178,8 @@ fn request_of(alloc: Global, asked: &Asked<'_>) -> Result<Request, AllocError>
     }
     Ok(Request {
         task: asked.task,
-        is_quiet: asked.is_quiet,
+        lines: asked.lines,
+        explains: asked.explains,
         files,
     })
 }
@@ -224,7 +230,8 @@ fn asked_of<'a>(task: Task, names: &'a [&'a str], input: &'a [u8]) -> Asked<'a>
 {
     Asked {
         task,
-        is_quiet: false,
+        lines: ALL,
+        explains: false,
         names,
         input,
     }
@@ -249,8 +256,9 @@ fn ends_unread(
 fn check_of<'a>(is_quiet: bool, names: &'a [&'a str], input: &'a [u8]) -> Asked<'a>
     ensures { HasSides result.task }
 {
+    let lines = if is_quiet { Lines::Nothing } else { ALL };
     Asked {
-        is_quiet,
+        lines,
         ..asked_of(CHECK, names, input)
     }
 }
@@ -303,7 +311,7 @@ fn files_of_each_kind(rt: HostRuntime) -> Result<(), Fail> {
     let names = ["pixel", "ratio", "text", "none", "cut", "empty", "a b"];
     let written = b"pixel: portable 1 1\nratio: broken Ratio 3\na b: portable 1 1\n";
     let said = b"sixel: text: NotSixel at 0\nsixel: none: no such file\nsixel: cut: read failed\n\
-        sixel: empty: Truncated at 0\n";
+        sixel: empty: Truncated at 0\nsixel: the input is empty\n";
     assert!(rt; checks(rt.alloc(), &names, Exit::Refused, written, said)?);
     Ok(())
 }
@@ -391,7 +399,7 @@ fn standard_input_alone(rt: HostRuntime) -> Result<(), Fail> {
     assert!(rt; reads(alloc, &[], RATIO, Exit::Broken, b"broken Ratio 3\n", b"")?);
     let other = b"sixel: NotSixel at 0\n";
     assert!(rt; reads(alloc, &[], b"x", Exit::Refused, b"", other)?);
-    let empty = b"sixel: Truncated at 0\n";
+    let empty = b"sixel: Truncated at 0\nsixel: the input is empty\n";
     assert!(rt; reads(alloc, &[], b"", Exit::Refused, b"", empty)?);
     Ok(())
 }

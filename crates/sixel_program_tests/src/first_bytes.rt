@@ -85,7 +85,8 @@ fn no_read_too_many(rt: HostRuntime) {
         b"".as_slice(),
     );
     assert!(rt; ends_slowly(rt.alloc(), Task::List, bytes, None, list, 6));
-    assert!(rt; refuses(rt.alloc(), CHECK, b"", b"sixel: Truncated at 0\n", 1));
+    let empty = b"sixel: Truncated at 0\nsixel: the input is empty\n";
+    assert!(rt; refuses(rt.alloc(), CHECK, b"", empty, 1));
     assert!(rt; refuses(rt.alloc(), ENCODE, b"P", b"sixel: Short at 1\n", 2));
 }
 

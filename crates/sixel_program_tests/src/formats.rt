@@ -1,6 +1,7 @@
 //! What is said about files of other formats, worked out by hand.
 
-use crate::ends::{CHECK, ENCODE, RENDER, SHOW, SHOW_BOX, ends};
+use crate::ends::{CHECK, ENCODE, RENDER, SCAN, SHOW, SHOW_BOX, SURVEY, ends, mend_on};
+use sixel_model::Colour;
 use sixel_program::Exit;
 use sixel_run::Task;
 use std::test::Fail;
@@ -66,7 +67,6 @@ fn sixel_text(rt: HostRuntime) {
 /// fault.
 #[test]
 fn bytes_of_no_format(rt: HostRuntime) {
-    assert!(rt; refuses(&rt, b"", b"sixel: Short at 0\n"));
     assert!(rt; refuses(&rt, b"\x89PN", b"sixel: Header at 0\n"));
     assert!(rt; refuses(&rt, b"\xff\xd8", b"sixel: Header at 0\n"));
     assert!(rt; refuses(&rt, b"GIF", b"sixel: Header at 0\n"));
@@ -133,4 +133,33 @@ fn other_inputs(rt: HostRuntime) {
     let red = b"P6 1 1 100\n\x64\0\0";
     let text = b"\x1bP0;1q\"1;1;1;1#0;2;100;0;0#0@\x1b\\";
     assert!(rt; ends(rt.alloc(), ENCODE, red, Exit::Done, text, b""));
+}
+
+/// An input without bytes has a second line, which says so.
+#[test]
+fn inputs_without_bytes(rt: HostRuntime) {
+    let line = b"sixel: Truncated at 0\nsixel: the input is empty\n";
+    assert!(rt; are_no_text(&rt, b"", line));
+    assert!(rt; ends(rt.alloc(), SURVEY, b"", Exit::Refused, b"", line));
+    assert!(rt;
+        ends(
+            rt.alloc(),
+            mend_on(Colour::of_percentages(0, 0, 0)),
+            b"",
+            Exit::Refused,
+            b"",
+            line
+        )
+    );
+    assert!(rt; refuses(&rt, b"", b"sixel: Short at 0\nsixel: the input is empty\n"));
+    assert!(rt;
+        ends(
+            rt.alloc(),
+            SCAN,
+            b"",
+            Exit::Refused,
+            b"",
+            b"sixel: NoString\n"
+        )
+    );
 }

@@ -115,6 +115,9 @@ Arguments:
 Options:
       --wide     Use 256 colour registers instead of 16
   -q, --quiet    Print no verdict; use the exit status
+      --failed   Print only the lines of files that aren't portable
+      --json     Print objects of JSON, one a line, also for refusals
+      --explain  End with a hint on each rule or refusal, also into a pipe
   -h, --help     Print help
   -V, --version  Print version
 
@@ -123,7 +126,11 @@ Writes one line for each to standard output: `portable` and the size, or
 `broken`, the rule, the byte offset and, for two rules, a pixel. With files,
 each line starts with `FILE: `. If a file is refused, the reason goes to
 standard error, and the files after it are still checked. sixel explain NAME
-says what a rule or a refusal means, and how to fix it.
+says what a rule or a refusal means, and how to fix it. With --failed the last
+line on standard error says how many of several files aren't portable.
+
+Terminals have limits of their own: xterm draws nothing of a box with a side
+above 1,000 pixels, and docs/FIELD.md has the rest.
 
 Exit status: 0 portable, 1 broken, 2 refused, 3 usage error; with several files
 the greatest.
@@ -148,6 +155,7 @@ Arguments:
 Options:
       --wide       Use 256 colour registers instead of 16
       --eight-bit  Let the bytes 90 and 9C start and end a picture, too
+      --json       Print objects of JSON, one a line, also for refusals
   -h, --help       Print help
   -V, --version    Print version
 
@@ -185,6 +193,8 @@ Arguments:
 
 Options:
       --wide     Use 256 colour registers instead of 16
+      --json     Print objects of JSON, one a line, also for refusals
+      --explain  End with a hint on each rule or refusal, also into a pipe
   -h, --help     Print help
   -V, --version  Print version
 

@@ -1,6 +1,6 @@
 //! Backgrounds of `mend`.
 
-use crate::words::{asks, refuses};
+use crate::words::{ALL, asks, refuses};
 use std::alloc::AllocError;
 use std::test::Fail;
 
@@ -89,11 +89,11 @@ fn names_the_background(rt: HostRuntime) -> Result<(), Fail> {
     ];
     for (line, profile, background, showing, selects) in rows {
         let task = mending(&rt, profile, background, showing, selects)?;
-        assert!(rt; asks(&rt, line, task.as_str(), false, "[]")?, "{line}");
+        assert!(rt; asks(&rt, line, task.as_str(), ALL, "[]")?, "{line}");
     }
     let task = mending(&rt, "Registers16", "0, 0, 0", false, false)?;
     assert!(rt;
-        asks(&rt, "sixel mend a", task.as_str(), false, "[\"a\"]")?,
+        asks(&rt, "sixel mend a", task.as_str(), ALL, "[\"a\"]")?,
         "a file"
     );
     Ok(())

@@ -1,6 +1,6 @@
 //! How the program ends if its arguments name no task.
 
-use sixel_explain::{Topic, explanation};
+use sixel_explain::{Topic, explanation, summary};
 use sixel_io::ToWrite;
 use sixel_ppm::PpmReason;
 use sixel_program::Exit;
@@ -134,6 +134,23 @@ fn explanations_are_written_in_turn(rt: HostRuntime) -> Result<(), Fail> {
             explains_so(rt.alloc(), asked, room, exit, text.as_str(), line),
             "{room}"
         );
+    }
+    Ok(())
+}
+
+/// The summary of a name is what the manual page says of it.
+#[test]
+fn a_name_has_a_summary(rt: HostRuntime) -> Result<(), Fail> {
+    let trailing = "data after the terminator, or after the last sample of a PPM";
+    for (topic, text) in [
+        (
+            Topic::NoBox,
+            "a text that declares no box of a possible screen size",
+        ),
+        (Topic::Ppm(PpmReason::Trailing), trailing),
+        (Topic::Write, "output that couldn't be written"),
+    ] {
+        assert_eq!(rt; summary(topic), text);
     }
     Ok(())
 }

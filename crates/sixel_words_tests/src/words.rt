@@ -56,17 +56,23 @@ pub fn says(rt: &HostRuntime, line: &str, text: &str) -> Result<bool, Fail> {
     Ok(said(rt.alloc(), line)?.as_str() == text && said_in(rt.alloc(), line)?.as_str() == text)
 }
 
-/// Whether the words ask for this task, with a verdict or without, over these files. There is memory for it, so they
-/// get it.
+/// A line for each answer.
+pub const ALL: &str = "Plain { only_failed: false }";
+
+const FAILED: &str = "Plain { only_failed: true }";
+
+const JSON: &str = "Json { only_failed: false }";
+
+/// Whether the words ask for this task, with these lines, over these files. There is memory for it, so they get it.
 pub fn asks(
     rt: &HostRuntime,
     line: &str,
     task: &str,
-    is_quiet: bool,
+    lines: &str,
     files: &str,
 ) -> Result<bool, Fail> {
     let request = format!(in rt.alloc();
-        "Request {{ task: {task}, is_quiet: {is_quiet}, files: {files} }}"
+        "Request {{ task: {task}, lines: {lines}, explains: false, files: {files} }}"
     )?;
     Ok(says(rt, line, request.as_str())? && task_said(rt.alloc(), line)?.as_str() == task)
 }
@@ -160,7 +166,7 @@ fn names_the_task(rt: HostRuntime) -> Result<(), Fail> {
         ),
     ];
     for (line, task) in rows {
-        assert!(rt; asks(&rt, line, task, false, "[]")?, "{line}");
+        assert!(rt; asks(&rt, line, task, ALL, "[]")?, "{line}");
     }
     Ok(())
 }
@@ -169,32 +175,41 @@ fn names_the_task(rt: HostRuntime) -> Result<(), Fail> {
 #[test]
 fn names_the_files_to_check(rt: HostRuntime) -> Result<(), Fail> {
     let rows = [
-        ("sixel check a b", false, "[\"a\", \"b\"]"),
-        ("sixel check b a b", false, "[\"b\", \"a\", \"b\"]"),
-        ("sixel check -", false, "[\"-\"]"),
-        ("sixel check - a -", false, "[\"-\", \"a\", \"-\"]"),
-        ("sixel check -- -x", false, "[\"-x\"]"),
+        ("sixel check a b", ALL, "[\"a\", \"b\"]"),
+        ("sixel check b a b", ALL, "[\"b\", \"a\", \"b\"]"),
+        ("sixel check -", ALL, "[\"-\"]"),
+        ("sixel check - a -", ALL, "[\"-\", \"a\", \"-\"]"),
+        ("sixel check -- -x", ALL, "[\"-x\"]"),
         (
             "sixel check a -- -q --wide",
-            false,
+            ALL,
             "[\"a\", \"-q\", \"--wide\"]",
         ),
-        ("sixel check -q", true, "[]"),
-        ("sixel check --quiet", true, "[]"),
-        ("sixel check -q -q", true, "[]"),
-        ("sixel check -qq", true, "[]"),
-        ("sixel check -q a --quiet", true, "[\"a\"]"),
-        ("sixel check -q a", true, "[\"a\"]"),
-        ("sixel check --quiet a b", true, "[\"a\", \"b\"]"),
-        ("sixel check a -q -", true, "[\"a\", \"-\"]"),
+        ("sixel check -q", "Nothing", "[]"),
+        ("sixel check --quiet", "Nothing", "[]"),
+        ("sixel check -q -q", "Nothing", "[]"),
+        ("sixel check -qq", "Nothing", "[]"),
+        ("sixel check -q a --quiet", "Nothing", "[\"a\"]"),
+        ("sixel check -q a", "Nothing", "[\"a\"]"),
+        ("sixel check --quiet a b", "Nothing", "[\"a\", \"b\"]"),
+        ("sixel check a -q -", "Nothing", "[\"a\", \"-\"]"),
+        ("sixel check --failed a", FAILED, "[\"a\"]"),
+        ("sixel check a --json", JSON, "[\"a\"]"),
+        (
+            "sixel check --failed --json",
+            "Json { only_failed: true }",
+            "[]",
+        ),
+        ("sixel check --failed --json -q", "Nothing", "[]"),
+        ("sixel check -q --failed a", "Nothing", "[\"a\"]"),
     ];
-    for (line, is_quiet, files) in rows {
+    for (line, lines, files) in rows {
         let task = "Check { profile: Registers16 }";
-        assert!(rt; asks(&rt, line, task, is_quiet, files)?, "{line}");
+        assert!(rt; asks(&rt, line, task, lines, files)?, "{line}");
     }
     for line in ["sixel check --wide -q a", "sixel check -q a --wide"] {
         let task = "Check { profile: Registers256 }";
-        assert!(rt; asks(&rt, line, task, true, "[\"a\"]")?, "{line}");
+        assert!(rt; asks(&rt, line, task, "Nothing", "[\"a\"]")?, "{line}");
     }
     Ok(())
 }
@@ -208,7 +223,7 @@ fn names_the_files_to_survey(rt: HostRuntime) -> Result<(), Fail> {
     ];
     for (line, profile, files) in rows {
         let task = format!(in rt.alloc(); "Survey {{ profile: {profile} }}")?;
-        assert!(rt; asks(&rt, line, task.as_str(), false, files)?, "{line}");
+        assert!(rt; asks(&rt, line, task.as_str(), ALL, files)?, "{line}");
     }
     Ok(())
 }
@@ -224,7 +239,7 @@ fn names_the_files_to_scan(rt: HostRuntime) -> Result<(), Fail> {
         let task = format!(in rt.alloc();
             "Scan {{ profile: Registers16, eight_bit: {eight_bit} }}"
         )?;
-        assert!(rt; asks(&rt, line, task.as_str(), false, files)?, "{line}");
+        assert!(rt; asks(&rt, line, task.as_str(), ALL, files)?, "{line}");
     }
     Ok(())
 }
@@ -273,7 +288,7 @@ fn names_the_file_of_a_task(rt: HostRuntime) -> Result<(), Fail> {
         ),
     ];
     for (line, task, files) in rows {
-        assert!(rt; asks(&rt, line, task, false, files)?, "{line}");
+        assert!(rt; asks(&rt, line, task, ALL, files)?, "{line}");
     }
     Ok(())
 }
@@ -438,6 +453,26 @@ fn refuses_a_box_beside_a_side(rt: HostRuntime) -> Result<(), Fail> {
     ];
     for (line, text) in rows {
         assert!(rt; refuses(&rt, line, text)?, "{line}");
+    }
+    Ok(())
+}
+
+#[test]
+fn asks_for_hints(rt: HostRuntime) -> Result<(), Fail> {
+    let rows = [
+        (
+            "sixel check --explain a",
+            "Request { task: Check { profile: Registers16 }, lines: Plain { only_failed: false }, explains: true, \
+             files: [\"a\"] }",
+        ),
+        (
+            "sixel survey --explain --json",
+            "Request { task: Survey { profile: Registers16 }, lines: Json { only_failed: false }, explains: true, \
+             files: [] }",
+        ),
+    ];
+    for (line, request) in rows {
+        assert!(rt; says(&rt, line, request)?, "{line}");
     }
     Ok(())
 }

@@ -6,9 +6,9 @@ use super::{
     Asked, Ended, PIXEL, RATIO, SEEN, STREAMS, Streams, WIDE, after_input, asked_of, check_of,
     ends_over, unread,
 };
-use crate::ends::RENDER;
+use crate::ends::{RENDER, SURVEY};
 use sixel_model::Profile;
-use sixel_program::Exit;
+use sixel_program::{Exit, Lines};
 use sixel_run::Task;
 use std::alloc::{AllocError, Global};
 use std::test::Fail;
@@ -90,19 +90,19 @@ fn a_refusal(rt: HostRuntime) -> Result<(), Fail> {
     Ok(())
 }
 
-/// The hint comes once, after the lines of all files, and is on the first that isn't portable.
+/// The hint comes once, after the lines of all files, and is on the first that isn't portable. How many aren't follows.
 #[test]
 fn several_files(rt: HostRuntime) -> Result<(), Fail> {
     let names = ["text", "pixel", "ratio", "wide", "none"];
     let written = b"pixel: portable 1 1\nratio: broken Ratio 3\nwide: broken Register 11\n";
     let said = b"sixel: text: NotSixel at 0\nsixel: none: no such file\n\
-        sixel: 'sixel explain NotSixel' tells how to fix it\n";
+        sixel: 'sixel explain NotSixel' tells how to fix it\nsixel: 4 of 5 files aren't portable\n";
     let ended = unread(Exit::Refused, written, said);
     assert!(rt; ends_over(rt.alloc(), &check_of(false, &names, PIXEL), SEEN, ended)?);
     let names = ["none", "ratio", "text"];
     let written = b"ratio: broken Ratio 3\n";
     let said = b"sixel: none: no such file\nsixel: text: NotSixel at 0\n\
-        sixel: 'sixel explain Ratio' tells how to fix it\n";
+        sixel: 'sixel explain Ratio' tells how to fix it\nsixel: 3 of 3 files aren't portable\n";
     let ended = unread(Exit::Refused, written, said);
     assert!(rt; ends_over(rt.alloc(), &check_of(false, &names, PIXEL), SEEN, ended)?);
     Ok(())
@@ -116,5 +116,60 @@ fn an_output_that_fails(rt: HostRuntime) -> Result<(), Fail> {
     let full = Streams { room: 22, ..SEEN };
     let asked = check_of(false, &["ratio", "pixel"], PIXEL);
     assert!(rt; ends_over(rt.alloc(), &asked, full, ended)?);
+    Ok(())
+}
+
+/// If hints are asked for, each different rule or refusal has one, in the order in which they were found first; also
+/// where standard error is no terminal, but not after a quiet check or a scan.
+#[test]
+fn a_hint_on_each(rt: HostRuntime) -> Result<(), Fail> {
+    let alloc = rt.alloc();
+    let names = [
+        "text", "ratio", "pixel", "wide", "ratio", "none", "empty", "text",
+    ];
+    let written =
+        b"ratio: broken Ratio 3\npixel: portable 1 1\nwide: broken Register 11\nratio: broken Ratio 3\n";
+    let said =
+        b"sixel: text: NotSixel at 0\nsixel: none: no such file\nsixel: empty: Truncated at 0\n\
+        sixel: the input is empty\nsixel: text: NotSixel at 0\n\
+        sixel: 'sixel explain NotSixel' tells how to fix it\n\
+        sixel: 'sixel explain Ratio' tells how to fix it\n\
+        sixel: 'sixel explain Register' tells how to fix it; '--wide' checks for 256 registers\n\
+        sixel: 'sixel explain Truncated' tells how to fix it\n";
+    let explained = Asked {
+        explains: true,
+        ..check_of(false, &names, PIXEL)
+    };
+    let ended = unread(Exit::Refused, written, said);
+    assert!(rt; ends_over(alloc, &explained, STREAMS, ended)?);
+    let survey = Asked {
+        task: SURVEY,
+        ..explained
+    };
+    let names = ["ratio", "wide"];
+    let surveyed = Asked {
+        names: &names,
+        ..survey
+    };
+    let written = b"ratio: Ratio 1 3\nratio: Uncovered 1 11 0 0\nwide: Register 2 11\n";
+    let said = b"sixel: 'sixel explain Ratio' tells how to fix it\n\
+        sixel: 'sixel explain Register' tells how to fix it; '--wide' checks for 256 registers\n";
+    assert!(rt;
+        ends_over(
+            alloc,
+            &surveyed,
+            STREAMS,
+            unread(Exit::Broken, written, said)
+        )?
+    );
+    let quiet = Asked {
+        lines: Lines::Nothing,
+        ..explained
+    };
+    let quiet = Asked {
+        names: &names,
+        ..quiet
+    };
+    assert!(rt; ends_over(alloc, &quiet, SEEN, unread(Exit::Broken, b"", b""))?);
     Ok(())
 }

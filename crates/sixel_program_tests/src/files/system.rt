@@ -34,10 +34,10 @@ fn files_of_the_system(rt: HostRuntime) -> Result<(), Fail> {
         &mut ToWrite::new(&mut said),
     );
     let lines =
-        b"sixel: /dev/null: Truncated at 0\nsixel: /: is a folder\nsixel: /dev/null/: read failed\n\
-        sixel: /no such file: no such file\nsixel: : no such file\nsixel:  /dev/null: no such file\n\
+        b"sixel: /dev/null: Truncated at 0\nsixel: the input is empty\nsixel: /: is a folder\n\
+        sixel: /dev/null/: not a directory: read failed\nsixel: /no such file: no such file\nsixel: : no such file\nsixel:  /dev/null: no such file\n\
         sixel: /dev/null : no such file\nsixel: /dev/\xef\xbf\xbd: name is not valid UTF-8\n\
-        sixel: /dev/null: Truncated at 0\n";
+        sixel: /dev/null: Truncated at 0\nsixel: the input is empty\n";
     assert_eq!(rt; exit, Exit::Refused);
     assert_eq!(rt; written.as_slice(), b"".as_slice());
     assert_eq!(rt; said.as_slice(), lines.as_slice());

@@ -13,7 +13,7 @@ ghost use Rattle.sixel_run.specs.declared.task.Task.TheVariants.{Check};
 use super::{PIXEL, RATIO};
 use crate::ends::{CHECK, NO_TERMINALS};
 use sixel_io::{SliceSink, SliceSource};
-use sixel_program::{Exit, Folder, Peeked, Request, Unopened, execute};
+use sixel_program::{Exit, Folder, Lines, Peeked, Request, Unopened, execute};
 use std::alloc::{AllocError, Global};
 use std::test::Fail;
 
@@ -49,7 +49,8 @@ fn checked(alloc: Global, file: ToldFile<'_>) -> Result<Exit, AllocError>
     files.push(String::from_str(alloc, file.name)?)?;
     let request = Request {
         task: CHECK,
-        is_quiet: true,
+        lines: Lines::Nothing,
+        explains: false,
         files,
     };
     let mut said = [0; 64];
