@@ -10,5 +10,6 @@ pub mod StretchLemmas
 pub mod GrowthLemmas
 pub mod ReportLemmas
 pub mod TextLemmas
+pub mod MarkLemmas
 pub mod GivenLemmas
 pub mod TellLemmas

@@ -9,12 +9,16 @@ use Rattle.std.proofs.lemmas.List.{append-nil, length-append, take-append-drop, 
 use Rattle.sixel_model.specs.Profiles.{count_of}
 use Rattle.sixel_scan.specs.declared.answer.Scanned.{Scanned}
 use Rattle.sixel_scan.specs.declared.scan.Scan.{Scan}
+use Rattle.sixel_scan.specs.declared.scanner.Scanner.{Scanner}
+use Rattle.sixel_scan.specs.Marking.{Marks}
 use Rattle.sixel_scan.specs.Prefixes.{AreBeforeGrowth, AreGiven}
 use Rattle.sixel_scan.specs.Scans.{AfterTaking, AreFirst, GoesOn, GrowsWithin, HasTold, IsOver, IsReading, IsReady}
 use Rattle.sixel_scan.specs.Scans.{IsThrough, Tells, TellsAll, TellsNext, longest_stream, steps_left}
 use Rattle.sixel_scan.specs.Standing.{AreReported, Reports, ReportsAll}
 use Rattle.sixel_scan.specs.Strings.{AreStrings, StringAt}
+use Rattle.sixel_scan.specs.Wrapping.{AreMarked}
 use Rattle.sixel_scan.proofs.GivenLemmas.{ended_of, given}
+use Rattle.sixel_scan.proofs.MarkLemmas.{marked_more}
 use Rattle.sixel_scan.proofs.StringLemmas.{one_list}
 
 -- ---- a scan that goes on
@@ -49,8 +53,9 @@ split_later first rest n =
 -- the scanner read some of the unread bytes
 pub tells_some : {s : Scan} (t : Scan) {told : List StringAt} {bytes : List ℕ} (count : ℕ) {reports : List Scanned}
     → t.unread ≡ drop count s.unread → (r : IsReading s told bytes)
-    → Reports t.scanner told (r.read ++ take count s.unread) reports → Tells t told bytes reports
-tells_some {s} t count rest r k = record {
+    → Reports t.scanner told (r.read ++ take count s.unread) reports
+    → Marks t.scanner (r.read ++ take count s.unread) reports → Tells t told bytes reports
+tells_some {s} t count rest r k m = record {
   found = k.found;
   reported = k.reported;
   reading = record {
@@ -59,8 +64,15 @@ tells_some {s} t count rest r k = record {
         ∙ ap (λ (x : List ℕ). (r.read ++ take count s.unread) ++ x) (sym rest);
     within = r.within;
     stands = k.stands;
+    knows = m.knows;
   };
 }
+
+pub marks_some : {s : Scan} {t : Scanner} {told : List StringAt} {bytes : List ℕ} (count : ℕ) {reports : List Scanned}
+    → (r : IsReading s told bytes) → Marks t (r.read ++ take count s.unread) reports → AreMarked bytes reports
+marks_some {s} count {reports} r m =
+    subst (λ (l : List ℕ). AreMarked l reports) (sym (r.bytes_are ∙ split_later r.read s.unread count))
+    (marked_more (r.read ++ take count s.unread) (drop count s.unread) reports m.marked)
 
 pub grows_some : {s : Scan} {told : List StringAt} {bytes : List ℕ} → (r : IsReading s told bytes)
     → (n : ℕ) × AreBeforeGrowth s.scanner.eight (count_of s.scanner.profile) told (r.read ++ take n s.unread)
@@ -91,6 +103,10 @@ pub grows_all : {s : Scan} {told : List StringAt} {bytes : List ℕ} → (r : Is
     → AreBeforeGrowth s.scanner.eight (count_of s.scanner.profile) told r.read
     → GrowsWithin s.scanner.eight (count_of s.scanner.profile) told bytes
 grows_all {s} r grows = (r.read, s.unread, r.bytes_are, grows, r.within)
+
+pub marks_all : {s : Scan} {told : List StringAt} {bytes : List ℕ} (reports : List Scanned) → s.unread ≡ []
+    → (r : IsReading s told bytes) → AreMarked r.read reports → AreMarked bytes reports
+marks_all reports none r are = subst (λ (t : List ℕ). AreMarked t reports) (sym (all_read none r)) are
 
 nothing_found : (registers : ℕ) (found : List StringAt) → AreReported registers found [] → found ≡ []
 nothing_found registers [] h = refl
@@ -190,6 +206,19 @@ next_told {u} {mid} {reports} off goes profile eight_same ended tells = λ eight
         has_told = has;
       },
     )
+
+-- and it says whether it is wrapped
+pub next_marked : {s t : Scan} {old mid : Option (List ℕ)} (reports : List Scanned) → s.ended ≡ false
+    → Goes s old t mid
+    → ((told : List StringAt) (bytes : List ℕ) → IsReading t told bytes → AreMarked bytes reports)
+    → AfterTaking s old mid (λ eight registers told bytes. AreMarked bytes reports)
+next_marked reports off goes marked = λ eight registers told bytes h.
+    let r = goes.on eight registers told bytes (still_goes off h) in
+    (r.0, r.1, marked told (bytes ++ r.0) r.2.reading)
+
+pub none_marked : (s : Scan) (remaining : Option (List ℕ))
+    → AfterTaking s remaining remaining (λ eight registers told bytes. AreMarked bytes [])
+none_marked s remaining = λ eight registers told bytes h. ([], Consumes-nil remaining, tt)
 
 -- an allocation failed
 pub next_grows : {s t : Scan} {old mid : Option (List ℕ)} → s.ended ≡ false → Goes s old t mid

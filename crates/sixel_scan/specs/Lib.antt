@@ -1,9 +1,11 @@
 pub mod Strings
 pub mod Answers
+pub mod Wrapping
 pub mod Prefixes
 pub mod Scanning
 pub mod Openings
 pub mod Checking
 pub mod Standing
+pub mod Marking
 pub mod Scans
 pub mod Laws

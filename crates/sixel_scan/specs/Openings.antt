@@ -1,6 +1,6 @@
 -- Which bytes of a text may become an opening. It is part of where a scan stands (Standing).
-use Rattle.std.specs.Prelude.{◌≡◌, ℕ, ◌<◌, ◌==◌, Bool, true, false, IsTrue, List, [], ◌∷◌, ◌++◌, length, Option, None}
-use Rattle.std.specs.Prelude.{Some, if◌then◌else◌}
+use Rattle.std.specs.Prelude.{◌≡◌, ◌≢◌, ℕ, ◌<◌, ◌==◌, Bool, true, false, IsTrue, List, [], ◌∷◌, ◌++◌, length, Option}
+use Rattle.std.specs.Prelude.{None, Some, if◌then◌else◌}
 use Rattle.sixel_grammar.specs.Bytes.{escape, introducer}
 use Rattle.sixel_scan.specs.declared.opening.Opening.{Opening}
 use Rattle.sixel_scan.specs.declared.opening.Opening.TheVariants.{Nothing, Escape, Letter, Control, Introduced}
@@ -54,6 +54,18 @@ pub record Advances (eight : Bool) (next : Opening) (held : List ℕ) (byte : �
   pub is_held : IsHeld eight next kept
   -- if they are longer than one byte, they are those held before and this byte
   pub grows : is_grown next ≡ true → (passed ≡ []) × (0 < length held)
+
+-- the bytes held end with ESC or ESC P
+abbrev pub wraps : Opening → Bool
+wraps Escape = true
+wraps Letter = true
+wraps _ = false
+
+-- with this byte, what may become an opening ends in ESC or in ESC P exactly if it says so
+abbrev pub Follows : Opening → ℕ → Option Opening → Type 0
+Follows opening b (Some Escape) = b ≡ escape
+Follows opening b (Some Letter) = (opening ≡ Escape) × (b ≡ 80)
+Follows opening b _ = (b ≢ escape) × (opening ≡ Escape → b ≢ 80)
 
 -- what may become an opening after an introducer, digits and `;`, and this byte; none if it is one
 abbrev pub after_parameters : ℕ → Option Opening

@@ -8,6 +8,7 @@ use Rattle.sixel_scan.specs.declared.answer.Scanned.{Scanned}
 use Rattle.sixel_scan.specs.declared.fault.ScanFault.{ScanFault}
 use Rattle.sixel_scan.specs.declared.fault.ScanFault.TheVariants.{OutOfMemory, Read}
 use Rattle.sixel_scan.specs.declared.scan.Scan.{Scan}
+use Rattle.sixel_scan.specs.Marking.{Knows}
 use Rattle.sixel_scan.specs.Prefixes.{AreBeforeGrowth, AreEnded}
 use Rattle.sixel_scan.specs.Standing.{AreReported, Stands}
 use Rattle.sixel_scan.specs.Strings.{AreStrings, StringAt}
@@ -26,6 +27,7 @@ pub record IsReading (s : Scan) (told : List StringAt) (bytes : List ℕ) : Type
   pub bytes_are : bytes ≡ read ++ s.unread
   pub within : length bytes ≤ longest_stream
   pub stands : Stands s.scanner told read
+  pub knows : Knows s.scanner read
 
 -- the scan goes on, and so do `eight` and the registers
 pub record GoesOn (eight : Bool) (registers : ℕ) (s : Scan) (told : List StringAt) (bytes : List ℕ) : Type 0 where

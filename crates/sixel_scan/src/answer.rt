@@ -20,4 +20,10 @@ pub struct Scanned {
     /// The offset of its first byte, from the start of the stream.
     pub place: u64,
     pub answer: Answer,
+    /// Whether it stands in the pass-through of tmux or GNU Screen: right after an ESC, or after ESC P.
+    ///
+    /// That of tmux is ESC P `tmux;`, the string with each ESC doubled, ESC \ (tmux(1), `allow-passthrough`). That of
+    /// GNU Screen is ESC P, a piece of the string, ESC \ (screen(1): "ESC P .. ESC \ Device Control String. Outputs a
+    /// string directly to the host terminal").
+    pub wrapped: bool,
 }

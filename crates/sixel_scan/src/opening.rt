@@ -2,7 +2,8 @@
 
 ghost use Rattle.std.specs.Prelude.{◌≡◌, ◌≢◌, ◌≤◌, ◌+◌, ℕ, List, MatchOption, [], ◌∷◌, ◌++◌, get_or, length, take};
 ghost use Rattle.std.specs.Prelude.{true};
-ghost use Rattle.sixel_scan.specs.Openings.{Advances, IsHeld, after_parameters, is_introduced, is_longer};
+ghost use Rattle.sixel_scan.specs.Openings.{Advances, Follows, IsHeld, after_parameters, is_introduced, is_longer};
+ghost use Rattle.sixel_scan.specs.Openings.{wraps};
 ghost use Rattle.sixel_scan.specs.Scanning.{BeginNone, BeginsNone, NoneBegins};
 ghost use Rattle.sixel_scan.specs.Strings.{IsOpening};
 
@@ -35,6 +36,7 @@ impl Opening {
         ensures next { (held : List ℕ) → IsHeld eight self held → MatchOption result
             (IsOpening eight (held ++ byte ∷ [])) (λ next. Advances eight next held byte) }
         ensures longer { is_longer result ≡ true → is_introduced self ≡ true }
+        ensures follows { Follows self byte result }
     {
         if byte == ESCAPE {
             return Some(Opening::Escape);
@@ -47,6 +49,16 @@ impl Opening {
             Opening::Escape if byte == b'P' => Some(Opening::Letter),
             Opening::Escape => Some(Opening::Nothing),
             Opening::Letter | Opening::Control | Opening::Introduced => after_introducer(byte),
+        }
+    }
+
+    /// Whether a string that begins here stands in the pass-through of tmux or GNU Screen.
+    pub(crate) fn wraps(self) -> bool
+        ensures { result ≡ wraps self }
+    {
+        match self {
+            Opening::Escape | Opening::Letter => true,
+            Opening::Nothing | Opening::Control | Opening::Introduced => false,
         }
     }
 }

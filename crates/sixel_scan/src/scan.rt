@@ -9,6 +9,7 @@ ghost use Rattle.sixel_model.specs.Profiles.{count_of};
 ghost use Rattle.sixel_scan.specs.declared.fault.ScanFault.TheVariants.{OutOfMemory, Read};
 ghost use Rattle.sixel_scan.specs.Prefixes.{AreGiven};
 ghost use Rattle.sixel_scan.specs.Strings.{AreStrings, StringAt};
+ghost use Rattle.sixel_scan.specs.Wrapping.{AreMarked};
 
 use crate::answer::Scanned;
 use crate::fault::ScanFault;
@@ -51,6 +52,8 @@ impl Scan {
         requires reads { (told : List StringAt) × (bytes : List ℕ) × IsReading self.old told bytes }
         ensures tells { IfOk result (λ scanned. (told : List StringAt) (bytes : List ℕ)
             → IsReading self.old told bytes → Tells self.new told bytes (option_to_list scanned)) }
+        ensures marked { IfOk result (λ scanned. (told : List StringAt) (bytes : List ℕ)
+            → IsReading self.old told bytes → AreMarked bytes (option_to_list scanned)) }
         ensures memory { OnErr result ((told : List StringAt) (bytes : List ℕ) → IsReading self.old told bytes
             → GrowsWithin self.old.scanner.eight (count_of self.old.scanner.profile) told bytes) }
         ensures less { OnOk result (length self.new.unread < length self.old.unread) }
@@ -68,6 +71,8 @@ impl Scan {
         requires reads { (told : List StringAt) × (bytes : List ℕ) × IsReading self.old told bytes }
         ensures tells { IfOk result (λ scanned. (told : List StringAt) (bytes : List ℕ)
             → IsReading self.old told bytes → Tells self.new told bytes (option_to_list scanned)) }
+        ensures marked { IfOk result (λ scanned. (told : List StringAt) (bytes : List ℕ)
+            → IsReading self.old told bytes → AreMarked bytes (option_to_list scanned)) }
         ensures memory { OnErr result ((told : List StringAt) (bytes : List ℕ) → IsReading self.old told bytes
             → GrowsWithin self.old.scanner.eight (count_of self.old.scanner.profile) told bytes) }
         ensures all { result ≡ Ok None → self.new.unread ≡ [] }
@@ -111,6 +116,8 @@ impl Scan {
         requires reads { (told : List StringAt) × (bytes : List ℕ) × IsReading self.old told bytes }
         ensures all { IfOk result (λ scanned. (told : List StringAt) (bytes : List ℕ) → IsReading self.old told bytes
             → TellsAll self.old told bytes (option_to_list scanned)) }
+        ensures marked { IfOk result (λ scanned. (told : List StringAt) (bytes : List ℕ)
+            → IsReading self.old told bytes → AreMarked bytes (option_to_list scanned)) }
         ensures memory { OnErr result ((told : List StringAt) (bytes : List ℕ) → IsReading self.old told bytes
             → GrowsWithin self.old.scanner.eight (count_of self.old.scanner.profile) told bytes) }
         ensures ended { self.new.ended ≡ true }
@@ -132,6 +139,9 @@ impl Scan {
             AfterTaking self.old (S.state input.old).remaining (S.state input.new).remaining
             (λ eight registers told bytes.
             TellsNext eight registers self.new (S.state input.new).remaining told bytes (option_to_list scanned))) }
+        ensures marked { IfOk result (λ scanned.
+            AfterTaking self.old (S.state input.old).remaining (S.state input.new).remaining
+            (λ eight registers told bytes. AreMarked bytes (option_to_list scanned))) }
         ensures all { result ≡ Ok None →
             AfterTaking self.old (S.state input.old).remaining (S.state input.new).remaining
             (λ eight registers told bytes. AreStrings eight told bytes × IsOver (S.state input.new).remaining bytes) }

@@ -6,9 +6,10 @@ ghost use Rattle.std.specs.Option.{option_to_list};
 ghost use Rattle.sixel_judge.specs.Growth.{MayGrowIn};
 ghost use Rattle.sixel_model.specs.Profiles.{count_of};
 ghost use Rattle.sixel_scan.specs.declared.opening.Opening.{Opening as Held};
-ghost use Rattle.sixel_scan.specs.Openings.{is_introduced, is_longer};
+ghost use Rattle.sixel_scan.specs.Openings.{Follows, is_introduced, is_longer};
 ghost use Rattle.sixel_scan.specs.Strings.{StringAt};
 ghost use Rattle.sixel_scan.specs.Answers.{IsReported};
+ghost use Rattle.sixel_scan.specs.Wrapping.{AreMarked};
 
 use crate::answer::Scanned;
 use crate::ending::{ends_after, string_bytes_in};
@@ -42,6 +43,8 @@ pub(crate) struct Scanner {
     read: u64,
     /// The offset of the first byte that is held: of what may become an opening, or of the open string.
     opened: u64,
+    /// Whether a string that begins there stands in the pass-through of tmux or GNU Screen.
+    wrapped: bool,
     stage: Stage,
     /// The check of the bytes held, from an introducer on.
     check: StringCheck,
@@ -49,12 +52,14 @@ pub(crate) struct Scanner {
 
 impl Scanner {
     ghost use Rattle.sixel_scan.specs.Checking.{HasRead};
+    ghost use Rattle.sixel_scan.specs.Marking.{Knows, KnowsAt, Marks};
     ghost use Rattle.sixel_scan.specs.Prefixes.{AreBeforeGrowth};
     ghost use Rattle.sixel_scan.specs.Standing.{AdvancesFrom, Holds, ReadsNext, Reports, ReportsAll, Stands};
 
     /// A scan that has read nothing. It allocates nothing.
     pub(crate) fn new(alloc: Global, profile: Profile, eight: bool) -> Scanner
         ensures stands { Stands result [] [] }
+        ensures knows { Knows result [] }
         ensures profile { result.profile ≡ profile }
         ensures eight { result.eight ≡ eight }
     {
@@ -64,6 +69,7 @@ impl Scanner {
             eight,
             read: 0,
             opened: 0,
+            wrapped: false,
             stage: Stage::Text(Opening::Nothing),
             check: StringCheck::new(alloc, profile),
         }
@@ -121,19 +127,23 @@ impl Scanner {
         }
     }
 
-    /// Goes on between strings with these bytes held, without digits or `;`.
-    fn hold(&mut self, next: Opening)
+    /// Goes on between strings, where one byte more than `before` has been read, and with it `next` is held, without
+    /// digits or `;`.
+    fn hold(&mut self, before: Opening, next: Opening)
         requires room { self.old.read < 2 ^ 64 - 1 }
         requires short { is_longer (Some next) ≡ false }
         ensures stands { (opening : Held) (byte : ℕ) (told : List StringAt) (bytes : List ℕ)
             → AdvancesFrom self.old.eight opening next byte → ReadsNext self.old (Stage.Text opening) byte told bytes
             → Stands self.new told bytes }
+        ensures knows { (byte : ℕ) (bytes : List ℕ) → Follows before byte (Some next)
+            → KnowsAt self.old (Stage.Text before) bytes → Knows self.new (bytes ++ byte ∷ []) }
         ensures profile { self.new.profile ≡ self.old.profile }
         ensures eight { self.new.eight ≡ self.old.eight }
     {
         match next {
             Opening::Escape | Opening::Control => {
                 self.opened = self.read;
+                self.wrapped = before.wraps();
                 self.stage = Stage::Text(next);
                 self.read += 1;
             }
@@ -151,6 +161,8 @@ impl Scanner {
         requires room { self.old.read < 2 ^ 64 - 1 }
         ensures read { OnOk result ((told : List StringAt) (bytes : List ℕ)
             → ReadsNext self.old (Stage.Text opening) byte told bytes → Stands self.new told bytes) }
+        ensures knows { OnOk result ((bytes : List ℕ) → KnowsAt self.old (Stage.Text opening) bytes
+            → Knows self.new (bytes ++ byte ∷ [])) }
         ensures memory { OnErr result ((told : List StringAt) (bytes : List ℕ)
             → ReadsNext self.old (Stage.Text opening) byte told bytes
             → AreBeforeGrowth self.old.eight (count_of self.old.profile) told bytes) }
@@ -171,7 +183,7 @@ impl Scanner {
                 Ok(())
             }
             Some(next) => {
-                self.hold(next);
+                self.hold(opening, next);
                 Ok(())
             }
         }
@@ -183,6 +195,8 @@ impl Scanner {
             × (self.old.opened + length bytes < 2 ^ 64) }
         ensures reported { (bytes : List ℕ) → HasRead (count_of self.old.profile) self.old.check bytes
             → IsReported (count_of self.old.profile) (record { place = self.old.opened; bytes = bytes }) result }
+        ensures place { result.place ≡ self.old.opened }
+        ensures wrapped { result.wrapped ≡ self.old.wrapped }
         ensures rest { self.new ≡ record self.old {
           check = self.new.check;
           stage = Stage.Text Opening.Nothing;
@@ -194,6 +208,7 @@ impl Scanner {
         Scanned {
             place: self.opened,
             answer: told(self.opened, checked),
+            wrapped: self.wrapped,
         }
     }
 
@@ -202,11 +217,13 @@ impl Scanner {
         requires { self.old.read < 2 ^ 64 - 1 }
         ensures stands { (told : List StringAt) (bytes : List ℕ)
             → ReadsNext self.old (Stage.Text Opening.Escape) byte told bytes → Stands self.new told bytes }
+        ensures knows { (bytes : List ℕ) → KnowsAt self.old (Stage.Text Opening.Escape) bytes
+            → Knows self.new (bytes ++ byte ∷ []) }
         ensures profile { self.new.profile ≡ self.old.profile }
         ensures eight { self.new.eight ≡ self.old.eight }
     {
         match Opening::Escape.next(byte, self.eight) {
-            Some(next) => self.hold(next),
+            Some(next) => self.hold(Opening::Escape, next),
             None => {}
         }
     }
@@ -220,6 +237,8 @@ impl Scanner {
         ensures read { IfOk result (λ scanned. (told : List StringAt) (bytes : List ℕ)
             → ReadsNext self.old Stage.Inside byte told bytes
             → Reports self.new told bytes (option_to_list scanned)) }
+        ensures marks { IfOk result (λ scanned. (bytes : List ℕ) → KnowsAt self.old Stage.Inside bytes
+            → Marks self.new (bytes ++ byte ∷ []) (option_to_list scanned)) }
         ensures memory { OnErr result ((told : List StringAt) (bytes : List ℕ)
             → ReadsNext self.old Stage.Inside byte told bytes
             → AreBeforeGrowth self.old.eight (count_of self.old.profile) told bytes) }
@@ -247,6 +266,8 @@ impl Scanner {
         ensures read { IfOk result (λ scanned. (told : List StringAt) (bytes : List ℕ)
             → ReadsNext self.old Stage.Escaped byte told bytes
             → Reports self.new told bytes (option_to_list scanned)) }
+        ensures marks { IfOk result (λ scanned. (bytes : List ℕ) → KnowsAt self.old Stage.Escaped bytes
+            → Marks self.new (bytes ++ byte ∷ []) (option_to_list scanned)) }
         ensures memory { OnErr result ((told : List StringAt) (bytes : List ℕ)
             → ReadsNext self.old Stage.Escaped byte told bytes
             → AreBeforeGrowth self.old.eight (count_of self.old.profile) told bytes) }
@@ -261,6 +282,7 @@ impl Scanner {
         }
         let scanned = self.report();
         self.opened = self.read - 1;
+        self.wrapped = false;
         self.read_after_escape(byte);
         Ok(Some(scanned))
     }
@@ -271,6 +293,8 @@ impl Scanner {
         requires room { self.old.read < 2 ^ 64 - 1 }
         ensures read { IfOk result (λ scanned. (told : List StringAt) (bytes : List ℕ) → Stands self.old told bytes
             → Reports self.new told (bytes ++ byte ∷ []) (option_to_list scanned)) }
+        ensures marks { IfOk result (λ scanned. (bytes : List ℕ) → Knows self.old bytes
+            → Marks self.new (bytes ++ byte ∷ []) (option_to_list scanned)) }
         ensures memory { OnErr result ((told : List StringAt) (bytes : List ℕ) → Stands self.old told bytes
             → AreBeforeGrowth self.old.eight (count_of self.old.profile) told (bytes ++ byte ∷ [])) }
         ensures profile { self.new.profile ≡ self.old.profile }
@@ -299,6 +323,8 @@ impl Scanner {
         requires room { self.old.read < 2 ^ 64 }
         ensures all { IfOk result (λ scanned. (told : List StringAt) (bytes : List ℕ) → Stands self.old told bytes
             → ReportsAll self.old told bytes (option_to_list scanned)) }
+        ensures marked { IfOk result (λ scanned. (bytes : List ℕ) → Knows self.old bytes
+            → AreMarked bytes (option_to_list scanned)) }
         ensures memory { OnErr result ((told : List StringAt) (bytes : List ℕ) → Stands self.old told bytes
             → AreBeforeGrowth self.old.eight (count_of self.old.profile) told bytes) }
     {
@@ -318,6 +344,7 @@ impl Scanner {
         ensures within { result ≤ length piece.now }
         ensures stands { (told : List StringAt) (bytes : List ℕ) → Stands self.old told bytes
             → Stands self.new told (bytes ++ take result piece.now) }
+        ensures knows { (bytes : List ℕ) → Knows self.old bytes → Knows self.new (bytes ++ take result piece.now) }
         ensures read { self.new.read ≡ self.old.read + result }
         ensures profile { self.new.profile ≡ self.old.profile }
         ensures eight { self.new.eight ≡ self.old.eight }
@@ -344,6 +371,8 @@ impl Scanner {
         ensures within { IfOk result (λ count. count ≤ length piece.now) }
         ensures stands { IfOk result (λ count. (told : List StringAt) (bytes : List ℕ) → Stands self.old told bytes
             → Stands self.new told (bytes ++ take count piece.now)) }
+        ensures knows { IfOk result (λ count. (bytes : List ℕ) → Knows self.old bytes
+            → Knows self.new (bytes ++ take count piece.now)) }
         ensures read { IfOk result (λ count. self.new.read ≡ self.old.read + count) }
         ensures memory { OnErr result ((told : List StringAt) (bytes : List ℕ) → Stands self.old told bytes
             → (n : ℕ) × AreBeforeGrowth self.old.eight (count_of self.old.profile) told (bytes ++ take n piece.now)) }
@@ -363,6 +392,8 @@ impl Scanner {
         ensures within { IfOk result (λ count. count ≤ length piece.now) }
         ensures stands { IfOk result (λ count. (told : List StringAt) (bytes : List ℕ) → Stands self.old told bytes
             → Stands self.new told (bytes ++ take count piece.now)) }
+        ensures knows { IfOk result (λ count. (bytes : List ℕ) → Knows self.old bytes
+            → Knows self.new (bytes ++ take count piece.now)) }
         ensures read { IfOk result (λ count. self.new.read ≡ self.old.read + count) }
         ensures memory { OnErr result ((told : List StringAt) (bytes : List ℕ) → Stands self.old told bytes
             → (n : ℕ) × AreBeforeGrowth self.old.eight (count_of self.old.profile) told (bytes ++ take n piece.now)) }
@@ -384,6 +415,8 @@ impl Scanner {
         ensures within { IfOk result (λ step. step.count ≤ length piece.now) }
         ensures reports { IfOk result (λ step. (told : List StringAt) (bytes : List ℕ) → Stands self.old told bytes
             → Reports self.new told (bytes ++ take step.count piece.now) (option_to_list step.scanned)) }
+        ensures marks { IfOk result (λ step. (bytes : List ℕ) → Knows self.old bytes
+            → Marks self.new (bytes ++ take step.count piece.now) (option_to_list step.scanned)) }
         ensures memory { OnErr result ((told : List StringAt) (bytes : List ℕ) → Stands self.old told bytes
             → (n : ℕ) × AreBeforeGrowth self.old.eight (count_of self.old.profile) told (bytes ++ take n piece.now)) }
         ensures profile { self.new.profile ≡ self.old.profile }

@@ -1,8 +1,10 @@
-use Rattle.std.proofs.Common.{◌≡◌, ◌≢◌, ◌⊎◌, Option, Some, false, inl, inr, subst, sym}
+use Rattle.std.proofs.Common.{◌≡◌, ◌≢◌, ◌∙◌, ◌⊎◌, Option, Some, true, false, ap, inl, inr, subst, sym}
 use Rattle.sixel_scan.specs.declared.opening.Opening.{Opening}
 use Rattle.sixel_scan.specs.declared.opening.Opening.TheVariants.{Nothing, Escape, Letter}
 use Rattle.sixel_scan.proofs.AdvanceLemmas.{NextIs, begins_none_by, next_anew, next_introducer}
 use Rattle.sixel_scan.proofs.AdvanceLemmas.{introduced_by, next_letter, next_on, next_past}
+use Rattle.sixel_scan.proofs.MarkLemmas.{follows_final}
+use Rattle.sixel_scan.specs.Openings.{Follows, is_introduced}
 use Rattle.sixel_scan.proofs.opening.Opening.next.Goals as goal
 use Rattle.sixel_scan.proofs.opening.Opening.next.Goals.{else-eight-via-else-eight}
 use Rattle.sixel_scan.proofs.opening.Opening.next.Goals.{else-eight-via-then-eight+else-byte-eq-EIGHT_BIT_INTRODUCER}
@@ -51,4 +53,9 @@ returns-in-Letter c =
           (sym c.after_introducer.ensures)
           (next_on c.args.self introduced (begins_none_by c.args.eight c.args.byte c.if-byte-eq-ESCAPE.false control));
       longer = λ is. introduced;
+      follows = subst (Follows c.args.self c.args.byte) (sym c.after_introducer.ensures)
+          (follows_final c.args.byte (
+            c.if-byte-eq-ESCAPE.false,
+            λ is. absurd (let no : true ≡ false = sym introduced ∙ ap is_introduced is in cc),
+          ));
     }

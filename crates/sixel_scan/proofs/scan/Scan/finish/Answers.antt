@@ -2,10 +2,12 @@ use Rattle.std.proofs.Common.{List, Option, ℕ}
 use Rattle.std.specs.Option.{option_to_list}
 use Rattle.std.proofs.lemmas.Result.{IfOk-weaker, on_err_weaker}
 use Rattle.sixel_scan.specs.declared.answer.Scanned.{Scanned}
+use Rattle.sixel_scan.specs.Marking.{Knows}
 use Rattle.sixel_scan.specs.Scans.{IsReading, TellsAll}
 use Rattle.sixel_scan.specs.Standing.{ReportsAll, Stands}
 use Rattle.sixel_scan.specs.Strings.{StringAt}
-use Rattle.sixel_scan.proofs.TellLemmas.{grows_all, tells_all}
+use Rattle.sixel_scan.specs.Wrapping.{AreMarked}
+use Rattle.sixel_scan.proofs.TellLemmas.{grows_all, marks_all, tells_all}
 use Rattle.sixel_scan.proofs.scan.Scan.finish.Goals as goal
 
 pub finish-requires-clause-stands : goal.finish-requires-clause-stands
@@ -25,3 +27,12 @@ pub returns-clause-memory : goal.returns-clause-memory
 returns-clause-memory c =
     on_err_weaker c.finish.result
     (λ grows told bytes r. grows_all r (grows told r.read r.stands)) c.finish.ensures.memory
+
+pub returns-clause-marked : goal.returns-clause-marked
+returns-clause-marked c =
+    let s = c.args.self.now in
+    IfOk-weaker c.finish.result
+    (λ (x : Option Scanned). (bytes : List ℕ) → Knows s.scanner bytes → AreMarked bytes (option_to_list x))
+    (λ (x : Option Scanned). (told : List StringAt) (bytes : List ℕ) → IsReading s told bytes
+    → AreMarked bytes (option_to_list x))
+    (λ x marked told bytes r. marks_all (option_to_list x) c.requires.empty r (marked r.read r.knows)) c.finish.ensures.marked

@@ -1,6 +1,7 @@
 use Rattle.std.proofs.Common.{◌≡◌, ◌∙◌, [], None, Ok, ap, arith, length, sym}
 use Rattle.sixel_scan.specs.declared.scan.Scan.{Scan}
 use Rattle.sixel_scan.proofs.TellLemmas.{Goes, next_all, next_failed, next_grows, next_last, next_none, next_told}
+use Rattle.sixel_scan.proofs.TellLemmas.{next_marked, none_marked}
 use Rattle.sixel_scan.proofs.TellLemmas.{no_string, read_past, ready_failed, ready_told, reads_later, still_on}
 use Rattle.sixel_scan.proofs.TellLemmas.{still_reading, taken_past, takes_more, tells_fewer, tells_nothing, told_none}
 use Rattle.sixel_scan.proofs.scan.Scan.next_string.Given.{Over}
@@ -17,6 +18,9 @@ pub returns-then-self-clause-told : goal.returns-then-self-clause-told
 returns-then-self-clause-told g c =
     next_none c.args.self.now (g.S.Source.state c.args.input.now).remaining c.if-self.true
 
+pub returns-then-self-clause-marked : goal.returns-then-self-clause-marked
+returns-then-self-clause-marked g c = none_marked c.args.self.now (g.S.Source.state c.args.input.now).remaining
+
 -- ---- a string has ended
 
 pub returns-in_err-scanned-clause-memory : goal.returns-in_err-scanned-clause-memory
@@ -27,6 +31,10 @@ pub returns-then-is_some-clause-told : goal.returns-then-is_some-clause-told
 returns-then-is_some-clause-told g c =
     let e = c.in_ok-scanned.ensures in
     next_told c.if-self.false c.loop-scanned.invariant.goes e.profile e.eight e.ended e.tells
+
+pub returns-then-is_some-clause-marked : goal.returns-then-is_some-clause-marked
+returns-then-is_some-clause-marked g c =
+    next_marked _ c.if-self.false c.loop-scanned.invariant.goes c.in_ok-scanned.ensures.marked
 
 pub returns-then-is_some-clause-ready : goal.returns-then-is_some-clause-ready
 returns-then-is_some-clause-ready g c = λ ne.
@@ -96,6 +104,11 @@ pub returns-then-not-more-clause-told : goal.returns-then-not-more-clause-told
 returns-then-not-more-clause-told g c =
     next_last c.if-self.false (taken g (goal.at.returns-then-not-more-clause-told g c).In_ok-more)
     c.finish.ensures.ended (c.in_ok-more.ensures.over (ap Ok c.if-not-more.true)) c.in_ok-finish.ensures.all
+
+pub returns-then-not-more-clause-marked : goal.returns-then-not-more-clause-marked
+returns-then-not-more-clause-marked g c =
+    next_marked _ c.if-self.false (taken g (goal.at.returns-then-not-more-clause-marked g c).In_ok-more)
+    c.in_ok-finish.ensures.marked
 
 pub returns-then-not-more-clause-ready : goal.returns-then-not-more-clause-ready
 returns-then-not-more-clause-ready g c = λ ne.

@@ -1,6 +1,6 @@
 use Rattle.std.proofs.Common.{ap, length, arith}
 use Rattle.sixel_judge.proofs.GrowthLemmas.{err_says}
-use Rattle.sixel_scan.proofs.TellLemmas.{grows_some, reading_counts, tells_some}
+use Rattle.sixel_scan.proofs.TellLemmas.{grows_some, marks_some, reading_counts, tells_some}
 use Rattle.sixel_scan.proofs.scan.Scan.read_some.Goals as goal
 
 pub read_some-requires-clause-stands : goal.read_some-requires-clause-stands
@@ -19,3 +19,8 @@ returns-in_err-step-clause-memory c =
 pub returns-clause-tells : goal.returns-clause-tells
 returns-clause-tells c = λ told bytes r. tells_some _ c.in_ok-step.step.count c.pass.ensures r
     (rw c.as_slice.ensures at (c.in_ok-step.ensures.reports told r.read r.stands))
+    (rw c.as_slice.ensures at (c.in_ok-step.ensures.marks r.read r.knows))
+
+pub returns-clause-marked : goal.returns-clause-marked
+returns-clause-marked c = λ told bytes r. marks_some c.in_ok-step.step.count r
+    (rw c.as_slice.ensures at (c.in_ok-step.ensures.marks r.read r.knows))

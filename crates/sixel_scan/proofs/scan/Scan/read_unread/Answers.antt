@@ -3,6 +3,10 @@ use Rattle.sixel_judge.proofs.GrowthLemmas.{err_says}
 use Rattle.sixel_scan.proofs.TellLemmas.{grows_as, tells_none, tells_nothing, told_none}
 use Rattle.sixel_scan.proofs.scan.Scan.read_unread.Goals as goal
 
+pub read_some-requires-clause-reads : goal.read_some-requires-clause-reads
+read_some-requires-clause-reads c =
+    let t = c.requires.reads in (t.0, t.1, c.loop-self.invariant.reads t.0 t.1 t.2)
+
 pub returns-in_err-scanned-clause-memory : goal.returns-in_err-scanned-clause-memory
 returns-in_err-scanned-clause-memory c =
     let i = c.loop-self.invariant in
@@ -31,3 +35,7 @@ loop-self-preserved c =
 
 pub returns-clause-tells : goal.returns-clause-tells
 returns-clause-tells c = λ told bytes r. tells_none (c.loop-self.invariant.reads told bytes r)
+
+pub returns-then-is_some-clause-marked : goal.returns-then-is_some-clause-marked
+returns-then-is_some-clause-marked c = λ told bytes r.
+    c.in_ok-scanned.ensures.marked told bytes (c.loop-self.invariant.reads told bytes r)

@@ -5,6 +5,7 @@ use Rattle.sixel_scan.specs.declared.scanner.Stage.TheVariants.{Escaped, Inside}
 use Rattle.sixel_scan.specs.Prefixes.{Resumes}
 use Rattle.sixel_scan.proofs.EndLemmas.{end_at_last_escape, end_of_stream}
 use Rattle.sixel_scan.proofs.GrowthLemmas.{opens_before}
+use Rattle.sixel_scan.proofs.MarkLemmas.{marked_report}
 use Rattle.sixel_scan.proofs.ReportLemmas.{all_told, last_told, room_at_end, stands_at}
 use Rattle.sixel_scan.proofs.ScanLemmas.{string_ends, string_ends_here}
 use Rattle.sixel_scan.proofs.scanner.Scanner.finish.Goals as goal
@@ -64,3 +65,14 @@ returns-in_ok-feed-in-Escaped-clause-all c = λ told bytes h.
     (c.report-in-Escaped.ensures.reported (r.holds.0 ++ 27 ∷ [])
     (c.in_ok-feed-in-Escaped.ensures.read (count_of s.profile) r.holds.0 r.holds.4))
     (string_ends r.holds.2 (end_at_last_escape s.eight))
+
+pub returns-in-Inside-clause-marked : goal.returns-in-Inside-clause-marked
+returns-in-Inside-clause-marked c = λ bytes k. (
+  marked_report c.report.result c.report.ensures.place c.report.ensures.wrapped k,
+  tt,
+)
+
+pub returns-in_ok-feed-in-Escaped-clause-marked : goal.returns-in_ok-feed-in-Escaped-clause-marked
+returns-in_ok-feed-in-Escaped-clause-marked c = λ bytes k.
+    let e = c.report-in-Escaped.ensures in
+    (marked_report c.report-in-Escaped.result e.place e.wrapped k, tt)

@@ -8,6 +8,8 @@ use Rattle.sixel_scan.specs.declared.scanner.Stage.{Stage}
 use Rattle.sixel_scan.specs.Standing.{ReadsNext, Reports, Stands}
 use Rattle.sixel_scan.specs.Strings.{StringAt}
 use Rattle.sixel_judge.proofs.GrowthLemmas.{err_says}
+use Rattle.sixel_scan.specs.Marking.{Knows, KnowsAt, Marks}
+use Rattle.sixel_scan.proofs.MarkLemmas.{knows_at}
 use Rattle.sixel_scan.proofs.ReportLemmas.{next_at, reports_none}
 use Rattle.sixel_scan.proofs.scanner.Scanner.read_byte.Goals as goal
 
@@ -64,3 +66,27 @@ returns-in-Escaped-clause-memory c =
     on_err_weaker c.read_escaped.result
     (λ grows told bytes h. grows told (bytes ++ c.args.byte ∷ []) (next_at c.in-Escaped.is h))
     c.read_escaped.ensures.memory
+
+pub returns-in_ok-read_text-in-Text-clause-marks : goal.returns-in_ok-read_text-in-Text-clause-marks
+returns-in_ok-read_text-in-Text-clause-marks c = λ bytes k. record {
+  knows = c.in_ok-read_text-in-Text.ensures.knows bytes (knows_at c.args.self.now c.in-Text.is k);
+  marked = tt;
+}
+
+marks_at : {E : Type 0} (s now : Scanner) (stage : Stage) (byte : ℕ) (x : Result (Option Scanned) E) → s.stage ≡ stage
+    → IfOk x (λ scanned. (bytes : List ℕ) → KnowsAt s stage bytes
+    → Marks now (bytes ++ byte ∷ []) (option_to_list scanned))
+    → IfOk x (λ scanned. (bytes : List ℕ) → Knows s bytes
+    → Marks now (bytes ++ byte ∷ []) (option_to_list scanned))
+marks_at s now stage byte (Ok scanned) is marks = λ bytes k. marks bytes (knows_at s is k)
+marks_at s now stage byte (Err fault) is marks = tt
+
+pub returns-in-Inside-clause-marks : goal.returns-in-Inside-clause-marks
+returns-in-Inside-clause-marks c =
+    marks_at c.args.self.now c.read_inside.new.self _ c.args.byte c.read_inside.result c.in-Inside.is
+    c.read_inside.ensures.marks
+
+pub returns-in-Escaped-clause-marks : goal.returns-in-Escaped-clause-marks
+returns-in-Escaped-clause-marks c =
+    marks_at c.args.self.now c.read_escaped.new.self _ c.args.byte c.read_escaped.result c.in-Escaped.is
+    c.read_escaped.ensures.marks

@@ -3,6 +3,9 @@ use Rattle.sixel_model.specs.Profiles.{count_of}
 use Rattle.sixel_judge.proofs.GrowthLemmas.{err_says, grows_on}
 use Rattle.sixel_scan.specs.declared.scanner.Scanner.{Scanner}
 use Rattle.sixel_scan.proofs.GrowthLemmas.{escape_grows}
+use Rattle.sixel_scan.specs.declared.opening.Opening.TheVariants.{Nothing}
+use Rattle.sixel_scan.specs.declared.scanner.Stage.TheVariants.{Text}
+use Rattle.sixel_scan.proofs.MarkLemmas.{knows_byte, knows_escape, marked_more, marked_report, plain_terminated}
 use Rattle.sixel_scan.proofs.ReportLemmas.{reports_one, room_for, two_read}
 use Rattle.sixel_scan.proofs.ScanLemmas.{to_next_escape, to_terminated, two_more}
 use Rattle.sixel_scan.proofs.scanner.Scanner.read_escaped.Goals as goal
@@ -66,3 +69,21 @@ returns-clause-read c = λ told bytes r.
     r.holds.3 (c.report-scanned.ensures.reported r.holds.0 r.holds.4)
     (c.read_after_escape.ensures.stands (told ++ record { place = length r.before; bytes = r.holds.0 } ∷ []) bytes
     (rw c.report-scanned.ensures.rest (to_next_escape r c.report-scanned.new.self.check c.if-byte-eq-BACKSLASH.false)))
+
+pub returns-then-byte-eq-BACKSLASH-clause-marks : goal.returns-then-byte-eq-BACKSLASH-clause-marks
+returns-then-byte-eq-BACKSLASH-clause-marks c = λ bytes k.
+    let b = c.args.byte in
+    let now = knows_byte (Text Nothing) b (plain_terminated b c.if-byte-eq-BACKSLASH.true k) k in
+    record {
+      knows = rw c.report.ensures.rest now;
+      marked = (marked_report c.report.result c.report.ensures.place c.report.ensures.wrapped now, tt);
+    }
+
+pub returns-clause-marks : goal.returns-clause-marks
+returns-clause-marks c = λ bytes k.
+    let e = c.report-scanned.ensures in
+    record {
+      knows = c.read_after_escape.ensures.knows bytes (rw e.rest (knows_escape k));
+      marked = marked_more bytes (c.args.byte ∷ []) (c.report-scanned.result ∷ [])
+          (marked_report c.report-scanned.result e.place e.wrapped k, tt);
+    }

@@ -5,6 +5,7 @@ use Rattle.std.specs.Option.{option_to_list}
 use Rattle.sixel_judge.proofs.GrowthLemmas.{err_says}
 use Rattle.sixel_model.specs.Profiles.{count_of}
 use Rattle.sixel_scan.specs.Prefixes.{AreBeforeGrowth}
+use Rattle.sixel_scan.specs.Marking.{Marks}
 use Rattle.sixel_scan.specs.Standing.{Reports}
 use Rattle.sixel_scan.proofs.ReportLemmas.{reports_none}
 use Rattle.sixel_scan.proofs.scanner.Scanner.read_some.Goals as goal
@@ -57,3 +58,15 @@ returns-clause-reports c = λ told bytes h.
     subst (λ (t : List ℕ). Reports c.read_byte.new.self told t (option_to_list c.in_ok-scanned.scanned))
     (one_byte bytes piece count _ c.if-count-gt0.false c.requires.some refl)
     (c.in_ok-scanned.ensures.read told (bytes ++ take count piece) at)
+
+pub returns-then-count-gt0-clause-marks : goal.returns-then-count-gt0-clause-marks
+returns-then-count-gt0-clause-marks c = λ bytes k.
+    record { knows = c.in_ok-count.ensures.knows bytes k; marked = tt }
+
+pub returns-clause-marks : goal.returns-clause-marks
+returns-clause-marks c = λ bytes k.
+    let piece = c.args.piece.now in
+    let count = c.in_ok-count.count in
+    subst (λ (t : List ℕ). Marks c.read_byte.new.self t (option_to_list c.in_ok-scanned.scanned))
+    (one_byte bytes piece count _ c.if-count-gt0.false c.requires.some refl)
+    (c.in_ok-scanned.ensures.marks (bytes ++ take count piece) (c.in_ok-count.ensures.knows bytes k))

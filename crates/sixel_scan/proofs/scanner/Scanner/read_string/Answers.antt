@@ -6,6 +6,8 @@ use Rattle.sixel_scan.specs.declared.scanner.Stage.{Stage}
 use Rattle.sixel_scan.specs.declared.scanner.Stage.TheVariants.{Inside}
 use Rattle.sixel_scan.specs.Standing.{StandsWith}
 use Rattle.sixel_scan.proofs.GrowthLemmas.{stretch_grows}
+use Rattle.sixel_scan.specs.Marking.{KnowsWith}
+use Rattle.sixel_scan.proofs.MarkLemmas.{knows_at, knows_more, plain_inside}
 use Rattle.sixel_scan.proofs.ReportLemmas.{stands_at}
 use Rattle.sixel_scan.proofs.ScanLemmas.{past_inside}
 use Rattle.sixel_scan.proofs.scanner.Scanner.read_string.Goals as goal
@@ -42,3 +44,14 @@ returns-clause-stands c = λ told bytes h.
     (length-take-le count c.args.piece.now c.string_bytes_in-count.ensures.within)
     (past_inside c.read.new.self run r
     c.string_bytes_in-count.ensures.inside (c.in_ok-read.ensures.read registers r.held r.holds.2)))
+
+pub returns-clause-knows : goal.returns-clause-knows
+returns-clause-knows c = λ bytes h.
+    let s = c.args.self.now in
+    let count = c.string_bytes_in-count.result in
+    let run = take count c.args.piece.now in
+    let k = knows_at s c.requires.stage h in
+    subst (λ (t : Stage). KnowsWith t (s.read + count) s.opened s.wrapped (bytes ++ run)) (sym c.requires.stage)
+    (subst (λ (n : ℕ). KnowsWith Inside (s.read + n) s.opened s.wrapped (bytes ++ run))
+    (length-take-le count c.args.piece.now c.string_bytes_in-count.ensures.within)
+    (knows_more Inside run (plain_inside s.eight bytes run k.ends c.string_bytes_in-count.ensures.inside) k))

@@ -2,6 +2,9 @@ use Rattle.std.proofs.Common.{length}
 use Rattle.sixel_model.specs.Profiles.{count_of}
 use Rattle.sixel_judge.proofs.GrowthLemmas.{err_says}
 use Rattle.sixel_scan.proofs.GrowthLemmas.{begun_grows_not, byte_grows, opens_now}
+use Rattle.sixel_scan.specs.declared.opening.Opening.TheVariants.{Introduced}
+use Rattle.sixel_scan.specs.declared.scanner.Stage.TheVariants.{Text, Inside}
+use Rattle.sixel_scan.proofs.MarkLemmas.{follows_plain, knows_byte}
 use Rattle.sixel_scan.proofs.ScanLemmas.{text_held, to_introduced}
 use Rattle.sixel_scan.proofs.scanner.Scanner.read_text.Goals as goal
 
@@ -36,10 +39,24 @@ returns-in_ok-check_opening-in-Some-Introduced-clause-read c =
     to_introduced r c.check_opening-in-Some-Introduced.new.self.check f
     (c.in_ok-check_opening-in-Some-Introduced.ensures.check (length r.before) r.held r.holds))
 
+pub returns-in_ok-check_opening-in-None-clause-knows : goal.returns-in_ok-check_opening-in-None-clause-knows
+returns-in_ok-check_opening-in-None-clause-knows c =
+    rw c.check_opening.ensures.rest
+    (λ bytes k. knows_byte Inside c.args.byte (follows_plain c.args.opening bytes c.args.byte k.ends c.in-None.ensures.follows) k)
+
+pub returns-in_ok-check_opening-in-Some-Introduced-clause-knows :
+    goal.returns-in_ok-check_opening-in-Some-Introduced-clause-knows
+returns-in_ok-check_opening-in-Some-Introduced-clause-knows c =
+    rw c.check_opening-in-Some-Introduced.ensures.rest
+    (λ bytes k.
+    let f = rw c.in-Some-Introduced.field-0-is at c.in-Some-Introduced.ensures.follows in
+    knows_byte (Text Introduced) c.args.byte (follows_plain c.args.opening bytes c.args.byte k.ends f) k)
+
 pub returns-in-Some : goal.returns-in-Some
 returns-in-Some c = record {
   read = λ told bytes r.
       c.hold.ensures.stands c.args.opening c.args.byte told bytes c.in-Some.ensures.next r;
+  knows = λ bytes k. c.hold.ensures.knows c.args.byte bytes c.in-Some.ensures.follows k;
   memory = tt;
   profile = c.hold.ensures.profile;
   eight = c.hold.ensures.eight;
