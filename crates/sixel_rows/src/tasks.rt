@@ -140,8 +140,8 @@ fn end_of(alloc: Global, task: &Task, bytes: &[u8], cutting: Cutting) -> Ended
 /// The exit status of a run.
 fn code_of(answer: &Result<Status, RunFault>) -> u8 {
     match answer {
-        Ok(Status::Done) => 0,
-        Ok(Status::Broken(_)) | Ok(Status::Unfit) => 1,
+        Ok(Status::Done | Status::Noted(_)) => 0,
+        Ok(Status::Broken(_) | Status::Unfit { .. }) => 1,
         Err(_) => 2,
     }
 }

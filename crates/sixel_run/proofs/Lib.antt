@@ -10,8 +10,10 @@ pub mod DigitLemmas
 pub mod FeedLemmas
 pub mod ScreenLemmas
 pub mod DrawLemmas
+pub mod WatchLemmas
 pub mod StageLemmas
 pub mod BoxLemmas
+pub mod WrappingLemmas
 pub mod StringLemmas
 pub mod ScanLemmas
 pub mod OneStringLemmas

@@ -27,9 +27,8 @@ use Rattle.sixel_run.specs.declared.fault.RunFault.{RunFault}
 use Rattle.sixel_run.specs.declared.fault.RunFault.TheVariants.{Grammar, Empty, TooLarge, TooManyColours, OutOfMemory}
 use Rattle.sixel_run.specs.declared.fault.RunFault.TheVariants.{Write}
 use Rattle.sixel_run.specs.declared.task.Status.{Status}
-use Rattle.sixel_run.specs.declared.task.Status.TheVariants.{Done}
 use Rattle.sixel_run.specs.Conversions.{of_input, of_mend}
-use Rattle.sixel_run.specs.Outputs.{HasPictureSize, MendGives, WroteBy, WroteNothing, mend_output}
+use Rattle.sixel_run.specs.Outputs.{HasPictureSize, MendGives, WroteBy, WroteNothing, mend_output, mended_status}
 use Rattle.sixel_mend.specs.Measuring.{HasMeasured, Measured}
 use Rattle.sixel_mend.specs.Sizes.{IsSize}
 use Rattle.sixel_run.specs.Texts.{Text}
@@ -110,7 +109,7 @@ no_fault registers m events width height f =
 gives_for : (registers : ℕ) (m : Mending) (bytes : List ℕ) (d : List Placed) (w : Result PictureValue MendFault)
     → Document d bytes → MendsEvents registers m (events_of d) w
     → (text : Text) × (answer : Result Status RunFault) × MendGives registers m bytes text answer
-gives_for registers m bytes d (Ok p) doc is = (canon_text p, Ok Done, (d, doc, (Ok p, is, refl)))
+gives_for registers m bytes d (Ok p) doc is = (canon_text p, Ok (mended_status p), (d, doc, (Ok p, is, refl)))
 gives_for registers m bytes d (Err mend.Empty) doc is = ([], Err Empty, (d, doc, (Err mend.Empty, is, refl)))
 gives_for registers m bytes d (Err mend.TooLarge) doc is = ([], Err TooLarge, (d, doc, (Err mend.TooLarge, is, refl)))
 gives_for registers m bytes d (Err mend.TooManyColours) doc is =
@@ -133,16 +132,16 @@ mend-gives registers m bytes =
 -- ---- the text written
 
 written : (registers : ℕ) (m : Mending) (bytes : List ℕ) (p : PictureValue) → Mends registers m bytes (Ok p)
-    → MendGives registers m bytes (canon_text p) (Ok Done)
+    → MendGives registers m bytes (canon_text p) (Ok (mended_status p))
 written registers m bytes p g = (g.0, g.1, (Ok p, g.2, refl))
 
 pub mend_written : (registers : ℕ) (m : Mending) (a : Option (List ℕ)) (bytes : List ℕ) (p : PictureValue)
     (had has : Option (List ℕ)) → IfSome a (λ told. told ≡ bytes) → Mends registers m bytes (Ok p)
     → Appends had has (canon_text p)
-    → IfSome a (λ told. WroteBy (MendGives registers m told) WroteNothing (Ok Done) had has)
+    → IfSome a (λ told. WroteBy (MendGives registers m told) WroteNothing (Ok (mended_status p)) had has)
 mend_written registers m None bytes p had has same g put = tt
 mend_written registers m (Some told) bytes p had has same g put =
-    subst (λ (l : List ℕ). WroteBy (MendGives registers m l) WroteNothing (Ok Done) had has) (sym same)
+    subst (λ (l : List ℕ). WroteBy (MendGives registers m l) WroteNothing (Ok (mended_status p)) had has) (sym same)
     (canon_text p, written registers m bytes p g, put)
 
 -- a prefix of the text, if the sink failed
@@ -153,7 +152,7 @@ cut_short registers m bytes p had has g put = (
   take put.0 (canon_text p),
   put.1,
   λ text answer h.
-      let same = (mend-once registers m bytes text (canon_text p) answer (Ok Done) h (written registers m bytes p g)).0 in
+      let same = (mend-once registers m bytes text (canon_text p) answer (Ok (mended_status p)) h (written registers m bytes p g)).0 in
       (drop put.0 (canon_text p), same ∙ sym (take-append-drop put.0 (canon_text p))),
 )
 

@@ -1,5 +1,5 @@
 -- A scan of one string says what a check says.
-use Rattle.std.proofs.Common.{◌≡◌, ◌∙◌, ◌+◌, ℕ, Bool, false, List, [], ◌∷◌, ◌++◌, ap, arith, codes, refl, subst, sym}
+use Rattle.std.proofs.Common.{◌≡◌, ◌∙◌, ◌+◌, ℕ, Bool, true, false, List, [], ◌∷◌, ◌++◌, ap, arith, codes, refl, subst, sym}
 use Rattle.std.specs.Prelude.{Result, Ok}
 use Rattle.std.proofs.lemmas.Fmt.{decimal_digit}
 use Rattle.std.proofs.lemmas.List.{append-nil, take_all}
@@ -18,6 +18,7 @@ use Rattle.sixel_scan.specs.declared.answer.Scanned.{Scanned}
 use Rattle.sixel_scan.specs.Scans.{longest_stream}
 use Rattle.sixel_scan.specs.Strings.{AreStrings}
 use Rattle.sixel_scan.proofs.DocumentLemmas.{one_string}
+use Rattle.sixel_scan.proofs.MarkLemmas.{plain_none}
 use Rattle.sixel_run.specs.declared.fault.RunFault.{RunFault}
 use Rattle.sixel_run.specs.declared.task.Status.{Status}
 use Rattle.sixel_run.specs.Laws.{ScanIsCheck, status_alone}
@@ -28,7 +29,7 @@ use Rattle.sixel_run.proofs.StringLemmas.{tells_so, told_as}
 
 -- the report of one string with this verdict
 abbrev alone : Verdict → Scanned
-alone v = record { place = 0; answer = told_as 0 (Ok v) }
+alone v = record { place = 0; answer = told_as 0 (Ok v); wrapped = false }
 
 told_line : (v : Verdict) → answer_line (told_as 0 (Ok v)) ≡ verdict_line v
 told_line (Portable picture) = refl
@@ -75,6 +76,13 @@ one_given registers eight events bytes more document v starts bare is =
               verdict_matters registers events v whole is,
             );
             tells = tells_so 0 (Ok v);
+          },
+          tt,
+        );
+        marked = (
+          record {
+            within = omega arith;
+            marked = (λ on. absurd (let no : false ≡ true = on in cc), λ w. absurd (plain_none w));
           },
           tt,
         );

@@ -93,9 +93,9 @@ gives-once (Scan profile eight) bytes first second a b g h = scan-once eight _ b
 gives-once (Mend profile background showing selects) bytes first second a b g h =
     mend-once _ (mending background showing selects) bytes first second a b g h
 gives-once (Show profile showing fill selects width height) bytes first second a b g h =
-    show-once (show_terminal profile (show_choices showing fill selects width height)) bytes first second a b g h
+    show-once profile (show_terminal profile (show_choices showing fill selects width height)) bytes first second a b g h
 gives-once (ShowBox profile showing fill selects) bytes first second a b g h =
-    box-once (screen_terminal profile showing fill selects) bytes first second a b g h
+    box-once profile (screen_terminal profile showing fill selects) bytes first second a b g h
 
 pub gives : (task : Task) (bytes : List ℕ)
     → (text : Text) × (answer : Result Status RunFault) × Gives task bytes text answer
@@ -107,8 +107,8 @@ gives (Survey profile) bytes = survey-gives _ bytes
 gives (Scan profile eight) bytes = scan-gives eight _ bytes
 gives (Mend profile background showing selects) bytes = mend-gives _ (mending background showing selects) bytes
 gives (Show profile showing fill selects width height) bytes =
-    show-gives (show_terminal profile (show_choices showing fill selects width height)) bytes
-gives (ShowBox profile showing fill selects) bytes = box-gives (screen_terminal profile showing fill selects) bytes
+    show-gives profile (show_terminal profile (show_choices showing fill selects width height)) bytes
+gives (ShowBox profile showing fill selects) bytes = box-gives profile (screen_terminal profile showing fill selects) bytes
 
 begins-all : (first second : Text) → first ≡ second → BeginsWith second first
 begins-all first second e = ([], sym e ∙ sym (append-nil first))

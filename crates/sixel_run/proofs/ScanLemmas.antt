@@ -1,8 +1,8 @@
 -- What a run of `scan` owes.
 use Rattle.std.proofs.Common.{◌≡◌, ◌∙◌, ◌≤◌, ℕ, Bool, true, false, List, [], ◌∷◌, ◌++◌, length, map, take}
-use Rattle.std.proofs.Common.{Option, Some, None, ap, append_assoc, arith, inl, inr, refl, subst, sym}
-use Rattle.std.specs.List.{list_all}
-use Rattle.std.specs.Prelude.{◌&&◌, Result, Ok, Err, IfSome, OnOk, flat_map, if◌then◌else◌}
+use Rattle.std.proofs.Common.{Option, Some, None, ap, ap₂, append_assoc, arith, inl, inr, refl, subst, sym}
+use Rattle.std.specs.List.{list_all, list_any}
+use Rattle.std.specs.Prelude.{◌&&◌, ◌||◌, Result, Ok, Err, IfSome, OnOk, flat_map}
 use Rattle.std.specs.Io.KnownBytes.{Appends, Consumes}
 use Rattle.std.proofs.KnownBytes.{Consumes-nil, Consumes-trans}
 use Rattle.std.proofs.lemmas.List.{length-append}
@@ -20,6 +20,8 @@ use Rattle.sixel_scan.specs.Scans.{AfterTaking, GrowsWithin, HasTold, IsOver, Is
 use Rattle.sixel_scan.specs.Scans.{longest_stream}
 use Rattle.sixel_scan.specs.Standing.{AreReported}
 use Rattle.sixel_scan.specs.Strings.{AreStrings, StringAt}
+use Rattle.sixel_scan.specs.Wrapping.{AreMarked}
+use Rattle.sixel_scan.proofs.MarkLemmas.{marked_more}
 use Rattle.sixel_scan.proofs.StringLemmas.{some_strings}
 use Rattle.sixel_scan.proofs.TellLemmas.{stream_begins, stream_over, told_first}
 use Rattle.sixel_run.specs.declared.fault.RunFault.{RunFault}
@@ -27,14 +29,15 @@ use Rattle.sixel_run.specs.declared.fault.RunFault.TheVariants.{NoString, OutOfM
 use Rattle.sixel_run.specs.declared.item.Item.{Item}
 use Rattle.sixel_run.specs.declared.item.Item.TheVariants.{String}
 use Rattle.sixel_run.specs.declared.task.Status.{Status}
-use Rattle.sixel_run.specs.declared.task.Status.TheVariants.{Done, Unfit}
 use Rattle.sixel_run.specs.declared.task.Task.TheVariants as task
 use Rattle.sixel_run.specs.Conversions.{of_scan}
 use Rattle.sixel_run.specs.Outputs.{CountsWrites, ScanGives, ScansBefore, ScansUnread, Wrote, WroteWith, failures_by}
 use Rattle.sixel_run.specs.Scanned.{AreBeforeAllocation, AreOfFirst, AreOfGiven, AreOfStream, Finds, MayGrowInString}
-use Rattle.sixel_run.specs.Scanned.{answer_of_strings, answer_with, is_portable, scan_text, stream_of}
+use Rattle.sixel_run.specs.Scanned.{answer_of_strings, answer_with, is_portable, is_wrapped, scan_text, status_where}
+use Rattle.sixel_run.specs.Scanned.{stream_of}
 use Rattle.sixel_run.specs.LineTasks.{PutsText, WritesItems}
 use Rattle.sixel_run.specs.Texts.{Text}
+use Rattle.sixel_run.proofs.WrappingLemmas.{marks_kept, marks_next}
 use Rattle.sixel_run.proofs.StringLemmas.{reports_join, scan-begins, short_take, strings_more}
 
 -- ---- what the loop keeps
@@ -49,10 +52,15 @@ pub record Scanning (written : Item → Text) (eight : Bool) (registers : ℕ) (
   pub consumed : Consumes input.old.remaining input.new.remaining taken
   pub has_told : HasTold eight registers s input.new.remaining strings taken
   pub reported : AreReported registers strings reports
+  pub marked : IfSome input.old.remaining (λ bytes. AreMarked taken reports)
   pub answer_is : answer ≡ answer_of_strings reports
   pub put : Appends output.old.taken output.new.taken (flat_map written (map String reports))
   pub reads : input.new.failures ≡ input.old.failures
   pub writes : output.new.failures ≡ output.old.failures
+
+none_marked : (old : Option (List ℕ)) → IfSome old (λ bytes. AreMarked [] [])
+none_marked None = tt
+none_marked (Some bytes) = tt
 
 pub scanning_first : (written : Item → Text) (eight : Bool) (registers : ℕ) (s : Scan) (i : SourceState)
     (o : SinkState) → ((remaining : Option (List ℕ)) → HasTold eight registers s remaining [] [])
@@ -64,6 +72,7 @@ scanning_first written eight registers s i o new = record {
   consumed = Consumes-nil i.remaining;
   has_told = new i.remaining;
   reported = tt;
+  marked = none_marked i.remaining;
   answer_is = refl;
   put = Appends-none o.taken;
   reads = refl;
@@ -85,15 +94,34 @@ after_call written eight registers s answer i o new P k after =
     let n = after eight registers k.strings k.taken k.has_told in
     (k.taken ++ n.0, Consumes-trans i.old.remaining i.new.remaining new k.taken n.0 k.consumed n.1, n.2)
 
--- the answer on some strings, if all of them are portable, and if not
-abbrev chosen : Bool → Result Status RunFault
-chosen all = if all then Ok Done else Ok Unfit
+-- with a call of the scan, the reports told before are marked in all that was taken
+still_marked : (written : Item → Text) (eight : Bool) (registers : ℕ) (s : Scan) (answer : Result Status RunFault)
+    (i : Change SourceState) (o : Change SinkState) (new : Option (List ℕ)) (taken : List ℕ)
+    (P : Bool → ℕ → List StringAt → List ℕ → Type 0) → (k : Scanning written eight registers s answer i o)
+    → AfterTaking s i.new.remaining new P → Consumes i.old.remaining new taken
+    → IfSome i.old.remaining (λ bytes. AreMarked taken k.reports)
+still_marked written eight registers s answer i o new taken P k after consumed =
+    let n = after eight registers k.strings k.taken k.has_told in
+    marks_kept i.old.remaining i.new.remaining new k.taken n.0 taken k.reports k.consumed n.1 consumed k.marked
+
+-- so is the one that it told
+next_marked : (written : Item → Text) (eight : Bool) (registers : ℕ) (s : Scan) (answer : Result Status RunFault)
+    (i : Change SourceState) (o : Change SinkState) (new : Option (List ℕ)) (taken : List ℕ) (scanned : Scanned)
+    → (k : Scanning written eight registers s answer i o)
+    → AfterTaking s i.new.remaining new (λ e r told bytes. AreMarked bytes (scanned ∷ []))
+    → Consumes i.old.remaining new taken
+    → IfSome i.old.remaining (λ bytes. AreMarked taken (k.reports ++ scanned ∷ []))
+next_marked written eight registers s answer i o new taken scanned k after consumed =
+    let n = after eight registers k.strings k.taken k.has_told in
+    marks_next i.old.remaining i.new.remaining new k.taken n.0 taken k.reports scanned k.consumed n.1 consumed k.marked
+    n.2
 
 -- the answer on some strings and one more
-either_with : (all portable : Bool) (s : Scanned) → is_portable s ≡ portable
-    → answer_with (chosen all) s ≡ chosen (all && portable)
-either_with true portable s is = ap chosen is
-either_with false portable s is = refl
+either_with : (all any : Bool) (s : Scanned)
+    → answer_with (Ok (status_where all any)) s ≡ Ok (status_where (all && is_portable s) (any || s.wrapped))
+either_with true true s = refl
+either_with true false s = refl
+either_with false any s = refl
 
 all_more : (xs : List Scanned) (s : Scanned)
     → list_all is_portable (xs ++ s ∷ []) ≡ (list_all is_portable xs && is_portable s)
@@ -110,16 +138,34 @@ all_more (x ∷ xs) s =
     and_joins true b c = refl
     and_joins false b c = refl
 
+any_more : (xs : List Scanned) (s : Scanned)
+    → list_any is_wrapped (xs ++ s ∷ []) ≡ (list_any is_wrapped xs || s.wrapped)
+any_more [] s = or_false s.wrapped
+  where
+    or_false : (b : Bool) → (b || false) ≡ (false || b)
+    or_false true = refl
+    or_false false = refl
+any_more (x ∷ xs) s =
+    ap (λ (b : Bool). x.wrapped || b) (any_more xs s) ∙ sym (or_joins x.wrapped (list_any is_wrapped xs) s.wrapped)
+  where
+    or_joins : (a b c : Bool) → ((a || b) || c) ≡ (a || (b || c))
+    or_joins true b c = refl
+    or_joins false b c = refl
+
+-- of all strings, with one more
+status_more : (xs : List Scanned) (s : Scanned)
+    → (let r : Result Status RunFault =
+    Ok (status_where (list_all is_portable xs && is_portable s) (list_any is_wrapped xs || s.wrapped)) in r)
+    ≡ Ok (status_where (list_all is_portable (xs ++ s ∷ [])) (list_any is_wrapped (xs ++ s ∷ [])))
+status_more xs s =
+    ap₂ (λ (all any : Bool). let r : Result Status RunFault = Ok (status_where all any) in r) (sym (all_more xs s))
+    (sym (any_more xs s))
+
 answer_more : (reports : List Scanned) (s : Scanned)
     → answer_with (answer_of_strings reports) s ≡ answer_of_strings (reports ++ s ∷ [])
-answer_more [] s = only (is_portable s)
-  where
-    only : (b : Bool) → chosen b ≡ chosen (b && true)
-    only true = refl
-    only false = refl
+answer_more [] s = status_more [] s
 answer_more (r ∷ more) s =
-    either_with (list_all is_portable (r ∷ more)) (is_portable s) s refl
-    ∙ ap chosen (sym (all_more (r ∷ more) s))
+    either_with (list_all is_portable (r ∷ more)) (list_any is_wrapped (r ∷ more)) s ∙ status_more (r ∷ more) s
 
 -- one more string was told, and its line was written
 pub scanning_more : (written : Item → Text) (eight : Bool) (registers : ℕ) (s t : Scan)
@@ -128,11 +174,12 @@ pub scanning_more : (written : Item → Text) (eight : Bool) (registers : ℕ) (
     → (k : Scanning written eight registers s answer i o)
     → AfterTaking s i.new.remaining new.remaining
     (λ e r told bytes. TellsNext e r t new.remaining told bytes (scanned ∷ []))
+    → AfterTaking s i.new.remaining new.remaining (λ e r told bytes. AreMarked bytes (scanned ∷ []))
     → Appends o.new.taken has.taken (written (String scanned))
     → new.failures ≡ i.new.failures → has.failures ≡ o.new.failures
     → now ≡ answer_with answer scanned
     → Scanning written eight registers t now (change i.old new) (change o.old has)
-scanning_more written eight registers s t answer now scanned i o new has k next put reads writes now_is =
+scanning_more written eight registers s t answer now scanned i o new has k next marks put reads writes now_is =
     let n = after_call written eight registers s answer i o new.remaining
     (λ e r told bytes. TellsNext e r t new.remaining told bytes (scanned ∷ [])) k next in
     record {
@@ -142,6 +189,7 @@ scanning_more written eight registers s t answer now scanned i o new has k next 
       consumed = n.1;
       has_told = n.2.has_told;
       reported = reports_join registers k.strings n.2.found k.reports (scanned ∷ []) k.reported n.2.reported;
+      marked = next_marked written eight registers s answer i o new.remaining n.0 scanned k marks n.1;
       answer_is = now_is ∙ ap (λ (a : Result Status RunFault). answer_with a scanned) k.answer_is
           ∙ answer_more k.reports scanned;
       put = Appends-then o.old.taken o.new.taken has.taken (flat_map written (map String k.reports))
@@ -160,13 +208,22 @@ told_within eight registers s remaining told bytes h = elim h [
   | inr t ↦ t.within
 ]
 
+-- the stream begins with the bytes taken
+stream_marked : (bytes rest taken : List ℕ) (reports : List Scanned) → bytes ≡ taken ++ rest
+    → length taken ≤ longest_stream → AreMarked taken reports → AreMarked (stream_of bytes) reports
+stream_marked bytes rest taken reports consumed within marked =
+    let begins = stream_begins rest taken within in
+    subst (λ (t : List ℕ). AreMarked t reports) (sym (ap stream_of consumed ∙ begins.1))
+    (marked_more taken begins.0 reports marked)
+
 -- they are the first
 first_strings : (eight : Bool) (registers : ℕ) (s : Scan) (old new : Option (List ℕ)) (told : List StringAt)
     (taken : List ℕ) (reports : List Scanned) → Consumes old new taken → HasTold eight registers s new told taken
-    → AreReported registers told reports → IfSome old (λ bytes. AreOfFirst eight registers bytes reports)
-first_strings eight registers s None new told taken reports consumed h are = tt
-first_strings eight registers s (Some bytes) None told taken reports consumed h are = absurd consumed
-first_strings eight registers s (Some bytes) (Some rest) told taken reports consumed h are =
+    → AreReported registers told reports → IfSome old (λ bytes. AreMarked taken reports)
+    → IfSome old (λ bytes. AreOfFirst eight registers bytes reports)
+first_strings eight registers s None new told taken reports consumed h are marked = tt
+first_strings eight registers s (Some bytes) None told taken reports consumed h are marked = absurd consumed
+first_strings eight registers s (Some bytes) (Some rest) told taken reports consumed h are marked =
     let all = some_strings eight (stream_of bytes) in
     let more = told_first eight registers s rest told all.0 taken h
     (subst (λ (b : List ℕ). AreStrings eight all.0 (stream_of b)) consumed all.1) in
@@ -175,6 +232,8 @@ first_strings eight registers s (Some bytes) (Some rest) told taken reports cons
       rest = more.0;
       are = subst (λ (x : List StringAt). AreStrings eight x (stream_of bytes)) more.1 all.1;
       reported = are;
+      marked = stream_marked bytes rest taken reports consumed
+          (told_within eight registers s (Some rest) told taken h) marked;
     }
 
 -- all of them, if the stream is over; `other` is what was taken too
@@ -182,40 +241,45 @@ all_strings : (eight : Bool) (registers : ℕ) (old new : Option (List ℕ)) (to
     (taken other : List ℕ) (reports : List Scanned) → Consumes old new taken → Consumes old new other
     → length other ≤ longest_stream
     → AreStrings eight told taken → IsOver new taken → AreReported registers told reports
-    → IfSome old (λ bytes. AreOfStream eight registers bytes reports)
-all_strings eight registers None new told taken other reports consumed same within strings over are = tt
-all_strings eight registers (Some bytes) None told taken other reports consumed same within strings over are =
+    → IfSome old (λ bytes. AreMarked taken reports) → IfSome old (λ bytes. AreOfStream eight registers bytes reports)
+all_strings eight registers None new told taken other reports consumed same within strings over are marked = tt
+all_strings eight registers (Some bytes) None told taken other reports consumed same within strings over are marked =
     absurd consumed
-all_strings eight registers (Some bytes) (Some rest) told taken other reports consumed same within strings over are =
+all_strings eight registers (Some bytes) (Some rest) told taken other reports consumed same within strings over are
+    marked =
     let short : length taken ≤ longest_stream =
     omega (arith, ap length consumed, ap length same, length-append taken rest, length-append other rest, within) in
     record {
       strings = told;
       are = subst (AreStrings eight told) (sym (ap stream_of consumed ∙ stream_over rest taken short over)) strings;
       reported = are;
+      marked = stream_marked bytes rest taken reports consumed short marked;
     }
 
 -- those of the bytes given
 given_strings : (eight : Bool) (registers : ℕ) (old new : Option (List ℕ)) (told : List StringAt) (taken : List ℕ)
     (reports : List Scanned) → Consumes old new taken → length taken ≤ longest_stream → AreGiven eight told taken
-    → AreReported registers told reports → IfSome old (λ bytes. AreOfGiven eight registers bytes new reports)
-given_strings eight registers None new told taken reports consumed within given are = tt
-given_strings eight registers (Some bytes) new told taken reports consumed within given are = record {
+    → AreReported registers told reports → IfSome old (λ bytes. AreMarked taken reports)
+    → IfSome old (λ bytes. AreOfGiven eight registers bytes new reports)
+given_strings eight registers None new told taken reports consumed within given are marked = tt
+given_strings eight registers (Some bytes) new told taken reports consumed within given are marked = record {
   given = taken;
   consumed = consumed;
   within = within;
   strings = told;
   are = given;
   reported = are;
+  marked = marked;
 }
 
 -- those before one in which a checker may allocate
 grown_strings : (eight : Bool) (registers : ℕ) (old new : Option (List ℕ)) (told : List StringAt) (taken : List ℕ)
     (reports : List Scanned) → Consumes old new taken → GrowsWithin eight registers told taken
-    → AreReported registers told reports → IfSome old (λ bytes. AreBeforeAllocation eight registers bytes reports)
-grown_strings eight registers None new told taken reports consumed grows are = tt
-grown_strings eight registers (Some bytes) None told taken reports consumed grows are = absurd consumed
-grown_strings eight registers (Some bytes) (Some rest) told taken reports consumed grows are =
+    → AreReported registers told reports → IfSome old (λ bytes. AreMarked taken reports)
+    → IfSome old (λ bytes. AreBeforeAllocation eight registers bytes reports)
+grown_strings eight registers None new told taken reports consumed grows are marked = tt
+grown_strings eight registers (Some bytes) None told taken reports consumed grows are marked = absurd consumed
+grown_strings eight registers (Some bytes) (Some rest) told taken reports consumed grows are marked =
     let begins = stream_begins rest taken grows.4 in
     let stream : stream_of bytes ≡ grows.0 ++ (grows.1 ++ begins.0) =
     ap stream_of consumed ∙ begins.1 ∙ ap (λ (t : List ℕ). t ++ begins.0) grows.2
@@ -224,6 +288,7 @@ grown_strings eight registers (Some bytes) (Some rest) told taken reports consum
       strings = told;
       grows = (grows.0, grows.1 ++ begins.0, stream, grows.3, short_take longest_stream bytes);
       reported = are;
+      marked = stream_marked bytes rest taken reports consumed grows.4 marked;
     }
 
 -- ---- how the loop ends
@@ -246,13 +311,9 @@ IsUnfailed (Ok status) = Unit {0}
 IsUnfailed (Err NoString) = Unit {0}
 IsUnfailed _ = ⊥
 
-either_unfailed : (all : Bool) → IsUnfailed (chosen all)
-either_unfailed true = tt
-either_unfailed false = tt
-
 strings_unfailed : (reports : List Scanned) → IsUnfailed (answer_of_strings reports)
 strings_unfailed [] = tt
-strings_unfailed (s ∷ more) = either_unfailed (list_all is_portable (s ∷ more))
+strings_unfailed (s ∷ more) = tt
 
 all_found : (eight : Bool) (registers : ℕ) (old new : Option (List ℕ)) (reports : List Scanned)
     (answer : Result Status RunFault) → IsUnfailed answer → answer ≡ answer_of_strings reports
@@ -303,7 +364,9 @@ scans_ended written eight registers s t answer i o new k next all reads =
       reports = k.reports;
       finds = all_found eight registers i.old.remaining new.remaining k.reports answer unfailed k.answer_is
           (all_strings eight registers i.old.remaining new.remaining k.strings a.0 n.0 k.reports a.1 n.1 within a.2.0
-          a.2.1 k.reported);
+          a.2.1 k.reported
+          (still_marked written eight registers s answer i o new.remaining a.0
+          (λ e r told bytes. AreStrings e told bytes × IsOver new.remaining bytes) k all a.1));
       put = all_put answer o.old.taken o.new.taken (flat_map written (map String k.reports)) unfailed k.put;
       taken = a.0;
       consumed = a.1;
@@ -319,10 +382,11 @@ pub scans_stopped : (written : Item → Text) (eight : Bool) (registers : ℕ) (
     → (k : Scanning written eight registers s answer i o)
     → AfterTaking s i.new.remaining new.remaining
     (λ e r told bytes. TellsNext e r t new.remaining told bytes (scanned ∷ []))
+    → AfterTaking s i.new.remaining new.remaining (λ e r told bytes. AreMarked bytes (scanned ∷ []))
     → (n : ℕ) × Appends o.new.taken has.taken (take n (written (String scanned)))
     → new.failures ≡ i.new.failures → has.failures ≡ one_more o.new.failures
     → Scans written eight registers (Err Write) (change i.old new) (change o.old has)
-scans_stopped written eight registers s t answer scanned i o new has k next put reads writes =
+scans_stopped written eight registers s t answer scanned i o new has k next marks put reads writes =
     let n = after_call written eight registers s answer i o new.remaining
     (λ e r told bytes. TellsNext e r t new.remaining told bytes (scanned ∷ [])) k next in
     let failed : Result Status RunFault = Err Write in
@@ -330,7 +394,8 @@ scans_stopped written eight registers s t answer scanned i o new has k next put 
       reports = k.reports ++ scanned ∷ [];
       finds = first_strings eight registers t i.old.remaining new.remaining (k.strings ++ n.2.found) n.0
           (k.reports ++ scanned ∷ []) n.1 n.2.has_told
-          (reports_join registers k.strings n.2.found k.reports (scanned ∷ []) k.reported n.2.reported);
+          (reports_join registers k.strings n.2.found k.reports (scanned ∷ []) k.reported n.2.reported)
+          (next_marked written eight registers s answer i o new.remaining n.0 scanned k marks n.1);
       put = puts-joined failed o.old.taken o.new.taken has.taken (flat_map written (map String k.reports))
           (written (String scanned)) (flat_map written (map String (k.reports ++ scanned ∷ [])))
           (strings_more written k.reports scanned) k.put put;
@@ -355,7 +420,9 @@ scans_unread written eight registers s t answer i o new k next reads =
     record {
       reports = k.reports;
       finds = given_strings eight registers i.old.remaining new.remaining k.strings n.0 k.reports n.1 within n.2.0
-          k.reported;
+          k.reported
+          (still_marked written eight registers s answer i o new.remaining n.0
+          (λ e r told bytes. AreGiven e told bytes × HasTold e r t new.remaining told bytes) k next n.1);
       put = k.put;
       taken = n.0;
       consumed = n.1;
@@ -374,7 +441,8 @@ scans_grown written eight registers s answer i o new k next reads =
     let n = after_call written eight registers s answer i o new.remaining GrowsWithin k next in
     record {
       reports = k.reports;
-      finds = grown_strings eight registers i.old.remaining new.remaining k.strings n.0 k.reports n.1 n.2 k.reported;
+      finds = grown_strings eight registers i.old.remaining new.remaining k.strings n.0 k.reports n.1 n.2 k.reported
+          (still_marked written eight registers s answer i o new.remaining n.0 GrowsWithin k next n.1);
       put = k.put;
       taken = n.0;
       consumed = n.1;

@@ -30,10 +30,10 @@ use Rattle.sixel_terminal.specs.Drawing.{screen_on}
 use Rattle.sixel_run.specs.declared.fault.RunFault.{RunFault}
 use Rattle.sixel_run.specs.declared.fault.RunFault.TheVariants.{Grammar, NotRgb}
 use Rattle.sixel_run.specs.declared.task.Status.{Status}
-use Rattle.sixel_run.specs.declared.task.Status.TheVariants.{Done}
 use Rattle.sixel_run.specs.Conversions.{of_ppm}
 use Rattle.sixel_run.specs.Outputs.{ShowGives, WroteBy, WroteNothing}
 use Rattle.sixel_model.specs.declared.profile.Profile.{Profile}
+use Rattle.sixel_run.specs.Notes.{shown_status}
 use Rattle.sixel_run.specs.Screens.{grey, percent_at, screen_text}
 use Rattle.sixel_run.specs.Texts.{Text, BeginsWith}
 use Rattle.sixel_io.specs.Devices.{SinkState}
@@ -44,51 +44,56 @@ not-both : (b c : Bool) → b ≡ c → IsTrue b → IsFalse c → ⊥
 not-both b c e p q = let bad : true ≡ false = sym p ∙ e ∙ q in cc
 
 -- the screen after a document, or none if some colour on it isn't RGB
-of_document : (t : Display) (bytes : List ℕ) (d : List Placed) → Document d bytes → (rgb : Bool)
-    → are_rgb (screen_on t (events_of d)) ≡ rgb → (text : Text) (a : Result Status RunFault) → ShowGives t bytes text a
-    → (text ≡ if rgb then screen_text t (events_of d) else []) × (a ≡ if rgb then Ok Done else Err NotRgb)
-of_document t bytes d doc true e text (Ok s) g = (
-  g.1.3 ∙ ap (λ es. screen_text t (events_of es)) (document_once bytes g.1.0 d g.1.1 doc),
-  ap (λ (s : Status). Ok s) g.0,
-)
-of_document t bytes d doc false e text (Ok s) g = absurd (not-both _ _
-    (ap (λ es. are_rgb (screen_on t (events_of es))) (document_once bytes g.1.0 d g.1.1 doc)) g.1.2 e)
-of_document t bytes d doc true e text (Err NotRgb) g = absurd (not-both _ _
+of_document : (profile : Profile) (t : Display) (bytes : List ℕ) (d : List Placed) → Document d bytes → (rgb : Bool)
+    → are_rgb (screen_on t (events_of d)) ≡ rgb → (text : Text) (a : Result Status RunFault)
+    → ShowGives profile t bytes text a
+    → (text ≡ if rgb then screen_text t (events_of d) else [])
+    × (a ≡ if rgb then Ok (shown_status profile (events_of d)) else Err NotRgb)
+of_document profile t bytes d doc true e text (Ok s) g =
+    let same = document_once bytes g.0 d g.1 doc in (
+      g.3 ∙ ap (λ (es : List Placed). screen_text t (events_of es)) same,
+      ap (λ (s : Status). Ok s) (g.4 ∙ ap (λ (es : List Placed). shown_status profile (events_of es)) same),
+    )
+of_document profile t bytes d doc false e text (Ok s) g = absurd (not-both _ _
+    (ap (λ es. are_rgb (screen_on t (events_of es))) (document_once bytes g.0 d g.1 doc)) g.2 e)
+of_document profile t bytes d doc true e text (Err NotRgb) g = absurd (not-both _ _
     (ap (λ es. are_rgb (screen_on t (events_of es))) (document_once bytes d g.1.0 doc g.1.1)) e g.1.2)
-of_document t bytes d doc false e text (Err NotRgb) g = (g.0, refl)
-of_document t bytes d doc rgb e text (Err (Grammar f)) g = absurd (fault_no_document bytes f g.1 (d, doc))
-of_document t bytes d doc rgb e text (Err other) g = absurd g
+of_document profile t bytes d doc false e text (Err NotRgb) g = (g.0, refl)
+of_document profile t bytes d doc rgb e text (Err (Grammar f)) g = absurd (fault_no_document bytes f g.1 (d, doc))
+of_document profile t bytes d doc rgb e text (Err other) g = absurd g
 
 -- the fault of other bytes
-of_fault : (t : Display) (bytes : List ℕ) (f : Fault) → IsFaultOf bytes f → (text : Text) (a : Result Status RunFault)
-    → ShowGives t bytes text a → (text ≡ []) × (a ≡ Err (Grammar f))
-of_fault t bytes f is text (Ok s) g = absurd (fault_no_document bytes f is (g.1.0, g.1.1))
-of_fault t bytes f is text (Err NotRgb) g = absurd (fault_no_document bytes f is (g.1.0, g.1.1))
-of_fault t bytes f is text (Err (Grammar e)) g =
+of_fault : (profile : Profile) (t : Display) (bytes : List ℕ) (f : Fault) → IsFaultOf bytes f → (text : Text)
+    (a : Result Status RunFault) → ShowGives profile t bytes text a → (text ≡ []) × (a ≡ Err (Grammar f))
+of_fault profile t bytes f is text (Ok s) g = absurd (fault_no_document bytes f is (g.0, g.1))
+of_fault profile t bytes f is text (Err NotRgb) g = absurd (fault_no_document bytes f is (g.1.0, g.1.1))
+of_fault profile t bytes f is text (Err (Grammar e)) g =
     (g.0, ap (λ (k : Fault). Err (Grammar k)) (fault_once bytes e f g.1 is))
-of_fault t bytes f is text (Err other) g = absurd g
+of_fault profile t bytes f is text (Err other) g = absurd g
 
-pub show-once : (t : Display) (bytes : List ℕ) (first second : Text) (a b : Result Status RunFault)
-    → ShowGives t bytes first a → ShowGives t bytes second b → (first ≡ second) × (a ≡ b)
-show-once t bytes first second a b g h = elim (judged bytes) [
+pub show-once : (profile : Profile) (t : Display) (bytes : List ℕ) (first second : Text)
+    (a b : Result Status RunFault) → ShowGives profile t bytes first a → ShowGives profile t bytes second b
+    → (first ≡ second) × (a ≡ b)
+show-once profile t bytes first second a b g h = elim (judged bytes) [
   | inl d ↦
-      let gives = of_document t bytes d.0 d.1 (are_rgb (screen_on t (events_of d.0))) refl in
+      let gives = of_document profile t bytes d.0 d.1 (are_rgb (screen_on t (events_of d.0))) refl in
       both_are first second a b (gives first a g) (gives second b h)
   | inr f ↦
-      let gives = of_fault t bytes f.0 f.1 in both_are first second a b (gives first a g) (gives second b h)
+      let gives = of_fault profile t bytes f.0 f.1 in both_are first second a b (gives first a g) (gives second b h)
 ]
 
-shown : (t : Display) (bytes : List ℕ) (d : List Placed) → Document d bytes → (b : Bool)
+shown : (profile : Profile) (t : Display) (bytes : List ℕ) (d : List Placed) → Document d bytes → (b : Bool)
     → are_rgb (screen_on t (events_of d)) ≡ b
-    → (text : Text) × (answer : Result Status RunFault) × ShowGives t bytes text answer
-shown t bytes d doc true e = (screen_text t (events_of d), Ok Done, (refl, (d, doc, e, refl)))
-shown t bytes d doc false e = ([], Err NotRgb, (refl, (d, doc, e)))
+    → (text : Text) × (answer : Result Status RunFault) × ShowGives profile t bytes text answer
+shown profile t bytes d doc true e =
+    (screen_text t (events_of d), Ok (shown_status profile (events_of d)), (d, doc, e, refl, refl))
+shown profile t bytes d doc false e = ([], Err NotRgb, (refl, (d, doc, e)))
 
-pub show-gives : (t : Display) (bytes : List ℕ)
-    → (text : Text) × (answer : Result Status RunFault) × ShowGives t bytes text answer
-show-gives t bytes =
+pub show-gives : (profile : Profile) (t : Display) (bytes : List ℕ)
+    → (text : Text) × (answer : Result Status RunFault) × ShowGives profile t bytes text answer
+show-gives profile t bytes =
     elim (judged bytes) [
-      | inl d ↦ shown t bytes d.0 d.1 (are_rgb (screen_on t (events_of d.0))) refl
+      | inl d ↦ shown profile t bytes d.0 d.1 (are_rgb (screen_on t (events_of d.0))) refl
       | inr f ↦ ([], Err (Grammar f.0), (refl, f.1))
     ]
 
@@ -129,43 +134,44 @@ inks_samples (ink ∷ inks) rgb =
 -- ---- the text written
 
 -- the text is that of any answer that the document has
-written-begins : (t : Display) (bytes : List ℕ) (d : List Placed) (n : ℕ) → Document d bytes
+written-begins : (profile : Profile) (t : Display) (bytes : List ℕ) (d : List Placed) (n : ℕ) → Document d bytes
     → IsTrue (are_rgb (screen_on t (events_of d))) → (text : Text) (answer : Result Status RunFault)
-    → ShowGives t bytes text answer → BeginsWith text (take n (screen_text t (events_of d)))
-written-begins t bytes d n doc rgb text answer g =
-    let same = (show-once t bytes text (screen_text t (events_of d)) answer (Ok Done) g
-    (refl, (d, doc, rgb, refl))).0 in (
+    → ShowGives profile t bytes text answer → BeginsWith text (take n (screen_text t (events_of d)))
+written-begins profile t bytes d n doc rgb text answer g =
+    let same = (show-once profile t bytes text (screen_text t (events_of d)) answer
+    (Ok (shown_status profile (events_of d))) g (d, doc, rgb, refl, refl)).0 in (
       drop n (screen_text t (events_of d)),
       same ∙ sym (take-append-drop n (screen_text t (events_of d))),
     )
 
-pub written : {A : Type 0} (t : Display) (bytes : List ℕ) (d : List Placed) (had has : SinkState)
-    (colours : List Parts) (x : A) → Document d bytes → colours ≡ screen_on t (events_of d)
+pub written : {A : Type 0} (profile : Profile) (t : Display) (bytes : List ℕ) (d : List Placed) (status : Status)
+    (had has : SinkState) (colours : List Parts) (x : A) → Document d bytes → colours ≡ screen_on t (events_of d)
+    → status ≡ shown_status profile (events_of d)
     → WritesPpm {A = A} (Ok x) had has t.choices.screen_width t.choices.screen_height colours
-    → WroteBy (ShowGives t bytes) WroteNothing (Ok Done) had.taken has.taken
+    → WroteBy (ShowGives profile t bytes) WroteNothing (Ok status) had.taken has.taken
 unfolding screen_text
-written t bytes d had has colours x doc is put =
+written profile t bytes d status had has colours x doc is noted put =
     let w = t.choices.screen_width in let h = t.choices.screen_height in (
       screen_text t (events_of d),
-      (refl, (d, doc, subst (λ (cs : List Parts). IsTrue (are_rgb cs)) is put.0, refl)),
+      (d, doc, subst (λ (cs : List Parts). IsTrue (are_rgb cs)) is put.0, refl, noted),
       subst (λ (cs : List Parts). Appends had.taken has.taken (ppm_text w h cs)) is put.1.taken,
     )
 
-pub unwritten : (A : Type 0) (t : Display) (bytes : List ℕ) (d : List Placed) (had has : SinkState)
+pub unwritten : (A : Type 0) (profile : Profile) (t : Display) (bytes : List ℕ) (d : List Placed) (had has : SinkState)
     (colours : List Parts) (fault : PpmFault) → Document d bytes → colours ≡ screen_on t (events_of d)
     → WritesPpm {A = A} (Err fault) had has t.choices.screen_width t.choices.screen_height colours
-    → WroteBy (ShowGives t bytes) WroteNothing (Err (of_ppm fault)) had.taken has.taken
+    → WroteBy (ShowGives profile t bytes) WroteNothing (Err (of_ppm fault)) had.taken has.taken
 unfolding screen_text
-unwritten A t bytes d had has colours ppm.Write doc is put =
+unwritten A profile t bytes d had has colours ppm.Write doc is put =
     let w = t.choices.screen_width in let h = t.choices.screen_height in
     let rgb = subst (λ (cs : List Parts). IsTrue (are_rgb cs)) is put.0 in (
       take put.1.taken.0 (screen_text t (events_of d)),
       subst (λ (cs : List Parts). Appends had.taken has.taken (take put.1.taken.0 (ppm_text w h cs))) is put.1.taken.1,
-      written-begins t bytes d put.1.taken.0 doc rgb,
+      written-begins profile t bytes d put.1.taken.0 doc rgb,
     )
-unwritten A t bytes d had has colours ppm.NotRgb doc is put = (
+unwritten A profile t bytes d had has colours ppm.NotRgb doc is put = (
   [],
   (refl, (d, doc, subst (λ (cs : List Parts). IsFalse (are_rgb cs)) is put.0)),
   nothing-written had has put.1,
 )
-unwritten A t bytes d had has colours _ doc is put = absurd put
+unwritten A profile t bytes d had has colours _ doc is put = absurd put

@@ -20,13 +20,14 @@ use Rattle.sixel_model.specs.Positions.{earliest}
 use Rattle.sixel_model.specs.Rules.{raster_before}
 use Rattle.sixel_model.proofs.PositionLemmas.{option_or_assoc, option_or_none}
 use Rattle.sixel_terminal.specs.Displays.{Display}
-use Rattle.sixel_terminal.specs.Drawings.{Drawn as DrawnValue, HasDrawn, HasDrawnOn}
 use Rattle.sixel_terminal.proofs.FollowLemmas.{events_then}
 use Rattle.sixel_run.specs.declared.running.box_finder.BoxFinder.{BoxFinder}
 use Rattle.sixel_run.specs.declared.running.show_box.Stage.{Stage}
 use Rattle.sixel_run.specs.declared.running.show_box.Stage.TheVariants.{Undeclared, Drawn, Unshowable}
+use Rattle.sixel_run.specs.declared.running.watched.Watched.{Watched}
 use Rattle.sixel_run.specs.Boxes.{HasFound, HasRead, IsDrawnInBox, IsStageAfter, box_in}
 use Rattle.sixel_run.specs.Screens.{DeclareScreenIn, declared_screen, sides_of_box}
+use Rattle.sixel_run.specs.Watching.{HasWatched, HasWatchedOn}
 
 abbrev Sides : Type 0
 Sides = ℕ × ℕ
@@ -175,26 +176,26 @@ unfit-stays terminal old new all bytes more h read =
       );
     }
 
-pub drawn-now : (terminal : Sides → Display) (d : DrawnValue) (events : List Event) (width height : ℕ) (sides : Sides)
-    → Some (width, height) ≡ box_in events → Some sides ≡ sides_of_box width height → d.terminal ≡ terminal sides
-    → HasDrawn d events → IsDrawnInBox terminal d events
-drawn-now terminal d events width height sides found fit on drawn = record {
+pub drawn-now : (terminal : Sides → Display) (w : Watched) (events : List Event) (width height : ℕ) (sides : Sides)
+    → Some (width, height) ≡ box_in events → Some sides ≡ sides_of_box width height
+    → w.drawing.terminal ≡ terminal sides → HasWatched w events → IsDrawnInBox terminal w events
+drawn-now terminal w events width height sides found fit on watched = record {
   sides = sides;
   declared = declared-in events (Some (width, height)) found ∙ sym fit;
   on = on;
-  drawn = drawn;
+  watched = watched;
 }
 
-pub draws-on : (terminal : Sides → Display) (reader : Reader) (d : DrawnValue) (bytes : List ℕ)
-    → HasRead terminal reader (Drawn d) bytes → AreFollowed (HasDrawnOn d) reader d bytes
-draws-on terminal reader d bytes h = record { events = h.events; read = h.read; taken = (refl, h.taken.drawn) }
+pub watches-on : (terminal : Sides → Display) (reader : Reader) (w : Watched) (bytes : List ℕ)
+    → HasRead terminal reader (Drawn w) bytes → AreFollowed (HasWatchedOn w) reader w bytes
+watches-on terminal reader w bytes h = record { events = h.events; read = h.read; taken = (refl, h.taken.watched) }
 
-pub drawn-stays : (terminal : Sides → Display) (old new : Reader) (d e : DrawnValue) (bytes more : List ℕ)
-    → HasRead terminal old (Drawn d) bytes → FollowsBytes HasDrawnOn old d new e more
-    → HasRead terminal new (Drawn e) (bytes ++ more)
-drawn-stays terminal old new d e bytes more h draws =
+pub drawn-stays : (terminal : Sides → Display) (old new : Reader) (w v : Watched) (bytes more : List ℕ)
+    → HasRead terminal old (Drawn w) bytes → FollowsBytes HasWatchedOn old w new v more
+    → HasRead terminal new (Drawn v) (bytes ++ more)
+drawn-stays terminal old new w v bytes more h watches =
     let box = h.taken in
-    let a = draws d bytes (draws-on terminal old d bytes h) in
+    let a = watches w bytes (watches-on terminal old w bytes h) in
     let same = box-stays old new h.events a.events bytes more h.read a.read
     (has-box (events_of h.events) box.sides box.declared) in
     record {
@@ -204,7 +205,7 @@ drawn-stays terminal old new d e bytes more h draws =
         sides = box.sides;
         declared = screen-stays (events_of h.events) (events_of a.events) same ∙ box.declared;
         on = a.taken.0 ∙ box.on;
-        drawn = a.taken.1;
+        watched = a.taken.1;
       };
     }
 
@@ -216,23 +217,23 @@ nothing-taken (Some bytes) = refl
 
 -- without a drawing there is no screen
 pub no-screen : (terminal : Sides → Display) (stage : Stage) (events : List Event) (bytes : List ℕ)
-    → ((d : DrawnValue) → stage ≡ Drawn d → ⊥) → IsStageAfter terminal stage events bytes
+    → ((w : Watched) → stage ≡ Drawn w → ⊥) → IsStageAfter terminal stage events bytes
     → declared_screen events ≡ None
 no-screen terminal (Undeclared kept) events bytes undrawn h = declared-in events None (sym h.1)
-no-screen terminal (Drawn d) events bytes undrawn h = absurd (undrawn d refl)
+no-screen terminal (Drawn w) events bytes undrawn h = absurd (undrawn w refl)
 no-screen terminal Unshowable events bytes undrawn h = h.1
 
 -- ---- bytes that are drawn from the beginning, on the same terminal
 
 -- a drawing of nothing
-pub draws-none : (reader : Reader) (d : DrawnValue) → StandsAfter reader [] [] → HasDrawn d []
-    → AreFollowed (HasDrawnOn d) reader d []
-draws-none reader d start none = record { events = []; read = start; taken = (refl, none) }
+pub watches-none : (reader : Reader) (w : Watched) → StandsAfter reader [] [] → HasWatched w []
+    → AreFollowed (HasWatchedOn w) reader w []
+watches-none reader w start none = record { events = []; read = start; taken = (refl, none) }
 
-pub drawn-all : (reader : Reader) (d f : DrawnValue) (bytes : List ℕ) → AreFollowed (HasDrawnOn d) reader f bytes
-    → (events : List Placed) → CompleteIn events bytes → HasDrawn f (events_of events)
-drawn-all reader d f bytes a events complete =
-    subst (λ (es : List Placed). HasDrawn f (events_of es))
+pub watched-all : (reader : Reader) (w v : Watched) (bytes : List ℕ) → AreFollowed (HasWatchedOn w) reader v bytes
+    → (events : List Placed) → CompleteIn events bytes → HasWatched v (events_of events)
+watched-all reader w v bytes a events complete =
+    subst (λ (es : List Placed). HasWatched v (events_of es))
     (complete_once bytes a.events events (read_complete reader a.events bytes a.read) complete) a.taken.1
 
 -- ---- memory

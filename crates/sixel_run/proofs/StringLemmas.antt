@@ -1,8 +1,8 @@
 -- The strings of a stream and their reports: a stream has one list of both.
-use Rattle.std.proofs.Common.{◌≡◌, ◌∙◌, ◌≤◌, ℕ, Bool, true, false, List, [], ◌∷◌, ◌++◌, length, take, Option, Some}
+use Rattle.std.proofs.Common.{◌≡◌, ◌∙◌, ◌≤◌, ℕ, Bool, List, [], ◌∷◌, ◌++◌, length, take, Option, Some}
 use Rattle.std.proofs.Common.{None, ap, ap₂, append_assoc, arith, inl, inr, map, refl, subst, sym}
-use Rattle.std.specs.List.{concat, list_all}
-use Rattle.std.specs.Prelude.{◌+◌, Result, Ok, Err, flat_map, if◌then◌else◌}
+use Rattle.std.specs.List.{AllByRecursion, concat}
+use Rattle.std.specs.Prelude.{◌+◌, Result, Ok, Err, flat_map}
 use Rattle.std.proofs.lemmas.List.{append-nil, length-take, map-append}
 use Rattle.std.proofs.lemmas.Grind.{flat_map-append}
 use Rattle.sixel_grammar.specs.declared.fault.Fault.{Fault}
@@ -20,7 +20,9 @@ use Rattle.sixel_scan.specs.declared.answer.Scanned.{Scanned}
 use Rattle.sixel_scan.specs.Answers.{IsReported, Tells, as_checked}
 use Rattle.sixel_scan.specs.Standing.{AreReported}
 use Rattle.sixel_scan.specs.Strings.{AreStrings, StringAt}
+use Rattle.sixel_scan.specs.Wrapping.{AreMarked, IsMarked}
 use Rattle.sixel_scan.proofs.GivenLemmas.{ended_of}
+use Rattle.sixel_scan.proofs.MarkLemmas.{marked_more}
 use Rattle.sixel_scan.proofs.StringLemmas.{none_in_nothing, one_list, some_strings}
 use Rattle.sixel_scan.proofs.TellLemmas.{stream_begins}
 use Rattle.sixel_run.specs.declared.fault.RunFault.{RunFault}
@@ -28,12 +30,12 @@ use Rattle.sixel_run.specs.declared.fault.RunFault.TheVariants as run
 use Rattle.sixel_run.specs.declared.item.Item.{Item}
 use Rattle.sixel_run.specs.declared.item.Item.TheVariants.{String}
 use Rattle.sixel_run.specs.declared.task.Status.{Status}
-use Rattle.sixel_run.specs.declared.task.Status.TheVariants as status
 use Rattle.sixel_run.specs.Outputs.{ScanGives}
 use Rattle.sixel_run.specs.Scanned.{AreBeforeAllocation, AreOfFirst, AreOfGiven, answer_of_strings}
-use Rattle.sixel_run.specs.Scanned.{is_portable, scan_text, stream_of}
+use Rattle.sixel_run.specs.Scanned.{scan_text, stream_of}
 use Rattle.sixel_run.specs.Texts.{Text, BeginsWith, item_line, items_text}
 use Rattle.sixel_run.proofs.CheckLemmas.{same_verdict}
+use Rattle.sixel_run.proofs.WrappingLemmas.{mark_once, strings_within, wrapped_or_not}
 
 -- ---- the answer for the bytes of a string
 
@@ -83,51 +85,63 @@ told_so place (Err fault) answer is = is
 
 -- ---- the report of a string
 
-report_exists : (registers : ℕ) (s : StringAt) → (r : Scanned) × IsReported registers s r
-report_exists registers s =
-    let c = answer_exists registers s.bytes in (
-      record { place = s.place; answer = told_as s.place c.0 },
+-- a report of the string, marked in these bytes
+report_exists : (registers : ℕ) (bytes : List ℕ) (s : StringAt) → s.place ≤ length bytes
+    → (r : Scanned) × IsReported registers s r × IsMarked bytes r
+report_exists registers bytes s within =
+    let c = answer_exists registers s.bytes in
+    let w = wrapped_or_not (take s.place bytes) in (
+      record { place = s.place; answer = told_as s.place c.0; wrapped = w.0 },
       record { place = refl; checked = c.0; answers = c.1; tells = tells_so s.place c.0 },
+      record { within = within; marked = w.1 },
     )
 
-report_once : (registers : ℕ) (s : StringAt) (r t : Scanned) → IsReported registers s r → IsReported registers s t
-    → r ≡ t
-report_once registers s r t p q =
+report_once : (registers : ℕ) (bytes : List ℕ) (s : StringAt) (r t : Scanned) → IsReported registers s r
+    → IsReported registers s t → IsMarked bytes r → IsMarked bytes t → r ≡ t
+report_once registers bytes s r t p q m n =
     let same = answer_once registers s.bytes p.checked q.checked p.answers q.answers in
     let answer : r.answer ≡ t.answer =
     told_so s.place p.checked r.answer p.tells ∙ ap (told_as s.place) same
     ∙ sym (told_so s.place q.checked t.answer q.tells) in
-    ap₂ (λ (n : ℕ) (a : Answer). let k : Scanned = record { place = n; answer = a } in k) (p.place ∙ sym q.place) answer
+    let place : r.place ≡ t.place = p.place ∙ sym q.place in
+    ap₂ (λ (n : ℕ) (a : Answer). let k : Scanned = record { place = n; answer = a; wrapped = r.wrapped } in k) place
+    answer
+    ∙ ap (λ (w : Bool). let k : Scanned = record { place = t.place; answer = t.answer; wrapped = w } in k)
+    (mark_once bytes r t place m n)
 
-reports_exist : (registers : ℕ) (strings : List StringAt)
-    → (reports : List Scanned) × AreReported registers strings reports
-reports_exist registers [] = ([], tt)
-reports_exist registers (s ∷ more) =
-    let first = report_exists registers s in
-    let rest = reports_exist registers more in
-    (first.0 ∷ rest.0, (first.1, rest.1))
+reports_exist : (registers : ℕ) (bytes : List ℕ) (strings : List StringAt)
+    → AllByRecursion (λ s. s.place ≤ length bytes) strings
+    → (reports : List Scanned) × AreReported registers strings reports × AreMarked bytes reports
+reports_exist registers bytes [] within = ([], tt, tt)
+reports_exist registers bytes (s ∷ more) within =
+    let first = report_exists registers bytes s within.0 in
+    let rest = reports_exist registers bytes more within.1 in
+    (first.0 ∷ rest.0, (first.1, rest.1), (first.2, rest.2))
 
 -- the reports of more strings begin with those of the first
-reports_begin : (registers : ℕ) (xs ys : List StringAt) (rs ts : List Scanned) → AreReported registers xs rs
-    → AreReported registers (xs ++ ys) ts → (more : List Scanned) × (ts ≡ rs ++ more)
-reports_begin registers [] ys [] ts p q = (ts, refl)
-reports_begin registers [] ys (r ∷ rs) ts p q = absurd p
-reports_begin registers (x ∷ xs) ys [] ts p q = absurd p
-reports_begin registers (x ∷ xs) ys (r ∷ rs) [] p q = absurd q
-reports_begin registers (x ∷ xs) ys (r ∷ rs) (t ∷ ts) p q =
-    let rest = reports_begin registers xs ys rs ts p.1 q.1 in
-    (rest.0, ap₂ (λ (h : Scanned) (l : List Scanned). h ∷ l) (report_once registers x t r q.0 p.0) rest.1)
+reports_begin : (registers : ℕ) (bytes : List ℕ) (xs ys : List StringAt) (rs ts : List Scanned)
+    → AreReported registers xs rs → AreReported registers (xs ++ ys) ts → AreMarked bytes rs → AreMarked bytes ts
+    → (more : List Scanned) × (ts ≡ rs ++ more)
+reports_begin registers bytes [] ys [] ts p q m n = (ts, refl)
+reports_begin registers bytes [] ys (r ∷ rs) ts p q m n = absurd p
+reports_begin registers bytes (x ∷ xs) ys [] ts p q m n = absurd p
+reports_begin registers bytes (x ∷ xs) ys (r ∷ rs) [] p q m n = absurd q
+reports_begin registers bytes (x ∷ xs) ys (r ∷ rs) (t ∷ ts) p q m n =
+    let rest = reports_begin registers bytes xs ys rs ts p.1 q.1 m.1 n.1 in (
+      rest.0,
+      ap₂ (λ (h : Scanned) (l : List Scanned). h ∷ l) (report_once registers bytes x t r q.0 p.0 n.0 m.0) rest.1,
+    )
 
-reports_once : (registers : ℕ) (xs : List StringAt) (rs ts : List Scanned) → AreReported registers xs rs
-    → AreReported registers xs ts → rs ≡ ts
-reports_once registers [] [] [] p q = refl
-reports_once registers [] [] (t ∷ ts) p q = absurd q
-reports_once registers [] (r ∷ rs) ts p q = absurd p
-reports_once registers (x ∷ xs) [] ts p q = absurd p
-reports_once registers (x ∷ xs) (r ∷ rs) [] p q = absurd q
-reports_once registers (x ∷ xs) (r ∷ rs) (t ∷ ts) p q =
-    ap₂ (λ (h : Scanned) (l : List Scanned). h ∷ l) (report_once registers x r t p.0 q.0)
-    (reports_once registers xs rs ts p.1 q.1)
+reports_once : (registers : ℕ) (bytes : List ℕ) (xs : List StringAt) (rs ts : List Scanned)
+    → AreReported registers xs rs → AreReported registers xs ts → AreMarked bytes rs → AreMarked bytes ts → rs ≡ ts
+reports_once registers bytes [] [] [] p q m n = refl
+reports_once registers bytes [] [] (t ∷ ts) p q m n = absurd q
+reports_once registers bytes [] (r ∷ rs) ts p q m n = absurd p
+reports_once registers bytes (x ∷ xs) [] ts p q m n = absurd p
+reports_once registers bytes (x ∷ xs) (r ∷ rs) [] p q m n = absurd q
+reports_once registers bytes (x ∷ xs) (r ∷ rs) (t ∷ ts) p q m n =
+    ap₂ (λ (h : Scanned) (l : List Scanned). h ∷ l) (report_once registers bytes x r t p.0 q.0 m.0 n.0)
+    (reports_once registers bytes xs rs ts p.1 q.1 m.1 n.1)
 
 pub reports_join : (registers : ℕ) (xs ys : List StringAt) (rs ts : List Scanned) → AreReported registers xs rs
     → AreReported registers ys ts → AreReported registers (xs ++ ys) (rs ++ ts)
@@ -144,16 +158,20 @@ pub scan-once : (eight : Bool) (registers : ℕ) (bytes : List ℕ) (first secon
 scan-once eight registers bytes first second a b g h =
     let strings = one_list eight g.1.strings h.1.strings (stream_of bytes) g.1.are h.1.are in
     let same : g.0 ≡ h.0 =
-    reports_once registers h.1.strings g.0 h.0
-    (subst (λ (s : List StringAt). AreReported registers s g.0) strings g.1.reported) h.1.reported in
+    reports_once registers (stream_of bytes) h.1.strings g.0 h.0
+    (subst (λ (s : List StringAt). AreReported registers s g.0) strings g.1.reported) h.1.reported g.1.marked h.1.marked
+    in
     (g.2 ∙ ap scan_text same ∙ sym h.2, g.3 ∙ ap answer_of_strings same ∙ sym h.3)
 
 pub scan-gives : (eight : Bool) (registers : ℕ) (bytes : List ℕ)
     → (text : Text) × (answer : Result Status RunFault) × ScanGives eight registers bytes text answer
 scan-gives eight registers bytes =
     let s = some_strings eight (stream_of bytes) in
-    let r = reports_exist registers s.0 in
-    (scan_text r.0, answer_of_strings r.0, (r.0, record { strings = s.0; are = s.1; reported = r.1 }, refl, refl))
+    let r = reports_exist registers (stream_of bytes) s.0 (strings_within eight 0 s.0 (stream_of bytes) (length (stream_of bytes)) (omega arith) s.1) in (
+      scan_text r.0,
+      answer_of_strings r.0,
+      (r.0, record { strings = s.0; are = s.1; reported = r.1; marked = r.2 }, refl, refl),
+    )
 
 -- ---- the first strings
 
@@ -168,8 +186,8 @@ pub scan-begins : (eight : Bool) (registers : ℕ) (bytes : List ℕ) (reports :
     → BeginsWith text (scan_text reports)
 scan-begins eight registers bytes reports f text answer g =
     let strings = one_list eight g.1.strings (f.strings ++ f.rest) (stream_of bytes) g.1.are f.are in
-    let more = reports_begin registers f.strings f.rest reports g.0 f.reported
-    (subst (λ (s : List StringAt). AreReported registers s g.0) strings g.1.reported) in
+    let more = reports_begin registers (stream_of bytes) f.strings f.rest reports g.0 f.reported
+    (subst (λ (s : List StringAt). AreReported registers s g.0) strings g.1.reported) f.marked g.1.marked in
     (scan_text more.0, g.2 ∙ ap scan_text more.1 ∙ text_joins reports more.0)
 
 -- the strings of the bytes given are the first
@@ -184,6 +202,8 @@ given_first eight registers bytes (Some rest) reports g =
       rest = all.0;
       are = subst (AreStrings eight (g.strings ++ all.0)) (sym (ap stream_of g.consumed ∙ begins.1)) all.1;
       reported = g.reported;
+      marked = subst (λ (t : List ℕ). AreMarked t reports) (sym (ap stream_of g.consumed ∙ begins.1))
+          (marked_more g.given begins.0 reports g.marked);
     }
 
 -- so are those before one in which a checker may allocate
@@ -198,6 +218,7 @@ before_first eight registers bytes reports b =
       rest = all.0;
       are = subst (AreStrings eight (b.strings ++ all.0)) (sym grows.2) all.1;
       reported = b.reported;
+      marked = b.marked;
     }
 
 -- no bytes were given
@@ -209,19 +230,14 @@ none_given eight registers bytes = record {
   strings = [];
   are = record { ended = λ more. some_strings eight more; all = inl (none_in_nothing eight) };
   reported = tt;
+  marked = tt;
 }
-
-either_status : (all : Bool) (f : Fault)
-    → (let r : Result Status RunFault = Err (run.Grammar f) in r) ≡ (if all then Ok status.Done else Ok status.Unfit)
-    → ⊥
-either_status true f is = cc
-either_status false f is = cc
 
 -- the answer of a scan is no fault of the grammar
 pub not_a_fault : (reports : List Scanned) (f : Fault)
     → (let r : Result Status RunFault = Err (run.Grammar f) in r) ≡ answer_of_strings reports → ⊥
 not_a_fault [] f is = cc
-not_a_fault (s ∷ more) f is = either_status (list_all is_portable (s ∷ more)) f is
+not_a_fault (s ∷ more) f is = cc
 
 pub short_take : (n : ℕ) (xs : List ℕ) → length (take n xs) ≤ n
 short_take n xs = omega (arith, length-take n xs)

@@ -99,7 +99,8 @@ status_is registers bytes events survey (status.Broken f) doc is first = (
       (first_is_verdict registers events bytes survey first.0 doc is first.1),
   refl,
 )
-status_is registers bytes events survey status.Unfit doc is never = absurd never
+status_is registers bytes events survey (status.Noted note) doc is never = absurd never
+status_is registers bytes events survey (status.Unfit wrapped) doc is never = absurd never
 
 pub surveyed : (registers : ℕ) (told : Option (List ℕ)) (survey : Survey) (s : Status)
     → IfSome told (Answers registers (Ok survey)) → IsStatusOf survey s

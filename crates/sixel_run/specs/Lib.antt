@@ -2,9 +2,11 @@ pub mod Texts
 pub mod SixelLines
 pub mod Conversions
 pub mod Screens
+pub mod Notes
 pub mod Scanned
 pub mod Outputs
 pub mod LineTasks
+pub mod Watching
 pub mod Boxes
 pub mod Listings
 pub mod Laws

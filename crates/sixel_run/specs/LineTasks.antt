@@ -10,7 +10,7 @@ use Rattle.sixel_run.specs.declared.fault.RunFault.{RunFault}
 use Rattle.sixel_run.specs.declared.fault.RunFault.TheVariants.{OutOfMemory, Read, Write}
 use Rattle.sixel_run.specs.declared.item.Item.{Item}
 use Rattle.sixel_run.specs.declared.task.Status.{Status}
-use Rattle.sixel_run.specs.declared.task.Status.TheVariants.{Done, Broken, Unfit}
+use Rattle.sixel_run.specs.declared.task.Status.TheVariants.{Done, Broken, Noted, Unfit}
 use Rattle.sixel_run.specs.declared.task.Task.{Task}
 use Rattle.sixel_run.specs.declared.task.Task.TheVariants.{Check, Scan, Survey}
 use Rattle.sixel_run.specs.Outputs.{CountsWrites, TakesMemory, Wrote, failures_by}
@@ -71,4 +71,5 @@ pub record WritesItems (t : Task) (written : Item → Text) (answer : Result Sta
 abbrev pub IsStatusOf : ASurvey → Status → Type 0
 IsStatusOf survey Done = survey.entries.items ≡ []
 IsStatusOf survey (Broken finding) = IsFirstFinding survey.entries.items finding
-IsStatusOf survey Unfit = ⊥
+IsStatusOf survey (Noted note) = ⊥
+IsStatusOf survey (Unfit wrapped) = ⊥

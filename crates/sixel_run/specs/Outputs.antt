@@ -1,8 +1,9 @@
 -- What a run writes and answers.
-use Rattle.std.specs.Prelude.{◌≡◌, ◌⊎◌, ℕ, Bool, List, [], ◌≤◌, length, take, Option, Some, None, IfSome, IsTrue}
+use Rattle.std.specs.Prelude.{◌≡◌, ◌⊎◌, ◌==◌, ℕ, Bool, List, [], ◌≤◌, length, take, Option, Some, None, IfSome, IsTrue}
 use Rattle.std.specs.Prelude.{IsFalse}
 use Rattle.std.specs.Prelude.{Result, Ok, Err, if◌then◌else◌}
 use Rattle.std.specs.Io.KnownBytes.{Appends, Consumes}
+use Rattle.std.specs.List.{list_all}
 use Rattle.sixel_grammar.specs.declared.command.Placed.{Placed}
 use Rattle.sixel_io.specs.Devices.{one_more}
 use Rattle.sixel_grammar.specs.Document.{Document, IsDocument, events_of, most_bytes}
@@ -13,6 +14,7 @@ use Rattle.sixel_ppm.specs.declared.ppm.PpmFault.{PpmFault}
 use Rattle.sixel_model.specs.Pictures.{PictureValue}
 use Rattle.sixel_model.specs.Profiles.{count_of}
 use Rattle.sixel_model.specs.declared.colour.Parts.{Parts}
+use Rattle.sixel_model.specs.declared.profile.Profile.{Profile}
 use Rattle.sixel_ppm.specs.Ppm.{are_rgb, colours_of, is_file_side, ppm_text}
 use Rattle.sixel_ppm.specs.PpmReading.{HasWholeHeader, NoPpmFaultBefore, ppm_read}
 use Rattle.sixel_terminal.specs.Displays.{Display}
@@ -36,13 +38,15 @@ use Rattle.sixel_run.specs.declared.fault.RunFault.{RunFault}
 use Rattle.sixel_run.specs.declared.fault.RunFault.TheVariants.{Grammar, NotRgb, NoBox, OutOfMemory, Read, Write}
 use Rattle.sixel_run.specs.declared.task.Status.{Status}
 use Rattle.sixel_run.specs.declared.task.Status.TheVariants as status
-use Rattle.sixel_run.specs.declared.task.Status.TheVariants.{Done}
+use Rattle.sixel_run.specs.declared.task.Note.TheVariants.{OneColour}
+use Rattle.sixel_run.specs.declared.task.Status.TheVariants.{Done, Noted}
 use Rattle.sixel_run.specs.declared.task.Task.{Task}
 use Rattle.sixel_run.specs.declared.task.Task.TheVariants.{List as Listing, Check, Survey, Render, Show, ShowBox}
 use Rattle.sixel_run.specs.declared.task.Task.TheVariants.{Encode}
 use Rattle.sixel_run.specs.declared.task.Task.TheVariants.{Mend, Scan}
 use Rattle.sixel_run.specs.Scanned.{AreBeforeAllocation, AreOfGiven, AreOfStream, MayGrowInString, answer_of_strings}
 use Rattle.sixel_run.specs.Scanned.{scan_text}
+use Rattle.sixel_run.specs.Notes.{shown_status}
 use Rattle.sixel_run.specs.Screens.{DeclareScreenIn, declared_screen, screen_terminal, screen_text, show_choices}
 use Rattle.sixel_run.specs.Screens.{show_terminal}
 use Rattle.sixel_run.specs.Texts.{Text, BeginsWith, list_text, survey_text, verdict_line}
@@ -151,9 +155,17 @@ EncodeGives registers bytes text answer = (text, answer) ≡ encode_output (ppm_
 
 -- ---- mended strings
 
+-- whether all pixels of a mended picture have one colour: it has a register for each colour, and the first pixel has 0
+abbrev pub has_one_colour : PictureValue → Bool
+has_one_colour p = list_all (λ register. register == 0) p.registers
+
+-- the status of this mended picture
+abbrev pub mended_status : PictureValue → Status
+mended_status p = if has_one_colour p then Noted OneColour else Done
+
 -- for a mended picture its canonical text; else the fault, and no text
 abbrev pub mend_output : Result PictureValue MendFault → Text × Result Status RunFault
-mend_output (Ok picture) = (canon_text picture, Ok Done)
+mend_output (Ok picture) = (canon_text picture, Ok (mended_status picture))
 mend_output (Err fault) = ([], Err (of_mend fault))
 
 -- for a document the mend_output of its mended picture, in the profile with this many registers, or of the first reason
@@ -167,27 +179,27 @@ MendGives registers m bytes text answer =
 
 -- ---- screens
 
--- for a document the PPM of the terminal's screen after it, or NotRgb and no text if some colour on it isn't RGB; for
--- other bytes their fault, and no text
-abbrev pub ShowGives : Display → List ℕ → Text → Result Status RunFault → Type 0
-ShowGives t bytes text (Ok status) = (status ≡ Done)
-    × ((events : List Placed) × Document events bytes × IsTrue (are_rgb (screen_on t (events_of events)))
-    × (text ≡ screen_text t (events_of events)))
-ShowGives t bytes text (Err NotRgb) = (text ≡ [])
+-- for a document the PPM of the terminal's screen after it, and the status of its show in the profile, or NotRgb and no
+-- text if some colour on the screen isn't RGB; for other bytes their fault, and no text
+abbrev pub ShowGives : Profile → Display → List ℕ → Text → Result Status RunFault → Type 0
+ShowGives profile t bytes text (Ok status) =
+    (events : List Placed) × Document events bytes × IsTrue (are_rgb (screen_on t (events_of events)))
+    × (text ≡ screen_text t (events_of events)) × (status ≡ shown_status profile (events_of events))
+ShowGives profile t bytes text (Err NotRgb) = (text ≡ [])
     × ((events : List Placed) × Document events bytes × IsFalse (are_rgb (screen_on t (events_of events))))
-ShowGives t bytes text (Err (Grammar fault)) = (text ≡ []) × IsFaultOf bytes fault
-ShowGives t bytes text (Err fault) = ⊥
+ShowGives profile t bytes text (Err (Grammar fault)) = (text ≡ []) × IsFaultOf bytes fault
+ShowGives profile t bytes text (Err fault) = ⊥
 
 -- for a document what the terminal with a screen of the size of the declared box gives; NoBox and no text if no box is
 -- declared, or no screen can have its size; for other bytes their fault, and no text
-abbrev pub ShowBoxGives : (ℕ × ℕ → Display) → List ℕ → Text → Result Status RunFault → Type 0
-ShowBoxGives terminal bytes text (Err NoBox) = (text ≡ [])
+abbrev pub ShowBoxGives : Profile → (ℕ × ℕ → Display) → List ℕ → Text → Result Status RunFault → Type 0
+ShowBoxGives profile terminal bytes text (Err NoBox) = (text ≡ [])
     × ((events : List Placed) × Document events bytes × (declared_screen (events_of events) ≡ None))
-ShowBoxGives terminal bytes text (Err (Grammar fault)) = (text ≡ []) × IsFaultOf bytes fault
-ShowBoxGives terminal bytes text answer =
+ShowBoxGives profile terminal bytes text (Err (Grammar fault)) = (text ≡ []) × IsFaultOf bytes fault
+ShowBoxGives profile terminal bytes text answer =
     (events : List Placed) × Document events bytes
     × ((sides : ℕ × ℕ) × (declared_screen (events_of events) ≡ Some sides)
-    × ShowGives (terminal sides) bytes text answer)
+    × ShowGives profile (terminal sides) bytes text answer)
 
 -- ---- tasks
 
@@ -211,9 +223,9 @@ Gives (Encode profile) bytes text answer = EncodeGives (count_of profile) bytes 
 Gives (Mend profile background showing selects) bytes text answer =
     MendGives (count_of profile) (mending background showing selects) bytes text answer
 Gives (Show profile showing fill selects width height) bytes text answer =
-    ShowGives (show_terminal profile (show_choices showing fill selects width height)) bytes text answer
+    ShowGives profile (show_terminal profile (show_choices showing fill selects width height)) bytes text answer
 Gives (ShowBox profile showing fill selects) bytes text answer =
-    ShowBoxGives (screen_terminal profile showing fill selects) bytes text answer
+    ShowBoxGives profile (screen_terminal profile showing fill selects) bytes text answer
 
 -- nothing was appended to what the sink `had`
 abbrev pub WroteNothing : Option (List ℕ) → Option (List ℕ) → Type 0

@@ -1,8 +1,8 @@
 -- What a scan finds in a stream, and what it answers.
 use Rattle.std.specs.Prelude.{◌≡◌, ◌≤◌, ◌++◌, ℕ, Bool, true, false, List, [], ◌∷◌, length, map, take, Option, Some}
-use Rattle.std.specs.Prelude.{Result, Ok, Err, if◌then◌else◌}
+use Rattle.std.specs.Prelude.{◌||◌, Result, Ok, Err, if◌then◌else◌}
 use Rattle.std.specs.Io.KnownBytes.{Consumes}
-use Rattle.std.specs.List.{list_all}
+use Rattle.std.specs.List.{list_all, list_any}
 use Rattle.sixel_scan.specs.declared.answer.Answer.{Answer}
 use Rattle.sixel_scan.specs.declared.answer.Answer.TheVariants.{Portable, Broken, Refused}
 use Rattle.sixel_scan.specs.declared.answer.Scanned.{Scanned}
@@ -10,10 +10,12 @@ use Rattle.sixel_scan.specs.Prefixes.{AreGiven}
 use Rattle.sixel_scan.specs.Scans.{GrowsWithin, longest_stream}
 use Rattle.sixel_scan.specs.Standing.{AreReported}
 use Rattle.sixel_scan.specs.Strings.{AreStrings, StringAt}
+use Rattle.sixel_scan.specs.Wrapping.{AreMarked}
 use Rattle.sixel_run.specs.declared.fault.RunFault.{RunFault}
 use Rattle.sixel_run.specs.declared.fault.RunFault.TheVariants.{NoString, OutOfMemory, Read, Write}
 use Rattle.sixel_run.specs.declared.task.Status.{Status}
-use Rattle.sixel_run.specs.declared.task.Status.TheVariants.{Done, Unfit}
+use Rattle.sixel_run.specs.declared.task.Note.TheVariants.{Wrapped}
+use Rattle.sixel_run.specs.declared.task.Status.TheVariants.{Done, Noted, Unfit}
 use Rattle.sixel_run.specs.declared.item.Item.TheVariants.{String}
 use Rattle.sixel_run.specs.Texts.{Text, items_text}
 
@@ -34,21 +36,35 @@ is_portable_answer (Refused fault) = false
 abbrev pub is_portable : Scanned → Bool
 is_portable s = is_portable_answer s.answer
 
--- the answer on these strings: NoString if there are none; Done if each is portable, otherwise Unfit
+-- the string stands in the pass-through of tmux or GNU Screen
+abbrev pub is_wrapped : Scanned → Bool
+is_wrapped s = s.wrapped
+
+-- the status where this says whether each string is portable, and this whether one of them is wrapped: Done if each is
+-- portable, with a note if one is wrapped; otherwise Unfit, which says whether one is
+abbrev pub status_where : Bool → Bool → Status
+status_where portable wrapped =
+    if portable then (if wrapped then Noted Wrapped else Done) else Unfit wrapped
+
+-- the answer on these strings; NoString if there are none
 abbrev pub answer_of_strings : List Scanned → Result Status RunFault
 answer_of_strings [] = Err NoString
-answer_of_strings (s ∷ more) = if list_all is_portable (s ∷ more) then Ok Done else Ok Unfit
+answer_of_strings (s ∷ more) =
+    Ok (status_where (list_all is_portable (s ∷ more)) (list_any is_wrapped (s ∷ more)))
 
 -- the answer with one more string
 abbrev pub answer_with : Result Status RunFault → Scanned → Result Status RunFault
-answer_with (Ok Unfit) s = Ok Unfit
-answer_with answer s = if is_portable s then Ok Done else Ok Unfit
+answer_with (Ok (Unfit wrapped)) s = Ok (Unfit (wrapped || s.wrapped))
+answer_with (Ok (Noted Wrapped)) s = Ok (status_where (is_portable s) true)
+answer_with answer s = Ok (status_where (is_portable s) s.wrapped)
 
--- the reports are of the strings of the stream, as a check with this many registers answers for the bytes of each
+-- the reports are of the strings of the stream, as a check with this many registers answers for the bytes of each, and
+-- say whether each is wrapped
 pub record AreOfStream (eight : Bool) (registers : ℕ) (bytes : List ℕ) (reports : List Scanned) : Type 0 where
   pub strings : List StringAt
   pub are : AreStrings eight strings (stream_of bytes)
   pub reported : AreReported registers strings reports
+  pub marked : AreMarked (stream_of bytes) reports
 
 -- the reports are of the strings of the bytes given so far, those before `left`, without one that ends only because
 -- these bytes do
@@ -60,12 +76,14 @@ pub record AreOfGiven (eight : Bool) (registers : ℕ) (bytes : List ℕ) (left 
   pub strings : List StringAt
   pub are : AreGiven eight strings given
   pub reported : AreReported registers strings reports
+  pub marked : AreMarked given reports
 
 -- the reports are of the strings before one in which a checker may allocate
 pub record AreBeforeAllocation (eight : Bool) (registers : ℕ) (bytes : List ℕ) (reports : List Scanned) : Type 0 where
   pub strings : List StringAt
   pub grows : GrowsWithin eight registers strings (stream_of bytes)
   pub reported : AreReported registers strings reports
+  pub marked : AreMarked (stream_of bytes) reports
 
 -- the reports are of the first strings of the stream
 pub record AreOfFirst (eight : Bool) (registers : ℕ) (bytes : List ℕ) (reports : List Scanned) : Type 0 where
@@ -73,6 +91,7 @@ pub record AreOfFirst (eight : Bool) (registers : ℕ) (bytes : List ℕ) (repor
   pub rest : List StringAt
   pub are : AreStrings eight (strings ++ rest) (stream_of bytes)
   pub reported : AreReported registers strings reports
+  pub marked : AreMarked (stream_of bytes) reports
 
 -- a scan of these bytes, of which `left` is unread, may have found these strings if it answers so. Read, OutOfMemory:
 -- those told before the failure; Write: up to the one whose line couldn't be written; any other answer: all

@@ -15,11 +15,11 @@ mod task;
 pub use fault::RunFault;
 pub use item::{Item, item_line};
 pub use lines::{
-    Line, fault_line, finding_line, outcome_line, reason_name, rule_name, verdict_line,
-    write_fault, write_finding, write_verdict,
+    Line, fault_line, finding_line, outcome_line, ppm_reason_name, reason_name, rule_name,
+    verdict_line, write_fault, write_finding, write_verdict,
 };
 pub use put_item::{Plain, PutItem};
 pub use running::{run, write_lines};
 pub use string_lines::{StringLine, string_line};
 pub use survey_lines::{entry_line, size_line};
-pub use task::{MOST_SCREEN_SIDE, Status, Task};
+pub use task::{MOST_SCREEN_SIDE, Note, Status, Task};

@@ -149,7 +149,8 @@ pub fn reason_name(reason: Reason) -> &'static str
     }
 }
 
-fn ppm_reason_name(reason: PpmReason) -> &'static str
+/// The name of a reason for no PPM, as lines have it.
+pub fn ppm_reason_name(reason: PpmReason) -> &'static str
     ensures text { result.now ≡ ppm_reason_name reason }
     ensures short { length result.now ≤ 14 }
 {

@@ -19,6 +19,7 @@ mod screen;
 mod show;
 mod show_box;
 mod survey;
+mod watched;
 
 use crate::fault::RunFault;
 use crate::put_item::{Plain, PutItem};

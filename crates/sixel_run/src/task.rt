@@ -77,13 +77,29 @@ pub enum Task {
     },
 }
 
+/// What may surprise in a task that is done.
+#[derive(Clone, Copy, Debug, PartialEq, Eq)]
+pub enum Note {
+    /// All pixels of a mended picture have one colour.
+    OneColour,
+    /// A string to show names a register that the profile of 16 doesn't have.
+    HighRegister,
+    /// A string of a stream stands in the pass-through of tmux or GNU Screen.
+    Wrapped,
+}
+
 /// How a task ended that wasn't refused.
 #[derive(Clone, Copy, Debug, PartialEq, Eq)]
 pub enum Status {
     /// The task is done; for a check or a survey, no rule is broken; for a scan, each string is portable.
     Done,
+    /// The same, and something may surprise.
+    Noted(Note),
     /// The picture isn't portable: its first broken rule.
     Broken(Finding),
     /// A string of the stream isn't portable.
-    Unfit,
+    Unfit {
+        /// A string of the stream, perhaps another, stands in the pass-through of tmux or GNU Screen.
+        wrapped: bool,
+    },
 }

@@ -9,7 +9,7 @@ use sixel_io::{SliceSink, SliceSource};
 use sixel_model::{Colour, Picture, Profile};
 use sixel_plane::{BandPlane, BytePlane, Cover};
 use sixel_ppm::{PpmFault, read_ppm};
-use sixel_run::{RunFault, Status, Task, run};
+use sixel_run::{Note, RunFault, Status, Task, run};
 use std::alloc::{AllocError, Global};
 use std::test::Fail;
 
@@ -54,11 +54,18 @@ fn checks(alloc: Global, profile: Profile) -> Option<bool> {
 fn runs(alloc: Global, task: Task, text: &[u8]) -> Option<bool>
     requires { HasSides task }
 {
+    ends(alloc, task, Status::Done, text)
+}
+
+/// Whether a run over the pixel has this status and writes this text; `None`: no memory.
+fn ends(alloc: Global, task: Task, ended: Status, text: &[u8]) -> Option<bool>
+    requires { HasSides task }
+{
     let mut room = [0; 32];
     let mut input = SliceSource::new(PIXEL, 64, None);
     let mut output = SliceSink::new(&mut room, 64, None);
     match run(alloc, task, &mut input, &mut output) {
-        Ok(status) => Some(status == Status::Done && output.written() == text),
+        Ok(status) => Some(status == ended && output.written() == text),
         Err(fault) => (fault != RunFault::OutOfMemory).then_some(false),
     }
 }
@@ -113,7 +120,12 @@ fn answer(alloc: Global, call: Call) -> Option<bool> {
         Call::RunRender(profile) => runs(alloc, Task::Render { profile }, b"P6\n1 1\n100\n\0\0\0"),
         Call::RunSurvey(profile) => runs(alloc, Task::Survey { profile }, b"portable 1 1\n"),
         Call::RunScan(profile) => runs(alloc, scan_of(profile), b"0 portable 1 1\n"),
-        Call::RunMend(profile) => runs(alloc, mend_on_black(profile), MENDED_PIXEL),
+        Call::RunMend(profile) => ends(
+            alloc,
+            mend_on_black(profile),
+            Status::Noted(Note::OneColour),
+            MENDED_PIXEL,
+        ),
     }
 }
 

@@ -8,6 +8,8 @@ mod blocks;
 #[cfg(test)]
 mod exhausted;
 #[cfg(test)]
+mod high_registers;
+#[cfg(test)]
 mod in_turn;
 #[cfg(test)]
 mod lines;

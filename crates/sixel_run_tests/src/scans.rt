@@ -1,8 +1,8 @@
-//! Scans: when the line of a string is written, and what is written if a device fails.
+//! Scans: when the line of a string is written, what is written if a device fails, and what is noted.
 
-use crate::runs::{Limits, SCAN, run_counted};
+use crate::runs::{Limits, SCAN, agrees, run_counted};
 use sixel_check::{Finding, Rule};
-use sixel_run::{RunFault, Status, string_line};
+use sixel_run::{Note, RunFault, Status, string_line};
 use sixel_scan::{Answer, Scanned};
 
 /// A portable string at offset 2, and a broken one at offset 30. They end at offsets 28 and 56.
@@ -62,9 +62,37 @@ fn a_whole_scan(rt: HostRuntime) {
         let mut room = [0; 64];
         let limits = Limits::unfailing(piece, 64);
         let ran = run_counted(rt.alloc(), SCAN, TWO, limits, &mut room);
-        assert!(rt; ran.answer == Ok(Status::Unfit), "{piece}");
+        assert!(rt;
+            ran.answer == Ok(Status::Unfit { wrapped: false }),
+            "{piece}"
+        );
         assert!(rt; room.get(..ran.written) == Some(LINES), "{piece}");
         assert!(rt; ran.sink.takes == 2 && ran.sink.flushes == 1, "{piece}");
+    }
+}
+
+/// A portable string in the pass-through of GNU Screen, and one outside.
+const IN_SCREEN: &[u8] =
+    b"\x1bP\x1bPq\"1;1;1;1#0;2;0;0;0#0@\x1b\\\x1bPq\"1;1;1;1#0;2;0;0;0#0@\x1b\\";
+
+/// A string in the pass-through of tmux. It ends before its terminator, since the ESC of that is doubled.
+const IN_TMUX: &[u8] = b"\x1bPtmux;\x1b\x1bPq\"1;1;1;1#0;2;0;0;0#0@\x1b\x1b\\\x1b\\";
+
+#[test]
+fn a_wrapped_string_is_noted(rt: HostRuntime) {
+    let noted = Ok(Status::Noted(Note::Wrapped));
+    let unfit = Ok(Status::Unfit { wrapped: true });
+    let lines = b"2 portable 1 1\n28 portable 1 1\n";
+    for piece in [1, 5, 64] {
+        assert!(rt;
+            agrees(rt.alloc(), SCAN, IN_SCREEN, piece, lines, noted),
+            "{piece}"
+        );
+        let refusal = b"8 refused Truncated 32\n";
+        assert!(rt;
+            agrees(rt.alloc(), SCAN, IN_TMUX, piece, refusal, unfit),
+            "{piece}"
+        );
     }
 }
 
@@ -78,6 +106,7 @@ fn lines_of_strings_have_room(rt: HostRuntime) {
             place: u64::MAX,
             pixel: Some((u64::MAX, u64::MAX)),
         }),
+        wrapped: false,
     };
     let line =
         b"18446744073709551615 broken Uncovered 18446744073709551615 18446744073709551615 18446744073709551615\n";

@@ -4,7 +4,7 @@ use crate::in_turn::{Case, PIXEL, all_stop, checked, done, fault, refused};
 use crate::runs::{SURVEY, agrees, mend_on_black};
 use sixel_check::{Finding, Rule};
 use sixel_model::Profile;
-use sixel_run::{RunFault, Status, entry_line};
+use sixel_run::{Note, RunFault, Status, entry_line};
 use sixel_survey::Entry;
 use sixel_test_devices::filled;
 use std::alloc::Global;
@@ -31,10 +31,16 @@ fn each_call_of_a_device_fails_in_a_survey(rt: HostRuntime) {
 /// One pixel, mended: 29 bytes.
 const MENDED: &[u8] = b"\x1bP0;1q\"1;1;1;1#0;2;0;0;0#0@\x1b\\";
 
+/// The status of a mend that makes one colour.
+const ONE_COLOUR: Status = Status::Noted(Note::OneColour);
+
 /// One pixel; then 5 bytes of which nothing is painted and nothing declared, and nothing comes out.
 fn mend_cases() -> [Case; 3] {
     [
-        done(PIXEL, MENDED, [(27, 29), (7, 6), (2, 1)]),
+        Case {
+            answer: Ok(ONE_COLOUR),
+            ..done(PIXEL, MENDED, [(27, 29), (7, 6), (2, 1)])
+        },
         refused(b"\x1bPq\x1b\\", RunFault::Empty, [6, 2, 2]),
         fault(),
     ]
@@ -50,7 +56,7 @@ fn each_call_of_a_device_fails_in_a_mend(rt: HostRuntime) {
 /// Whether the text is mended as a black pixel, in pieces of at most so many bytes.
 fn is_mended(alloc: Global, text: &[u8], piece: usize) -> bool {
     let task = mend_on_black(Profile::Registers16);
-    agrees(alloc, task, text, piece, MENDED, Ok(Status::Done))
+    agrees(alloc, task, text, piece, MENDED, Ok(ONE_COLOUR))
 }
 
 /// A long text, in many pieces, is mended as a short one: there is memory for it.

@@ -5,29 +5,29 @@ ghost use Rattle.sixel_grammar.specs.declared.command.Placed.{Placed as Place};
 ghost use Rattle.sixel_grammar.specs.Document.{Document, IsDocument, events_of};
 ghost use Rattle.sixel_grammar.specs.declared.fault.InputFault.TheVariants.{Read as ReadFault};
 ghost use Rattle.sixel_grammar.specs.Reading.{Explains, NoFaultBefore, failures_after};
-ghost use Rattle.sixel_terminal.specs.Drawings.{HasDrawn};
+ghost use Rattle.sixel_run.specs.Watching.{HasWatched};
 
+use super::watched::Watched;
 use sixel_grammar::{InputFault, follow_source};
 use sixel_io::{PIECE, Source};
-use sixel_terminal::Drawing;
 
 /// Reads the source to its end, and draws the events of its document. It keeps none of them.
 pub fn draw<S: Source>(
     input: &mut S,
     piece: &mut [u8; PIECE],
-    drawing: &mut Drawing,
+    watched: &mut Watched,
 ) -> Result<(), InputFault>
-    requires { HasDrawn drawing.old [] }
-    ensures terminal { OnOk result (drawing.new.terminal ≡ drawing.old.terminal) }
+    requires { HasWatched watched.old [] }
+    ensures terminal { OnOk result (watched.new.drawing.terminal ≡ watched.old.drawing.terminal) }
     ensures drawn { OnOk result (IfSome (S.state input.old).remaining (λ bytes.
-        (events : List Place) × Document events bytes × HasDrawn drawing.new (events_of events))) }
+        (events : List Place) × Document events bytes × HasWatched watched.new (events_of events))) }
     ensures refused { IfErr result (λ fault. IfSome (S.state input.old).remaining (Explains fault)) }
     ensures failures { (S.state input.new).failures ≡ failures_after result (S.state input.old).failures }
     ensures unread { result ≡ Err ReadFault →
         IfSome (S.state input.old).remaining (NoFaultBefore (S.state input.new).remaining) }
     ensures memory { result ≢ Err InputFault.OutOfMemory }
 {
-    Ok(follow_source(input, piece, drawing)?)
+    Ok(follow_source(input, piece, watched)?)
 }
 
 /// Reads the source to its end, and keeps nothing.

@@ -7,14 +7,15 @@ ghost use Rattle.sixel_mend.specs.Measuring.{HasMeasured};
 ghost use Rattle.sixel_model.specs.Profiles.{count_of};
 ghost use Rattle.sixel_run.specs.declared.fault.RunFault.TheVariants.{Read};
 ghost use Rattle.sixel_run.specs.Outputs.{CountsWrites, HasPictureSize, MendGives, WroteBy, WroteNothing, failures_by};
+ghost use Rattle.sixel_run.specs.Outputs.{has_one_colour, mended_status};
 
 use super::kept::kept_with;
 use crate::fault::RunFault;
-use crate::task::Status;
+use crate::task::{Note, Status};
 use sixel_grammar::InputFault;
 use sixel_io::{PIECE, Sink, Source};
 use sixel_mend::{Measurer, Mending, mend_measured, size_of};
-use sixel_model::Profile;
+use sixel_model::{Picture, Profile};
 use std::alloc::Global;
 
 /// Reads the whole input, and writes the canonical sixel text of its mended picture. It doesn't flush.
@@ -47,9 +48,32 @@ pub fn mend<S: Source, K: Sink>(
     };
     let picture = mend_measured(alloc, profile, mending, &measurer, &bytes)?;
     match sixel_encode::encode(&picture, output) {
-        Ok(()) => Ok(Status::Done),
+        Ok(()) => Ok(status_of(&picture)),
         Err(_) => Err(RunFault::Write),
     }
+}
+
+/// The status of this mended picture: done, perhaps with a note.
+fn status_of(picture: &Picture) -> Status
+    ensures { result ≡ mended_status picture.now }
+{
+    if has_one_colour(picture) {
+        Status::Noted(Note::OneColour)
+    } else {
+        Status::Done
+    }
+}
+
+/// Whether all pixels of a mended picture have one colour.
+fn has_one_colour(picture: &Picture) -> bool
+    ensures { result ≡ has_one_colour picture.now }
+{
+    for register in picture.registers() {
+        if *register != 0 {
+            return false;
+        }
+    }
+    true
 }
 
 /// Reads the source to its end. Returns the bytes of the document, if there is memory for them, and what they measure. It

@@ -4,12 +4,12 @@ ghost use Rattle.std.specs.Prelude.{◌≡◌};
 ghost use Rattle.sixel_io.specs.Devices.{change};
 ghost use Rattle.sixel_run.specs.declared.task.Task.TheVariants.{Scan as Scanning};
 ghost use Rattle.sixel_run.specs.LineTasks.{WritesItems};
-ghost use Rattle.sixel_run.specs.Scanned.{answer_with, is_portable};
+ghost use Rattle.sixel_run.specs.Scanned.{answer_with, is_portable, status_where};
 
 use crate::fault::RunFault;
 use crate::item::Item;
 use crate::put_item::PutItem;
-use crate::task::Status;
+use crate::task::{Note, Status};
 use sixel_io::{Sink, Source};
 use sixel_model::Profile;
 use sixel_scan::{Answer, Scan, Scanned};
@@ -48,12 +48,24 @@ pub fn scan<P: PutItem, S: Source, K: Sink>(
 fn with_string(answer: Result<Status, RunFault>, scanned: &Scanned) -> Result<Status, RunFault>
     ensures { result ≡ answer_with answer scanned.now }
 {
-    if !is_portable(scanned) {
-        return Ok(Status::Unfit);
-    }
     match answer {
-        Ok(Status::Unfit) => Ok(Status::Unfit),
-        Ok(Status::Done) | Ok(Status::Broken(_)) | Err(_) => Ok(Status::Done),
+        Ok(Status::Unfit { wrapped }) => Ok(Status::Unfit {
+            wrapped: wrapped || scanned.wrapped,
+        }),
+        Ok(Status::Noted(Note::Wrapped)) => Ok(status_where(is_portable(scanned), true)),
+        _ => Ok(status_where(is_portable(scanned), scanned.wrapped)),
+    }
+}
+
+/// The status of strings, where the one says whether each is portable, and the other whether one of them stands in the
+/// pass-through of tmux or GNU Screen.
+fn status_where(portable: bool, wrapped: bool) -> Status
+    ensures { result ≡ status_where portable wrapped }
+{
+    match (portable, wrapped) {
+        (true, false) => Status::Done,
+        (true, true) => Status::Noted(Note::Wrapped),
+        (false, _) => Status::Unfit { wrapped },
     }
 }
 

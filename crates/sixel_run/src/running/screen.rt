@@ -4,13 +4,14 @@ ghost use Rattle.std.specs.Prelude.{◌≡◌, ◌≢◌, Err, IsTrue, List, ℕ
 ghost use Rattle.sixel_grammar.specs.declared.command.Placed.{Placed as Place};
 ghost use Rattle.sixel_grammar.specs.Document.{Document, events_of};
 ghost use Rattle.std.specs.List.{list_all};
+ghost use Rattle.sixel_model.specs.declared.profile.Profile.{Profile as AProfile};
 ghost use Rattle.sixel_io.specs.Devices.{Writes};
 ghost use Rattle.sixel_ppm.specs.Ppm.{WritesPpm, are_rgb, ppm_text};
 ghost use Rattle.sixel_terminal.specs.Displays.{Display};
 ghost use Rattle.sixel_terminal.specs.Pixels.{bytes_of, is_rgb_ink};
 ghost use Rattle.sixel_run.specs.declared.fault.RunFault.TheVariants.{Read};
 ghost use Rattle.sixel_run.specs.Outputs.{CountsWrites, ShowGives, WroteBy, WroteNothing};
-ghost use Rattle.sixel_run.specs.Screens.{IsScreenAfter};
+ghost use Rattle.sixel_run.specs.Watching.{IsShownAfter};
 
 use crate::fault::RunFault;
 use crate::task::Status;
@@ -18,6 +19,13 @@ use sixel_io::{DeviceFault, Sink};
 use sixel_ppm::{PpmFault, ToRgbx, write_ppm_pixels};
 use sixel_terminal::{Pixel, Screen};
 use std::simd::prelude::*;
+
+/// What a terminal shows of a document, and the status of its show.
+#[derive(Debug, Drop)]
+pub struct Shown {
+    pub screen: Screen,
+    pub status: Status,
+}
 
 /// The pixels of a screen, whose bytes begin with the percentages if they are RGB.
 struct ScreenPixels;
@@ -68,15 +76,16 @@ fn write_ppm_screen<K: Sink>(screen: &Screen, out: &mut K) -> Result<(), PpmFaul
     write_rgb(screen, out).map_err(|_| PpmFault::Write)
 }
 
-/// Writes the screen of a terminal as a PPM.
-pub fn write_screen<K: Sink>(screen: &Screen, output: &mut K) -> Result<Status, RunFault>
-    ensures wrote { (t : Display) (events : List Place) (bytes : List ℕ) → Document events bytes →
-        IsScreenAfter t screen.now (events_of events) →
-        WroteBy (ShowGives t bytes) WroteNothing result (K.state output.old).taken (K.state output.new).taken }
+/// Writes the screen that is shown as a PPM. Returns the status.
+pub fn write_shown<K: Sink>(shown: &Shown, output: &mut K) -> Result<Status, RunFault>
+    ensures wrote { (profile : AProfile) (t : Display) (events : List Place) (bytes : List ℕ) →
+        Document events bytes → IsShownAfter profile t shown.now (events_of events) →
+        WroteBy (ShowGives profile t bytes) WroteNothing result
+        (K.state output.old).taken (K.state output.new).taken }
     ensures unread { result ≢ Err Read }
     ensures memory { result ≢ Err RunFault.OutOfMemory }
     ensures writes { CountsWrites result (K.state output.old).failures (K.state output.new).failures }
 {
-    write_ppm_screen(screen, output)?;
-    Ok(Status::Done)
+    write_ppm_screen(&shown.screen, output)?;
+    Ok(shown.status)
 }

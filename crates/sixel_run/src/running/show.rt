@@ -9,20 +9,21 @@ ghost use Rattle.sixel_ppm.specs.Ppm.{is_file_side};
 ghost use Rattle.sixel_model.specs.Profiles.{count_of};
 ghost use Rattle.sixel_model.specs.declared.profile.Profile.{Profile as AProfile};
 ghost use Rattle.sixel_model.specs.declared.colour.Parts.TheVariants.{Rgb};
-ghost use Rattle.sixel_terminal.specs.Drawings.{HasDrawn};
 ghost use Rattle.sixel_terminal.specs.Limits.{terminal_fault};
 ghost use Rattle.sixel_run.specs.declared.fault.RunFault.TheVariants.{Read};
 ghost use Rattle.sixel_run.specs.Outputs.{CountsWrites, ShowGives, WroteBy, WroteNothing, failures_by};
-ghost use Rattle.sixel_run.specs.Screens.{IsScreenAfter, greys, percent_at, show_choices, show_terminal, white_screen};
+ghost use Rattle.sixel_run.specs.Watching.{HasWatched, IsShownAfter};
+ghost use Rattle.sixel_run.specs.Screens.{greys, percent_at, show_choices, show_terminal, white_screen};
 
 use super::draw::{draw, read_whole};
-use super::screen::write_screen;
+use super::screen::{Shown, write_shown};
+use super::watched::Watched;
 use crate::fault::RunFault;
 use crate::task::Status;
 use sixel_grammar::InputFault;
 use sixel_io::{PIECE, Sink, Source};
 use sixel_model::{Colour, Profile};
-use sixel_terminal::{Choices, Drawing, Ground, Screen, Terminal};
+use sixel_terminal::{Choices, Drawing, Ground, Terminal};
 use std::alloc::{AllocError, Global};
 
 /// The choices of the terminal: the given ones, a screen of this width and height in pixels with the picture at its top
@@ -63,7 +64,7 @@ pub fn show<S: Source, K: Sink>(
 ) -> Result<Status, RunFault>
     requires { terminal_fault choices (greys profile) (white_screen choices) ≡ None }
     ensures wrote { IfSome (S.state input.old).remaining (λ bytes.
-        WroteBy (ShowGives (show_terminal profile choices) bytes) WroteNothing result
+        WroteBy (ShowGives profile (show_terminal profile choices) bytes) WroteNothing result
         (K.state output.old).taken (K.state output.new).taken) }
     ensures memory { result ≡ Err RunFault.OutOfMemory → IfSome (S.state input.old).remaining IsDocument }
     ensures reads { (S.state input.new).failures ≡ failures_by Read result (S.state input.old).failures }
@@ -71,44 +72,44 @@ pub fn show<S: Source, K: Sink>(
         IfSome (S.state input.old).remaining (NoFaultBefore (S.state input.new).remaining) }
     ensures writes { CountsWrites result (K.state output.old).failures (K.state output.new).failures }
 {
-    let screen = read_screen(alloc, profile, choices, input, piece)?;
-    write_screen(&screen, output)
+    let shown = read_shown(alloc, profile, choices, input, piece)?;
+    write_shown(&shown, output)
 }
 
-/// The screen after the document.
-fn read_screen<S: Source>(
+/// What the terminal shows after the document.
+fn read_shown<S: Source>(
     alloc: Global,
     profile: Profile,
     choices: Choices,
     input: &mut S,
     piece: &mut [u8; PIECE],
-) -> Result<Screen, InputFault>
+) -> Result<Shown, InputFault>
     requires { terminal_fault choices (greys profile) (white_screen choices) ≡ None }
-    ensures shown { IfOk result (λ screen. IfSome (S.state input.old).remaining (λ bytes.
+    ensures shown { IfOk result (λ shown. IfSome (S.state input.old).remaining (λ bytes.
         (events : List Place) × Document events bytes
-        × IsScreenAfter (show_terminal profile choices) screen (events_of events))) }
+        × IsShownAfter profile (show_terminal profile choices) shown (events_of events))) }
     ensures refused { IfErr result (λ fault. IfSome (S.state input.old).remaining (Explains fault)) }
     ensures failures { (S.state input.new).failures ≡ failures_after result (S.state input.old).failures }
     ensures unread { result ≡ Err ReadFault →
         IfSome (S.state input.old).remaining (NoFaultBefore (S.state input.new).remaining) }
     ensures memory { result ≡ Err InputFault.OutOfMemory → IfSome (S.state input.old).remaining IsDocument }
 {
-    let Ok(mut drawing) = nothing_drawn(alloc, profile, choices) else {
+    let Ok(mut watched) = nothing_drawn(alloc, profile, choices) else {
         read_whole(input, piece)?;
         return Err(InputFault::OutOfMemory);
     };
-    draw(input, piece, &mut drawing)?;
-    Ok(drawing.finish())
+    draw(input, piece, &mut watched)?;
+    Ok(watched.finish(profile))
 }
 
 /// A drawing of no events, on the terminal of these choices.
-fn nothing_drawn(alloc: Global, profile: Profile, choices: Choices) -> Result<Drawing, AllocError>
+fn nothing_drawn(alloc: Global, profile: Profile, choices: Choices) -> Result<Watched, AllocError>
     requires { terminal_fault choices (greys profile) (white_screen choices) ≡ None }
-    ensures terminal { IfOk result (λ drawing. drawing.terminal ≡ show_terminal profile choices) }
-    ensures drawn { IfOk result (λ drawing. HasDrawn drawing []) }
+    ensures terminal { IfOk result (λ watched. watched.drawing.terminal ≡ show_terminal profile choices) }
+    ensures watched { IfOk result (λ watched. HasWatched watched []) }
 {
     let terminal = terminal_of(alloc, profile, choices)?;
-    Drawing::new(alloc, terminal)
+    Ok(Watched::new(Drawing::new(alloc, terminal)?))
 }
 
 /// The terminal of `show` with these choices.

@@ -10,22 +10,23 @@ ghost use Rattle.sixel_grammar.specs.declared.fault.InputFault.TheVariants.{Gram
 ghost use Rattle.sixel_grammar.specs.Reading.{Explains, ExplainsAlways, NoFaultBefore, failures_after};
 ghost use Rattle.sixel_ppm.specs.Ppm.{is_file_side};
 ghost use Rattle.sixel_terminal.specs.Displays.{Display};
-ghost use Rattle.sixel_terminal.specs.Drawings.{HasDrawn};
 ghost use Rattle.sixel_run.specs.Boxes.{HasRead, IsShownInBox, IsStageAfter, terminal_of_kind};
 ghost use Rattle.sixel_run.specs.declared.fault.RunFault.TheVariants.{Read};
 ghost use Rattle.sixel_run.specs.Outputs.{CountsWrites, ShowBoxGives, WroteBy, WroteNothing, failures_by};
 ghost use Rattle.sixel_run.specs.Screens.{DeclareScreenIn, screen_terminal, sides_of_box};
+ghost use Rattle.sixel_run.specs.Watching.{HasWatched};
 
 use super::box_finder::BoxFinder;
 use super::kept::kept_with;
-use super::screen::write_screen;
+use super::screen::{Shown, write_shown};
 use super::show::{show_choices, terminal_of};
+use super::watched::Watched;
 use crate::fault::RunFault;
 use crate::task::{MOST_SCREEN_SIDE, Status};
 use sixel_grammar::{Fault, Follower, InputFault, Reader, follow_bytes};
 use sixel_io::{PIECE, Sink, Source};
 use sixel_model::Profile;
-use sixel_terminal::{Drawing, Screen};
+use sixel_terminal::Drawing;
 use std::alloc::Global;
 use std::convert::Infallible;
 
@@ -45,7 +46,7 @@ enum Stage {
     /// memory for them.
     Undeclared(Option<Vec<u8>>),
     /// The events so far are drawn on a screen with the sides of the declared box.
-    Drawn(Drawing),
+    Drawn(Watched),
     /// No screen can have the sides of the declared box.
     Unshowable,
 }
@@ -63,7 +64,7 @@ pub fn show_box<S: Source, K: Sink>(
     output: &mut K,
 ) -> Result<Status, RunFault>
     ensures wrote { IfSome (S.state input.old).remaining (λ bytes.
-        WroteBy (ShowBoxGives (screen_terminal profile showing fill selects) bytes) WroteNothing result
+        WroteBy (ShowBoxGives profile (screen_terminal profile showing fill selects) bytes) WroteNothing result
         (K.state output.old).taken (K.state output.new).taken) }
     ensures memory { result ≡ Err RunFault.OutOfMemory → IfSome (S.state input.old).remaining DeclareScreenIn }
     ensures reads { (S.state input.new).failures ≡ failures_by Read result (S.state input.old).failures }
@@ -77,22 +78,22 @@ pub fn show_box<S: Source, K: Sink>(
         fill,
         selects,
     };
-    match read_box_screen(alloc, kind, input, piece)? {
-        Some(screen) => write_screen(&screen, output),
+    match read_box_shown(alloc, kind, input, piece)? {
+        Some(shown) => write_shown(&shown, output),
         None => Err(RunFault::NoBox),
     }
 }
 
-/// The screen after the document, if a screen can have the sides of its declared box.
-fn read_box_screen<S: Source>(
+/// What the terminal shows after the document, if a screen can have the sides of its declared box.
+fn read_box_shown<S: Source>(
     alloc: Global,
     kind: Kind,
     input: &mut S,
     piece: &mut [u8; PIECE],
-) -> Result<Option<Screen>, InputFault>
-    ensures shown { IfOk result (λ screen. IfSome (S.state input.old).remaining (λ bytes.
+) -> Result<Option<Shown>, InputFault>
+    ensures shown { IfOk result (λ shown. IfSome (S.state input.old).remaining (λ bytes.
         (events : List Place) × Document events bytes
-        × IsShownInBox (terminal_of_kind kind) screen (events_of events))) }
+        × IsShownInBox kind.profile (terminal_of_kind kind) shown (events_of events))) }
     ensures refused { IfErr result (λ fault. IfSome (S.state input.old).remaining (Explains fault)) }
     ensures failures { (S.state input.new).failures ≡ failures_after result (S.state input.old).failures }
     ensures unread { result ≡ Err ReadFault →
@@ -105,7 +106,7 @@ fn read_box_screen<S: Source>(
         let count = input.fill(piece)?;
         if count == 0 {
             reader.finish()?;
-            return Ok(stage.screen());
+            return Ok(stage.shown(kind.profile));
         }
         stage = stage.after(alloc, kind, &mut reader, &piece[..count])?;
     }
@@ -131,9 +132,9 @@ impl Stage {
     {
         match self {
             Stage::Undeclared(kept) => look_for_box(alloc, kind, kept, reader, piece),
-            Stage::Drawn(mut drawing) => {
-                follow(reader, &mut drawing, piece)?;
-                Ok(Stage::Drawn(drawing))
+            Stage::Drawn(mut watched) => {
+                follow(reader, &mut watched, piece)?;
+                Ok(Stage::Drawn(watched))
             }
             Stage::Unshowable => {
                 follow(reader, &mut (), piece)?;
@@ -142,13 +143,13 @@ impl Stage {
         }
     }
 
-    /// The screen, if there is one.
-    fn screen(self) -> Option<Screen>
+    /// What is shown, if there is a screen.
+    fn shown(self, profile: Profile) -> Option<Shown>
         ensures { (terminal : ℕ × ℕ → Display) (events : List AnEvent) (bytes : List ℕ) →
-            IsStageAfter terminal self events bytes → IsShownInBox terminal result events }
+            IsStageAfter terminal self events bytes → IsShownInBox profile terminal result events }
     {
         match self {
-            Stage::Drawn(drawing) => Some(drawing.finish()),
+            Stage::Drawn(watched) => Some(watched.finish(profile)),
             _ => None,
         }
     }
@@ -198,20 +199,21 @@ fn draw_bytes(
     height: u32,
     bytes: &[u8],
     piece: &[u8],
-) -> Result<Drawing, InputFault>
+) -> Result<Watched, InputFault>
     requires width { IsTrue (is_file_side width) }
     requires height { IsTrue (is_file_side height) }
-    ensures terminal { IfOk result (λ drawing. drawing.terminal ≡ terminal_of_kind kind (width, height)) }
-    ensures drawn { IfOk result (λ drawing. (events : List Place) → CompleteIn events (bytes.now ++ piece.now) →
-        HasDrawn drawing (events_of events)) }
+    ensures terminal { IfOk result (λ watched. watched.drawing.terminal ≡ terminal_of_kind kind (width, height)) }
+    ensures watched { IfOk result (λ watched. (events : List Place) → CompleteIn events (bytes.now ++ piece.now) →
+        HasWatched watched (events_of events)) }
     ensures refused { IfErr result (λ fault. ExplainsAlways fault (bytes.now ++ piece.now)) }
 {
     let choices = show_choices(kind.showing, kind.fill, kind.selects, width, height);
-    let mut drawing = Drawing::new(alloc, terminal_of(alloc, kind.profile, choices)?)?;
+    let drawing = Drawing::new(alloc, terminal_of(alloc, kind.profile, choices)?)?;
+    let mut watched = Watched::new(drawing);
     let mut reader = Reader::new();
-    follow(&mut reader, &mut drawing, bytes)?;
-    follow(&mut reader, &mut drawing, piece)?;
-    Ok(drawing)
+    follow(&mut reader, &mut watched, bytes)?;
+    follow(&mut reader, &mut watched, piece)?;
+    Ok(watched)
 }
 
 /// Reads the bytes of a piece, and hands the events that they complete on to what never stops.

@@ -46,7 +46,7 @@ pub returns-in-Show-clause-wrote : goal.returns-in-Show-clause-wrote
 returns-in-Show-clause-wrote g c =
     rw c.in-Show.is
     (unread
-    (λ bytes. ShowGives (show_terminal c.in-Show.profile
+    (λ bytes. ShowGives c.in-Show.profile (show_terminal c.in-Show.profile
     (show_choices c.in-Show.showing c.in-Show.fill c.in-Show.selects c.in-Show.width c.in-Show.height)) bytes)
     (g.S.Source.state c.args.input.now).remaining (g.S.Source.state c.show.new.input).remaining
     (g.K.Sink.state c.args.output.now).taken (g.K.Sink.state c.show.new.output).taken c.show.result
@@ -56,7 +56,7 @@ pub returns-in-ShowBox-clause-wrote : goal.returns-in-ShowBox-clause-wrote
 returns-in-ShowBox-clause-wrote g c =
     rw c.in-ShowBox.is
     (unread
-    (λ bytes. ShowBoxGives
+    (λ bytes. ShowBoxGives c.in-ShowBox.profile
     (screen_terminal c.in-ShowBox.profile c.in-ShowBox.showing c.in-ShowBox.fill c.in-ShowBox.selects) bytes)
     (g.S.Source.state c.args.input.now).remaining (g.S.Source.state c.show_box.new.input).remaining
     (g.K.Sink.state c.args.output.now).taken (g.K.Sink.state c.show_box.new.output).taken c.show_box.result

@@ -19,9 +19,9 @@ returns-in_err-picture-clause-wrote g c =
 
 pub returns-in-Ok-clause-wrote : goal.returns-in-Ok-clause-wrote
 returns-in-Ok-clause-wrote g c =
-    mend_written _ c.args.mending.now (g.S.Source.state c.args.input.now).remaining c.deref.result.now
+    rw c.status_of.ensures (mend_written _ c.args.mending.now (g.S.Source.state c.args.input.now).remaining c.deref.result.now
     c.in_ok-picture.picture _ _ (rw c.deref.ensures.value (rw c.in-Some.is at c.in_ok-kept.ensures.read)) c.in_ok-picture.ensures
-    c.in-Ok.ensures.written.taken
+    c.in-Ok.ensures.written.taken)
 
 pub returns-clause-wrote : goal.returns-clause-wrote
 returns-clause-wrote g c =

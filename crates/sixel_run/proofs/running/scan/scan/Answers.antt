@@ -14,15 +14,17 @@ pub loop-scan-preserved : goal.loop-scan-preserved
 loop-scan-preserved g c =
     let told = rw c.in-Some.is at c.in_ok-found.ensures.told in
     let put = c.in-Ok.ensures.taken in
-    scanning_more _ _ _ _ _ _ _ _ _ _ _ _ c.loop-scan.invariant told put
+    let marks = rw c.in-Some.is at c.in_ok-found.ensures.marked in
+    scanning_more _ _ _ _ _ _ _ _ _ _ _ _ c.loop-scan.invariant told marks put
     c.in_ok-found.ensures.failures c.in-Ok.ensures.failures c.with_string-answer.ensures
 
 pub returns-in-Err : goal.returns-in-Err
 returns-in-Err g c =
     let told = rw c.in-Some.is at c.in_ok-found.ensures.told in
+    let marks = rw c.in-Some.is at c.in_ok-found.ensures.marked in
     let put = c.in-Err.ensures.taken in
     scan_ends _ _ _ _ _ _
-    (scans_stopped _ _ _ _ _ _ _ _ _ _ _ c.loop-scan.invariant told put
+    (scans_stopped _ _ _ _ _ _ _ _ _ _ _ c.loop-scan.invariant told marks put
     c.in_ok-found.ensures.failures c.in-Err.ensures.failures)
 
 pub returns-in-None : goal.returns-in-None

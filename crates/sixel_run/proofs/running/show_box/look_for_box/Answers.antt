@@ -51,7 +51,7 @@ returns-in_ok-draw_bytes-in-Some-sides_of_box-clause-read c = λ bytes h.
     let f =
     finds-box _ c.follow.new.reader c.follow.new.follower _ _ bytes c.args.piece.now h.read h.taken.1
     c.in_ok-follow.ensures.followed c.in-Some.is in
-    let drawing = c.in_ok-draw_bytes-in-Some-sides_of_box in
+    let watched = c.in_ok-draw_bytes-in-Some-sides_of_box in
     let sides : ℕ × ℕ = (c.in-Some-sides_of_box.width, c.in-Some-sides_of_box.height) in
     let had = rw c.in-Some-kept.is at h.taken.0 in
     let complete : CompleteIn f.events (c.deref.result.now ++ c.args.piece.now) =
@@ -60,9 +60,9 @@ returns-in_ok-draw_bytes-in-Some-sides_of_box-clause-read c = λ bytes h.
     record {
       events = f.events;
       read = f.read;
-      taken = drawn-now (terminal_of_kind c.args.kind) drawing.field-0 (events_of f.events) c.in-Some.width
+      taken = drawn-now (terminal_of_kind c.args.kind) watched.field-0 (events_of f.events) c.in-Some.width
           c.in-Some.height sides f.taken (sym c.in-Some-sides_of_box.is ∙ c.sides_of_box.ensures.value)
-          drawing.ensures.terminal (drawing.ensures.drawn f.events complete);
+          watched.ensures.terminal (watched.ensures.watched f.events complete);
     }
 
 pub returns-in_default-clause-memory : goal.returns-in_default-clause-memory

@@ -1,15 +1,15 @@
 use Rattle.std.proofs.lemmas.Result.{err_from_is_err_and}
 use Rattle.sixel_run.specs.Boxes.{terminal_of_kind}
-use Rattle.sixel_run.proofs.StageLemmas.{draws-on, drawn-stays, unfit-stays}
+use Rattle.sixel_run.proofs.StageLemmas.{watches-on, drawn-stays, unfit-stays}
 use Rattle.sixel_run.proofs.running.show_box.Stage.after.Goals as goal
 
 -- ---- a drawing
 
 pub follow-requires : goal.follow-requires
 follow-requires c = (
-  c.in-Drawn.drawing,
+  c.in-Drawn.watched,
   c.requires.0,
-  draws-on (terminal_of_kind c.args.kind) c.args.reader.now c.in-Drawn.drawing c.requires.0
+  watches-on (terminal_of_kind c.args.kind) c.args.reader.now c.in-Drawn.watched c.requires.0
       (rw c.in-Drawn.is at c.requires.1),
 )
 
@@ -18,12 +18,12 @@ returns-in_err-follow-in-Drawn-clause-refused c =
     let exit = c.from_residual in
     let failed = err_from_is_err_and exit.result exit.ensures.1 in
     rw (failed.1, failed.2)
-    (λ bytes h. c.in_err-follow-in-Drawn.ensures.refused c.in-Drawn.drawing bytes
-    (draws-on (terminal_of_kind c.args.kind) c.args.reader.now c.in-Drawn.drawing bytes (rw c.in-Drawn.is at h)))
+    (λ bytes h. c.in_err-follow-in-Drawn.ensures.refused c.in-Drawn.watched bytes
+    (watches-on (terminal_of_kind c.args.kind) c.args.reader.now c.in-Drawn.watched bytes (rw c.in-Drawn.is at h)))
 
 pub returns-in_ok-follow-in-Drawn-clause-read : goal.returns-in_ok-follow-in-Drawn-clause-read
 returns-in_ok-follow-in-Drawn-clause-read c = λ bytes h.
-    drawn-stays (terminal_of_kind c.args.kind) c.args.reader.now c.follow.new.reader c.in-Drawn.drawing
+    drawn-stays (terminal_of_kind c.args.kind) c.args.reader.now c.follow.new.reader c.in-Drawn.watched
     c.follow.new.follower bytes c.args.piece.now (rw c.in-Drawn.is at h) c.in_ok-follow-in-Drawn.ensures.followed
 
 -- ---- a box that fits no screen

@@ -2,7 +2,7 @@ use Rattle.std.proofs.Common.{◌≡◌, ℕ, List}
 use Rattle.std.specs.Io.KnownBytes.{Consumes}
 use Rattle.sixel_grammar.specs.Standing.{left_of}
 use Rattle.sixel_run.specs.Boxes.{HasRead, terminal_of_kind}
-use Rattle.sixel_run.proofs.running.show_box.read_box_screen.Given as goal
+use Rattle.sixel_run.proofs.running.show_box.read_box_shown.Given as goal
 
 abbrev pub invariant-loop-stage : goal.invariant-loop-stage
 invariant-loop-stage g l =

@@ -11,7 +11,7 @@ use Rattle.sixel_grammar.proofs.SourceLemmas.{consumes-then, no_fault_before, re
 use Rattle.sixel_judge.proofs.PieceLemmas.{not_failed}
 use Rattle.sixel_run.specs.Boxes.{IsShownInBox, terminal_of_kind}
 use Rattle.sixel_run.proofs.StageLemmas.{box-of-none, declares-early, nothing-taken}
-use Rattle.sixel_run.proofs.running.show_box.read_box_screen.Goals as goal
+use Rattle.sixel_run.proofs.running.show_box.read_box_shown.Goals as goal
 
 pub loop-stage-init : goal.loop-stage-init
 loop-stage-init g c = (
@@ -61,11 +61,11 @@ returns-then-count-eq0-clause-shown g c =
     let none : c.in_ok-count.count ≡ 0 = omega arith in
     told_all _ _ _ i.0 c.fill.new.piece c.in_ok-count.count
     (λ bytes. (events : List Placed) × Document events bytes
-    × IsShownInBox (terminal_of_kind c.args.kind) c.screen.result (events_of events)) i.2 b.0 none
+    × IsShownInBox c.args.kind.profile (terminal_of_kind c.args.kind) c.shown.result (events_of events)) i.2 b.0 none
     (b.1 none (omega arith)) (
       i.1.events,
       c.in_ok-finish.ensures.answer i.1.events i.0 i.1.read,
-      c.screen.ensures (terminal_of_kind c.args.kind) (events_of i.1.events) i.0 i.1.taken,
+      c.shown.ensures (terminal_of_kind c.args.kind) (events_of i.1.events) i.0 i.1.taken,
     )
 
 pub loop-stage-smaller : goal.loop-stage-smaller
