@@ -20,6 +20,7 @@ use Rattle.std.proofs.lemmas.Slice.Eq.{ends_is}
 use Rattle.sixel_model.specs.declared.rule.Rule.{Rule as ARule}
 use Rattle.sixel_model.specs.declared.rule.Rule.TheVariants as rule
 use Rattle.sixel_judge.specs.declared.verdict.Finding.{Finding}
+use Rattle.sixel_grammar.specs.declared.fault.Reason.TheVariants.{Truncated}
 use Rattle.sixel_ppm.specs.declared.ppm.PpmReason.TheVariants as ppm
 use Rattle.sixel_run.specs.declared.fault.RunFault.{RunFault}
 use Rattle.sixel_run.specs.declared.fault.RunFault.TheVariants as fault
@@ -164,8 +165,9 @@ not_at_end x t end first last is short misses =
 no_topic : (text : Text) → ends_in text (codes " out of memory") ≡ false → ends_in text (codes " read failed") ≡ false
     → ends_in text (codes " no such file") ≡ false → ends_in text (codes " permission denied") ≡ false
     → ends_in text (codes " is a folder") ≡ false → ends_in text (codes " name is not valid utf-8") ≡ false
-    → ends_in text (codes " write failed") ≡ false → topic_of_end text ≡ None
-no_topic text a b c d e f g = rw (a, b, c, d, e, f, g) refl
+    → ends_in text (codes " write failed") ≡ false → ends_in text (codes " the input is empty") ≡ false
+    → topic_of_end text ≡ None
+no_topic text a b c d e f g h = rw (a, b, c, d, e, f, g, h) refl
 
 letter_after : (b c letter : ℕ) → c ≤ 57 → 57 < letter → ends_in (b ∷ c ∷ []) (letter ∷ []) ≡ false
 letter_after b c letter digit high = rw (ne_eqb letter c (λ is. omega (arith, is, digit, high))) refl
@@ -185,6 +187,7 @@ no_ending x t long y d e r dash =
     (not_at_end x t _ (codes " is a folde") (codes "r") refl (omega (arith, long)) r)
     (not_at_end x t _ (codes " name is not valid utf") (codes "-8") refl (omega (arith, long)) dash)
     (not_at_end x t _ (codes " write faile") (codes "d") refl (omega (arith, long)) d)
+    (not_at_end x t _ (codes " the input is empt") (codes "y") refl (omega (arith, long)) y)
 
 digit_at_end : (x : Text) (b c : ℕ) → b ≢ 45 → c ≤ 57 → topic_of_end (x ++ b ∷ c ∷ []) ≡ None
 digit_at_end x b c other digit =
@@ -299,7 +302,7 @@ name_at first t n said are =
 -- a name at the end
 name_last : (first : Text) (t : Topic) (said : List Text)
     → list_any is_mark (low (32 ∷ first)) ≡ true
-    → ((x : Text) → topic_of_end (x ++ 32 ∷ low (topic_name t)) ≡ None)
+    → topic_of_end (low (32 ∷ first) ++ 32 ∷ low (topic_name t)) ≡ None
     → ArePasted said (line first (topic_name t ∷ [])) → names_in (line_of said) ≡ Some (topic_name t ∷ [])
 name_last first t said mark none are =
     let name = low (topic_name t) in
@@ -308,7 +311,7 @@ name_last first t said mark none are =
     ∙ line_asks (x ++ spaced (name ∷ [])) (topic_name t)
     (by_mark (x ++ spaced (name ∷ [])) (marked_before x (spaced (name ∷ [])) mark))
     (by_word (x ++ spaced (name ∷ [])) (Some (topic_name t))
-    (ap (λ (w : Text). topic_of_end (x ++ 32 ∷ w)) (append-nil name) ∙ none x)
+    (ap (λ (w : Text). topic_of_end (x ++ 32 ∷ w)) (append-nil name) ∙ none)
     (named_last x name (topic_name t) [] (named_alone t) tt))
 
 -- a text that is one of the endings
@@ -387,10 +390,24 @@ write_failed x =
       at_end x t t (omega arith),
     ) refl
 
--- the last letter of these two names is that of an ending too
-empty_unended : (x : Text) → topic_of_end (x ++ codes " empty") ≡ None
+pub the_input_is_empty : (x : Text) → topic_of_end (x ++ codes " the input is empty") ≡ Some (topic.Grammar Truncated)
+the_input_is_empty x =
+    let t = codes " the input is empty" in
+    rw (
+      not_at_end x t _ (codes " out of memo") (codes "ry") refl (omega arith) refl,
+      not_at_end x t _ (codes " read faile") (codes "d") refl (omega arith) refl,
+      not_at_end x t _ (codes " no such fil") (codes "e") refl (omega arith) refl,
+      not_at_end x t _ (codes " permission denie") (codes "d") refl (omega arith) refl,
+      not_at_end x t _ (codes " is a folde") (codes "r") refl (omega arith) refl,
+      not_at_end x t _ (codes " name is not valid utf") (codes "-8") refl (omega arith) refl,
+      not_at_end x t _ (codes " write faile") (codes "d") refl (omega arith) refl,
+      at_end x t t (omega arith),
+    ) refl
+
+-- the last letter of these two names is that of an ending too; a colon is before the first
+empty_unended : (x : Text) → topic_of_end (x ++ codes ": empty") ≡ None
 empty_unended x =
-    let t = codes " empty" in
+    let t = codes ": empty" in
     no_topic (x ++ t) (not_at_end x t _ (codes " out of memo") (codes "ry") refl (omega arith) refl)
     (not_at_end x t _ (codes " read faile") (codes "d") refl (omega arith) refl)
     (not_at_end x t _ (codes " no such fil") (codes "e") refl (omega arith) refl)
@@ -398,6 +415,7 @@ empty_unended x =
     (not_at_end x t _ (codes " is a folde") (codes "r") refl (omega arith) refl)
     (not_at_end x t _ (codes " name is not valid utf") (codes "-8") refl (omega arith) refl)
     (not_at_end x t _ (codes " write faile") (codes "d") refl (omega arith) refl)
+    (not_at_end x t _ (codes " the input i") (codes "s empty") refl (omega arith) refl)
 
 too_large_unended : (x : Text) → topic_of_end (x ++ codes " toolarge") ≡ None
 too_large_unended x =
@@ -409,31 +427,44 @@ too_large_unended x =
     (not_at_end x t _ (codes " is a folde") (codes "r") refl (omega arith) refl)
     (not_at_end x t _ (codes " name is not valid utf") (codes "-8") refl (omega arith) refl)
     (not_at_end x t _ (codes " write faile") (codes "d") refl (omega arith) refl)
+    (not_at_end x t _ (codes " the input is empt") (codes "y") refl (omega arith) refl)
 
 -- ---- what the program writes
 
--- the line of a fault, whatever it begins with, if that has a colon
-pub fault_pasted : (first : Text) (f : RunFault) (said : List Text) → list_any is_mark (low (32 ∷ first)) ≡ true
+-- the text is another and then a colon, after a space and in small letters
+pub record EndsInColon (text : Text) : Type 0 where
+  pub front : Text
+  pub is : low (32 ∷ text) ≡ front ++ 58 ∷ []
+
+colon_marked : (text : Text) → EndsInColon text → list_any is_mark (low (32 ∷ text)) ≡ true
+colon_marked text colon = ap (list_any is_mark) colon.is ∙ marked_after colon.front (58 ∷ []) refl
+
+-- the line of a fault, whatever it begins with, if that ends in a colon
+pub fault_pasted : (first : Text) (f : RunFault) (said : List Text) → EndsInColon first
     → ArePasted said (line first (fault_parts f)) → names_in (line_of said) ≡ Some (topic_name (topic_of f) ∷ [])
-fault_pasted first (fault.Grammar f) said mark are = name_at first (topic.Grammar f.reason) f.place said are
-fault_pasted first (fault.Ppm reason place) said mark are = name_at first (topic.Ppm reason) place said are
-fault_pasted first fault.NotRgb said mark are =
-    name_last first topic.NotRgb said mark
-    (λ x. no_ending x (codes " notrgb") (omega arith) refl refl refl refl refl) are
-fault_pasted first fault.NoBox said mark are =
-    name_last first topic.NoBox said mark (λ x. no_ending x (codes " nobox") (omega arith) refl refl refl refl refl) are
-fault_pasted first fault.NoString said mark are =
-    name_last first topic.NoString said mark
-    (λ x. no_ending x (codes " nostring") (omega arith) refl refl refl refl refl) are
-fault_pasted first fault.Empty said mark are = name_last first topic.Empty said mark empty_unended are
-fault_pasted first fault.TooLarge said mark are = name_last first topic.TooLarge said mark too_large_unended are
-fault_pasted first fault.TooManyColours said mark are =
-    name_last first (topic.Ppm ppm.TooManyColours) said mark
-    (λ x. no_ending x (codes " toomanycolours") (omega arith) refl refl refl refl refl) are
-fault_pasted first fault.OutOfMemory said mark are =
+fault_pasted first (fault.Grammar f) said colon are = name_at first (topic.Grammar f.reason) f.place said are
+fault_pasted first (fault.Ppm reason place) said colon are = name_at first (topic.Ppm reason) place said are
+fault_pasted first fault.NotRgb said colon are =
+    name_last first topic.NotRgb said (colon_marked first colon)
+    (no_ending (low (32 ∷ first)) (codes " notrgb") (omega arith) refl refl refl refl refl) are
+fault_pasted first fault.NoBox said colon are =
+    name_last first topic.NoBox said (colon_marked first colon) (no_ending (low (32 ∷ first)) (codes " nobox") (omega arith) refl refl refl refl refl) are
+fault_pasted first fault.NoString said colon are =
+    name_last first topic.NoString said (colon_marked first colon)
+    (no_ending (low (32 ∷ first)) (codes " nostring") (omega arith) refl refl refl refl refl) are
+fault_pasted first fault.Empty said colon are =
+    name_last first topic.Empty said (colon_marked first colon)
+    (ap (λ (x : Text). topic_of_end (x ++ codes " empty")) colon.is
+    ∙ ap topic_of_end (append_assoc colon.front (58 ∷ []) (codes " empty")) ∙ empty_unended colon.front) are
+fault_pasted first fault.TooLarge said colon are =
+    name_last first topic.TooLarge said (colon_marked first colon) (too_large_unended (low (32 ∷ first))) are
+fault_pasted first fault.TooManyColours said colon are =
+    name_last first (topic.Ppm ppm.TooManyColours) said (colon_marked first colon)
+    (no_ending (low (32 ∷ first)) (codes " toomanycolours") (omega arith) refl refl refl refl refl) are
+fault_pasted first fault.OutOfMemory said colon are =
     ending_pasted first (codes "out of memory") topic.OutOfMemory said out_of_memory are
-fault_pasted first fault.Read said mark are = ending_pasted first (codes "read failed") topic.Read said read_failed are
-fault_pasted first fault.Write said mark are =
+fault_pasted first fault.Read said colon are = ending_pasted first (codes "read failed") topic.Read said read_failed are
+fault_pasted first fault.Write said colon are =
     ending_pasted first (codes "write failed") topic.Write said write_failed are
 
 -- a finding names no pixel, or one

@@ -156,7 +156,7 @@ abbrev pub endings : List (Text × Topic)
 endings =
     (codes " out of memory", OutOfMemory) ∷ (codes " read failed", Read) ∷ (codes " no such file", Read)
     ∷ (codes " permission denied", Read) ∷ (codes " is a folder", Read) ∷ (codes " name is not valid utf-8", Read)
-    ∷ (codes " write failed", Write) ∷ []
+    ∷ (codes " write failed", Write) ∷ (codes " the input is empty", Grammar Truncated) ∷ []
 
 abbrev pub ends_in : Text → Text → Bool
 ends_in line text = ends_with (λ a b. a == b) line text

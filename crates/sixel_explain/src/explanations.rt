@@ -3,7 +3,7 @@
 ghost use Rattle.std.specs.Prelude.{◌==◌, ◌≡◌, ◌≤◌, IfSome, IsNone, length};
 ghost use Rattle.std.specs.List.{after_first, before_first};
 ghost use Rattle.std.specs.Str.{str_to_ascii_lowercase};
-ghost use Rattle.sixel_explain.specs.Explanations.{IsExplanation, summary, topic_name};
+ghost use Rattle.sixel_explain.specs.Explanations.{IsExplanation, summary, topic_name, topic_of};
 ghost use Rattle.sixel_explain.specs.declared.explanations.Topic.{Topic as ATopic};
 
 use crate::refusals;
@@ -12,6 +12,7 @@ use crate::rules::{of_rule, rule_named};
 use sixel_check::Rule;
 use sixel_grammar::Reason;
 use sixel_ppm::PpmReason;
+use sixel_run::{RunFault, ppm_reason_name, reason_name, rule_name};
 
 /// What can be explained: a rule, or why a run was refused.
 #[derive(Clone, Copy, Debug, PartialEq, Eq, Drop)]
@@ -32,6 +33,45 @@ pub enum Topic {
     OutOfMemory,
     Read,
     Write,
+}
+
+/// The name by which `explain` knows a topic.
+pub fn topic_name(topic: Topic) -> &'static str
+    ensures text { result.now ≡ topic_name topic }
+    ensures short { length result.now ≤ 14 }
+{
+    match topic {
+        Topic::Rule(rule) => rule_name(rule),
+        Topic::Grammar(reason) => reason_name(reason),
+        Topic::Ppm(reason) => ppm_reason_name(reason),
+        Topic::NotRgb => "NotRgb",
+        Topic::NoBox => "NoBox",
+        Topic::NoString => "NoString",
+        Topic::Empty => "Empty",
+        Topic::TooLarge => "TooLarge",
+        Topic::OutOfMemory => "OutOfMemory",
+        Topic::Read => "Read",
+        Topic::Write => "Write",
+    }
+}
+
+/// The topic of a fault.
+pub fn topic_of(fault: &RunFault) -> Topic
+    ensures { result ≡ topic_of fault.now }
+{
+    match fault {
+        RunFault::Grammar(fault) => Topic::Grammar(fault.reason),
+        RunFault::Ppm { reason, .. } => Topic::Ppm(*reason),
+        RunFault::NotRgb => Topic::NotRgb,
+        RunFault::NoBox => Topic::NoBox,
+        RunFault::NoString => Topic::NoString,
+        RunFault::Empty => Topic::Empty,
+        RunFault::TooLarge => Topic::TooLarge,
+        RunFault::TooManyColours => Topic::Ppm(PpmReason::TooManyColours),
+        RunFault::OutOfMemory => Topic::OutOfMemory,
+        RunFault::Read => Topic::Read,
+        RunFault::Write => Topic::Write,
+    }
 }
 
 /// The topic whose name this is in small letters. `trailing` gives the one of sixel text; a PPM's has the same

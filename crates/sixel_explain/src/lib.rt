@@ -7,5 +7,5 @@ mod lines;
 mod refusals;
 mod rules;
 
-pub use explanations::{Topic, explanation, summary};
+pub use explanations::{Topic, explanation, summary, topic_name, topic_of};
 pub use lines::{nearest, topics_asked};

@@ -7,6 +7,7 @@ ghost use Rattle.sixel_explain.specs.Explanations.{IsNearest, all_called, edits,
 ghost use Rattle.sixel_explain.specs.Explanations.{listed_names, name_in, names_in, topic_name, topic_of_end, words_of};
 
 use crate::explanations::{Topic, topic_named};
+use sixel_grammar::Reason;
 use std::alloc::{AllocError, Global};
 use strsim::osa_distance;
 
@@ -121,6 +122,8 @@ fn topic_of_end(line: &str) -> Option<Topic>
         Some(Topic::Read)
     } else if line.ends_with(b" write failed") {
         Some(Topic::Write)
+    } else if line.ends_with(b" the input is empty") {
+        Some(Topic::Grammar(Reason::Truncated))
     } else {
         None
     }
