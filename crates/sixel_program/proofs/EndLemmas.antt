@@ -1,5 +1,5 @@
 -- What the end of a run says of its bytes.
-use Rattle.std.proofs.Common.{◌≡◌, ℕ, List, Option, Some, None, subst}
+use Rattle.std.proofs.Common.{◌≡◌, ℕ, List, Option, Some, None, refl, subst}
 use Rattle.std.specs.Prelude.{Result, Ok, Err, IfSome}
 use Rattle.std.specs.Io.KnownBytes.{Keeps}
 use Rattle.sixel_program.specs.declared.exit.Exit.TheVariants as exit
@@ -8,18 +8,19 @@ use Rattle.sixel_run.specs.declared.task.Status.{Status}
 use Rattle.sixel_run.specs.declared.task.Status.TheVariants as status
 use Rattle.sixel_run.specs.declared.task.Task.{Task}
 use Rattle.sixel_program.specs.Exits.{exit_for_answer}
-use Rattle.sixel_program.specs.Files.{IsBrokenOver}
-use Rattle.sixel_run.specs.Outputs.{Gives, Wrote}
-use Rattle.sixel_run.specs.Texts.{Text}
+use Rattle.sixel_program.specs.Files.{IsBrokenOver, IsDoneOver}
+use Rattle.sixel_run.specs.Outputs.{Wrote}
 
 pub done_gives : (t : Task) (told left : Option (List ℕ)) (a : Result Status RunFault) (had has : Option (List ℕ))
     → IfSome told (λ bytes. Wrote t bytes left a had has) → exit_for_answer a ≡ exit.Done
-    → IfSome told (λ bytes. (text : Text) × Gives t bytes text (Ok status.Done))
+    → IsDoneOver t told
 done_gives t None left a had has wrote is = tt
-done_gives t (Some bytes) left (Ok status.Done) had has wrote is = (wrote.0, wrote.1)
+done_gives t (Some bytes) left (Ok status.Done) had has wrote is = (wrote.0, status.Done, refl, wrote.1)
+done_gives t (Some bytes) left (Ok (status.Noted note)) had has wrote is = (wrote.0, status.Noted note, refl, wrote.1)
 done_gives t (Some bytes) left (Ok (status.Broken finding)) had has wrote is =
     let no : exit.Broken ≡ exit.Done = is in cc
-done_gives t (Some bytes) left (Ok status.Unfit) had has wrote is = let no : exit.Broken ≡ exit.Done = is in cc
+done_gives t (Some bytes) left (Ok (status.Unfit wrapped)) had has wrote is =
+    let no : exit.Broken ≡ exit.Done = is in cc
 done_gives t (Some bytes) left (Err fault) had has wrote is = let no : exit.Refused ≡ exit.Done = is in cc
 
 pub broken_gives : (t : Task) (told left : Option (List ℕ)) (a : Result Status RunFault) (had has : Option (List ℕ))
@@ -27,10 +28,12 @@ pub broken_gives : (t : Task) (told left : Option (List ℕ)) (a : Result Status
     → IsBrokenOver t told
 broken_gives t None left a had has wrote is = tt
 broken_gives t (Some bytes) left (Ok status.Done) had has wrote is = λ all. let no : exit.Done ≡ exit.Broken = is in cc
+broken_gives t (Some bytes) left (Ok (status.Noted note)) had has wrote is = λ all.
+    let no : exit.Done ≡ exit.Broken = is in cc
 broken_gives t (Some bytes) left (Ok (status.Broken finding)) had has wrote is = λ all.
-    (wrote.0, status.Broken finding, (λ done. cc), wrote.1)
-broken_gives t (Some bytes) left (Ok status.Unfit) had has wrote is = λ all.
-    (wrote.0, status.Unfit, (λ done. cc), wrote.1)
+    (wrote.0, status.Broken finding, refl, wrote.1)
+broken_gives t (Some bytes) left (Ok (status.Unfit wrapped)) had has wrote is = λ all.
+    (wrote.0, status.Unfit wrapped, refl, wrote.1)
 broken_gives t (Some bytes) left (Err fault) had has wrote is = λ all. let no : exit.Refused ≡ exit.Broken = is in cc
 
 -- what holds of a source's bytes holds of the bytes that it was made from

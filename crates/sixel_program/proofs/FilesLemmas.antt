@@ -1,6 +1,6 @@
 -- On checks and surveys of several files.
 use Rattle.std.proofs.Common.{◌≡◌, ◌∙◌, ◌+◌, ◌<◌, ℕ, Bool, true, false, List, [], ◌∷◌, ◌++◌, length, take, drop, Option}
-use Rattle.std.proofs.Common.{Some, None, refl, sym, ap, ap₂, subst, arith, inl, inr, flat_map, All, map, ◌==◌}
+use Rattle.std.proofs.Common.{Some, None, refl, sym, ap, ap₂, subst, arith, inl, inr, flat_map, All, map, ◌==◌, ◌||◌}
 use Rattle.std.proofs.lemmas.Bool.{eqb-true}
 use Rattle.std.specs.Prelude.{◌⊎◌, ◌≢◌, Result, Ok, Err, IfSome, String, string_bytes}
 use Rattle.std.specs.Global.{Global}
@@ -12,6 +12,7 @@ use Rattle.std.proofs.lemmas.List.{append-nil, length-append, take-append-drop, 
 use Rattle.std.proofs.lemmas.List.Elements.{All-cons, All-head, All-nil, All-push, All-tail}
 use Rattle.std.proofs.lemmas.Grind.{flat_map-append}
 use Rattle.std.proofs.lemmas.List.{map-append}
+use Rattle.std.proofs.lemmas.List.Folds.{list_any-append}
 use Rattle.std.proofs.lemmas.List.Sums.{fold_push, sum_by_push}
 use Rattle.sixel_io.specs.Devices.{Change, SinkState, SourceState, change, one_more}
 use Rattle.sixel_io.proofs.SinkLemmas.{Appends-keeps, Appends-none}
@@ -39,7 +40,8 @@ use Rattle.sixel_program.specs.Files.{AreChecked, ArePut, FileEnd, FilesEnd, IsC
 use Rattle.sixel_program.specs.Files.{IsFileOpening, IsFinished, IsRead, causes_among, complaints_of, failed_among}
 use Rattle.sixel_program.specs.Files.{exit_of_end, files_exit, files_text, is_dash, labels_for}
 use Rattle.sixel_program.specs.Files.{labels_of, name_of, said_of, text_of_end, worse}
-use Rattle.sixel_program.specs.Files.{worst}
+use Rattle.sixel_program.specs.Files.{worst, wrapped_among}
+use Rattle.sixel_program.specs.Notes.{has_wrapped}
 use Rattle.sixel_run.specs.LineTasks.{ReadsOver, has_lines}
 use Rattle.sixel_program.specs.Hints.{cause_of, causes_of, with_cause}
 use Rattle.sixel_program.specs.Openings.{FailsWith, FolderView, bytes_of}
@@ -65,6 +67,11 @@ none_put e = refl
 pub one_put : (text : Text) (a b : SinkState) → IsPut text (change a b) → ArePut (text ∷ []) (change a b)
 unfolding ArePut
 one_put text a b put = (b, put, refl)
+
+pub two_put : (first second : Text) (a b c : SinkState) → IsPut first (change a b) → IsPut second (change b c)
+    → ArePut (first ∷ second ∷ []) (change a c)
+unfolding ArePut
+two_put first second a b c one two = (b, one, (c, two, refl))
 
 -- texts were put, and then others
 pub put_then : (texts more : List Text) (a b c : SinkState) → ArePut texts (change a b) → ArePut more (change b c)
@@ -198,6 +205,16 @@ causes_more ends e =
     ap causes_of (map-append (λ (e : FileEnd). e.answer) ends (e ∷ []))
     ∙ fold_push (λ causes answer. with_cause causes (cause_of answer)) [] (map (λ e. e.answer) ends) e.answer
 
+or_none : (b : Bool) → (b || false) ≡ b
+or_none true = refl
+or_none false = refl
+
+wrapped_more : (ends : List FileEnd) (e : FileEnd)
+    → wrapped_among (ends ++ e ∷ []) ≡ (wrapped_among ends || has_wrapped e.answer)
+wrapped_more ends e =
+    list_any-append (λ (e : FileEnd). has_wrapped e.answer) ends (e ∷ [])
+    ∙ ap (λ (b : Bool). wrapped_among ends || b) (or_none (has_wrapped e.answer))
+
 failed_more : (ends : List FileEnd) (e : FileEnd)
     → failed_among (ends ++ e ∷ []) ≡ failed_among ends + cond (has_failed e.answer) 1 0
 failed_more ends e =
@@ -222,6 +239,7 @@ module _ (t : Task) (q : Lines) {O : Type 0} (folder : FolderView O) (ends : Lis
       → (all : List FileEnd) × AreChecked t q folder all (labels ++ label ∷ [])
       (worse x (exit_for_answer y)) (change i₀ i₂) (change o₀ o₂) (change e₀ e₂)
       × (causes_among all ≡ with_cause (causes_among ends) (cause_of y))
+      × (wrapped_among all ≡ (wrapped_among ends || has_wrapped y))
       × (failed_among all ≡ failed_among ends + cond (has_failed y) 1 0) × (length all ≡ length ends + 1)
   checked_more y one = (
     ends ++ one.e ∷ [],
@@ -243,6 +261,8 @@ module _ (t : Task) (q : Lines) {O : Type 0} (folder : FolderView O) (ends : Lis
     },
     causes_more ends one.e
         ∙ ap (λ (a : Result Status RunFault). with_cause (causes_among ends) (cause_of a)) (sym one.outcome.0),
+    wrapped_more ends one.e
+        ∙ ap (λ (a : Result Status RunFault). wrapped_among ends || has_wrapped a) (sym one.outcome.0),
     failed_more ends one.e
         ∙ ap (λ (a : Result Status RunFault). failed_among ends + cond (has_failed a) 1 0) (sym one.outcome.0),
     length-append ends (one.e ∷ []),
@@ -366,13 +386,14 @@ unopened t has label reason told = record {
 -- ---- when all inputs are checked
 
 module _ (t : Task) (q : Lines) (h : Shown) {O : Type 0} (folder : FolderView O) (ends : List FileEnd)
-    (labels : List (Option Text)) (x y : Exit) (causes : List Cause) (failed all : ℕ) (i : Change SourceState)
+    (labels : List (Option Text)) (x y : Exit) (causes : List Cause) (wrapped : Bool) (failed all : ℕ)
+    (i : Change SourceState)
     (o₀ o₁ o₂ e₀ e₁ e₂ : SinkState)
     (before : AreChecked t q folder ends labels x i (change o₀ o₁) (change e₀ e₁)) where
-  pub ended : causes ≡ causes_among ends → failed ≡ failed_among ends → all ≡ length ends
-      → IsFinished t q h x causes failed all y (change o₁ o₂) (change e₁ e₂)
+  pub ended : causes ≡ causes_among ends → wrapped ≡ wrapped_among ends → failed ≡ failed_among ends
+      → all ≡ length ends → IsFinished t q h x causes wrapped failed all y (change o₁ o₂) (change e₁ e₂)
       → FilesEnd t q h folder labels y i (change o₀ o₂) (change e₀ e₂)
-  ended first counted many (inl (is, kept, same, flushed, untouched, put)) =
+  ended first noted counted many (inl (is, kept, same, flushed, untouched, put)) =
       inl (record {
         ends = ends;
         between = e₁;
@@ -389,9 +410,9 @@ module _ (t : Task) (q : Lines) (h : Shown) {O : Type 0} (folder : FolderView O)
           said = before.said;
         });
         flushed = flushed;
-        closed = rw (first, counted, many) at put;
+        closed = rw (first, noted, counted, many) at put;
       })
-  ended first counted many (inr (is, kept, cut, wanted, put)) =
+  ended first noted counted many (inr (is, kept, cut, wanted, put)) =
       let none : ends ++ [] ≡ ends = append-nil ends in
       inr (record {
         whole = ends;
@@ -417,17 +438,19 @@ module _ (t : Task) (q : Lines) (h : Shown) {O : Type 0} (folder : FolderView O)
 -- one input alone
 module _ (t : Task) (q : Lines) (h : Shown) {O : Type 0} (folder : FolderView O) (label : Option Text) (i₀ i₁ : SourceState)
     (o₀ o₁ o₂ e₀ e₁ e₂ : SinkState) (stays : is_dash (name_of label) ≡ false → i₁ ≡ i₀) where
-  pub one_ended : {E : Type 0} (answer : Result Status RunFault) (x y : Exit) (causes : List Cause) (failed : ℕ)
+  pub one_ended : {E : Type 0} (answer : Result Status RunFault) (x y : Exit) (causes : List Cause) (wrapped : Bool)
+      (failed : ℕ)
       → IsChecked {E = E} t q folder label (Ok answer) (change i₀ i₁) (change o₀ o₁) (change e₀ e₁)
-      → x ≡ exit_for_answer answer → causes ≡ with_cause [] (cause_of answer) → failed ≡ cond (has_failed answer) 1 0
-      → IsFinished t q h x causes failed 1 y (change o₁ o₂) (change e₁ e₂)
+      → x ≡ exit_for_answer answer → causes ≡ with_cause [] (cause_of answer) → wrapped ≡ has_wrapped answer
+      → failed ≡ cond (has_failed answer) 1 0
+      → IsFinished t q h x causes wrapped failed 1 y (change o₁ o₂) (change e₁ e₂)
       → FilesEnd t q h folder (label ∷ []) y (change i₀ i₁) (change o₀ o₂) (change e₀ e₂)
-  one_ended answer x y causes failed one is found counted finished =
+  one_ended answer x y causes wrapped failed one is found noted counted finished =
       let all = checked_more t q folder [] [] label exit.Done i₀ i₀ i₁ o₀ o₀ o₁ e₀ e₀ e₁
       (none_checked t q folder i₀ o₀ e₀) stays (λ dash. refl) (λ none. refl) answer one in
-      ended t q h folder all.0 (label ∷ []) x y causes failed 1 (change i₀ i₁) o₀ o₁ o₂ e₀ e₁ e₂
-      (rw (is ∙ sym (from_done (exit_for_answer answer))) all.1) (found ∙ sym all.2) (omega (arith, counted, all.3))
-      (omega (arith, all.4)) finished
+      ended t q h folder all.0 (label ∷ []) x y causes wrapped failed 1 (change i₀ i₁) o₀ o₁ o₂ e₀ e₁ e₂
+      (rw (is ∙ sym (from_done (exit_for_answer answer))) all.1) (found ∙ sym all.2) (noted ∙ sym all.3)
+      (omega (arith, counted, all.4)) (omega (arith, all.5)) finished
 
   pub one_cut : {E : Type 0} (f : E)
       → IsChecked {E = E} t q folder label (Err f) (change i₀ i₁) (change o₀ o₁) (change e₀ e₁)

@@ -10,11 +10,12 @@ use Rattle.sixel_program.specs.Files.{FileEnds, is_dash}
 use Rattle.sixel_program.specs.Names.{unopened_line}
 use Rattle.sixel_program.specs.Openings.{CountsOf, FolderView, IsOpening, bytes_of}
 use Rattle.sixel_program.specs.declared.folder.Unopened.{Unopened}
+use Rattle.sixel_program.specs.declared.lines.Lines.{Lines}
 use Rattle.sixel_run.specs.Texts.{Text}
 
-module _ (t : Task) {O : Type 0} (folder : FolderView O) (name : Text) (o e : Change SinkState) where
-  pub dash_ends : (x : Exit) (i : Change SourceState) → is_dash name ≡ true → RunEnds t (Some name) x i o e
-      → FileEnds t folder name x i o e
+module _ (t : Task) (q : Lines) {O : Type 0} (folder : FolderView O) (name : Text) (o e : Change SinkState) where
+  pub dash_ends : (x : Exit) (i : Change SourceState) → is_dash name ≡ true → RunEnds t q (Some name) x i o e
+      → FileEnds t q folder name x i o e
   dash_ends x i dash ended = record {
     file = i;
     told = rw dash refl;
@@ -31,7 +32,7 @@ module _ (t : Task) {O : Type 0} (folder : FolderView O) (name : Text) (o e : Ch
 
   pub file_ends : (x : Exit) (i : SourceState) (file : Change SourceState) → is_dash name ≡ false
       → file.old.remaining ≡ bytes_of folder.opening name → IsOpening (folder.opening name) name None
-      → CountsOf folder name file → RunEnds t (Some name) x file o e → FileEnds t folder name x (change i i) o e
+      → CountsOf folder name file → RunEnds t q (Some name) x file o e → FileEnds t q folder name x (change i i) o e
   file_ends x i file other told opens counts ended = record {
     file = file;
     told = rw other told;
@@ -40,11 +41,11 @@ module _ (t : Task) {O : Type 0} (folder : FolderView O) (name : Text) (o e : Ch
     ended = inl (ended, record { opening = λ is. opens; counted = λ is. counts });
   }
 
-pub unopened_ends : (t : Task) {O : Type 0} (folder : FolderView O) (name : Text) (i : SourceState)
+pub unopened_ends : (t : Task) (q : Lines) {O : Type 0} (folder : FolderView O) (name : Text) (i : SourceState)
     (o : SinkState) (e : Change SinkState) (reason : Unopened) → is_dash name ≡ false
     → IsOpening (folder.opening name) name (Some reason) → IsPut (unopened_line name reason) e
-    → FileEnds t folder name exit.Refused (change i i) (change o o) e
-unopened_ends t folder name i o e reason file opens put =
+    → FileEnds t q folder name exit.Refused (change i i) (change o o) e
+unopened_ends t q folder name i o e reason file opens put =
     let unread : SourceState = record { remaining = bytes_of folder.opening name; failures = 0 } in
     record {
       file = change unread unread;

@@ -31,17 +31,17 @@ IsRunOver t x told = (answer : Result Status RunFault) × (x ≡ exit_for_answer
     × (x ≢ exit.Refused → (left : Option (List ℕ)) × (had : Option (List ℕ)) × (has : Option (List ℕ))
     × IfSome told (λ bytes. Wrote t bytes left answer had has))
 
-run_ends : (t : Task) (name : Option Text) (x : Exit) (i : Change SourceState) (o e : Change SinkState)
-    → RunEnds t name x i o e → IsRunOver t x i.old.remaining
-run_ends t name x i o e ended =
+run_ends : (t : Task) (q : Lines) (name : Option Text) (x : Exit) (i : Change SourceState) (o e : Change SinkState)
+    → RunEnds t q name x i o e → IsRunOver t x i.old.remaining
+run_ends t q name x i o e ended =
     (ended.answer, ended.ends, λ judged. (i.new.remaining, o.old.taken, o.new.taken, ended.wrote))
 
-file_run : {O : Type 0} (folder : FolderView O) (t : Task) (name : Text) (x : Exit)
-    (i : Change SourceState) (o e : Change SinkState) → FileEnds t folder name x i o e
+file_run : {O : Type 0} (folder : FolderView O) (t : Task) (q : Lines) (name : Text) (x : Exit)
+    (i : Change SourceState) (o e : Change SinkState) → FileEnds t q folder name x i o e
     → IsRunOver t x (told_of (bytes_of folder.opening) i.old.remaining name)
-file_run folder t name x i o e ended =
+file_run folder t q name x i o e ended =
     subst (λ (told : Option (List ℕ)). IsRunOver t x told) ended.told (elim ended.ended [
-      | inl ran ↦ run_ends t (Some name) x ended.file o e ran.0
+      | inl ran ↦ run_ends t q (Some name) x ended.file o e ran.0
       | inr unopened ↦ (Err run.Read, unopened.ends, λ judged. absurd (judged unopened.ends))
     ])
 
@@ -63,33 +63,34 @@ module _ {O : Type 0} (folder : FolderView O) (x : Exit) (i : Change SourceState
       inr (all_of q, sym (labels_read (task.Survey profile) names refl), ended)
   request_read (task.Scan profile eight) q h names ended =
       inr (all_of q, sym (labels_read (task.Scan profile eight) names refl), ended)
-  request_read task.List q h [] ended = inl (codes "-", refl, run_ends task.List None x i o e ended)
-  request_read task.List q h (name ∷ more) ended = inl (name, refl, file_run folder task.List name x i o e ended)
+  request_read task.List q h [] ended = inl (codes "-", refl, run_ends task.List q None x i o e ended)
+  request_read task.List q h (name ∷ more) ended = inl (name, refl, file_run folder task.List q name x i o e ended)
   request_read (task.Render profile) q h [] ended =
-      inl (codes "-", refl, run_ends (task.Render profile) None x i o e ended)
+      inl (codes "-", refl, run_ends (task.Render profile) q None x i o e ended)
   request_read (task.Render profile) q h (name ∷ more) ended =
-      inl (name, refl, file_run folder (task.Render profile) name x i o e ended)
+      inl (name, refl, file_run folder (task.Render profile) q name x i o e ended)
   request_read (task.Encode profile) q h [] ended =
-      inl (codes "-", refl, run_ends (task.Encode profile) None x i o e ended)
+      inl (codes "-", refl, run_ends (task.Encode profile) q None x i o e ended)
   request_read (task.Encode profile) q h (name ∷ more) ended =
-      inl (name, refl, file_run folder (task.Encode profile) name x i o e ended)
+      inl (name, refl, file_run folder (task.Encode profile) q name x i o e ended)
   request_read (task.Show profile showing fill selects width height) q h [] ended =
-      inl (codes "-", refl, run_ends (task.Show profile showing fill selects width height) None x i o e ended)
+      inl (codes "-", refl, run_ends (task.Show profile showing fill selects width height) q None x i o e ended)
   request_read (task.Show profile showing fill selects width height) q h (name ∷ more) ended =
-      inl (name, refl, file_run folder (task.Show profile showing fill selects width height) name x i o e ended)
+      inl (name, refl, file_run folder (task.Show profile showing fill selects width height) q name x i o e ended)
   request_read (task.ShowBox profile showing fill selects) q h [] ended =
-      inl (codes "-", refl, run_ends (task.ShowBox profile showing fill selects) None x i o e ended)
+      inl (codes "-", refl, run_ends (task.ShowBox profile showing fill selects) q None x i o e ended)
   request_read (task.ShowBox profile showing fill selects) q h (name ∷ more) ended =
-      inl (name, refl, file_run folder (task.ShowBox profile showing fill selects) name x i o e ended)
+      inl (name, refl, file_run folder (task.ShowBox profile showing fill selects) q name x i o e ended)
   request_read (task.Mend profile background showing selects) q h [] ended =
-      inl (codes "-", refl, run_ends (task.Mend profile background showing selects) None x i o e ended)
+      inl (codes "-", refl, run_ends (task.Mend profile background showing selects) q None x i o e ended)
   request_read (task.Mend profile background showing selects) q h (name ∷ more) ended =
-      inl (name, refl, file_run folder (task.Mend profile background showing selects) name x i o e ended)
+      inl (name, refl, file_run folder (task.Mend profile background showing selects) q name x i o e ended)
 
 answer_no_usage : (a : Result Status RunFault) → exit_for_answer a ≢ exit.Usage
 answer_no_usage (Ok status.Done) = λ (is : exit.Done ≡ exit.Usage). cc
 answer_no_usage (Ok (status.Broken finding)) = λ (is : exit.Broken ≡ exit.Usage). cc
-answer_no_usage (Ok status.Unfit) = λ (is : exit.Broken ≡ exit.Usage). cc
+answer_no_usage (Ok (status.Noted note)) = λ (is : exit.Done ≡ exit.Usage). cc
+answer_no_usage (Ok (status.Unfit wrapped)) = λ (is : exit.Broken ≡ exit.Usage). cc
 answer_no_usage (Err fault) = λ (is : exit.Refused ≡ exit.Usage). cc
 
 one_of_two : (b : Bool) (x y : Exit) → x ≢ exit.Usage → y ≢ exit.Usage → (if b then y else x) ≢ exit.Usage

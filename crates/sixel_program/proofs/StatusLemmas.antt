@@ -46,9 +46,11 @@ judged_gives : (t : Task) (told left : Option (List ℕ)) (a : Result Status Run
     → IsJudgedOver t told
 judged_gives t None left a had has wrote below = tt
 judged_gives t (Some bytes) left (Ok status.Done) had has wrote below = (wrote.0, status.Done, wrote.1)
+judged_gives t (Some bytes) left (Ok (status.Noted note)) had has wrote below = (wrote.0, status.Noted note, wrote.1)
 judged_gives t (Some bytes) left (Ok (status.Broken finding)) had has wrote below =
     (wrote.0, status.Broken finding, wrote.1)
-judged_gives t (Some bytes) left (Ok status.Unfit) had has wrote below = (wrote.0, status.Unfit, wrote.1)
+judged_gives t (Some bytes) left (Ok (status.Unfit wrapped)) had has wrote below =
+    (wrote.0, status.Unfit wrapped, wrote.1)
 judged_gives t (Some bytes) left (Err fault) had has wrote below = absurd (omega (arith, below))
 
 module _ (t : Task) (ends : List FileEnd) (each : All (IsFileEnd t) ends) where

@@ -3,6 +3,7 @@ use Rattle.std.proofs.Common.{◌≡◌, ◌∙◌, ◌∷◌, ◌++◌, ℕ, []
 use Rattle.std.specs.Prelude.{decimal}
 use Rattle.sixel_grammar.specs.declared.fault.Fault.{Fault}
 use Rattle.sixel_judge.specs.declared.verdict.Finding.{Finding}
+use Rattle.sixel_scan.specs.declared.answer.Scanned.{Scanned}
 use Rattle.sixel_scan.specs.declared.answer.Answer.TheVariants.{Broken, Refused}
 use Rattle.sixel_run.specs.Texts.{Text, finding_line, reason_name, refusal_line, rule_name, spaced, string_line}
 use Rattle.sixel_explain.specs.declared.explanations.Topic.TheVariants as topic
@@ -29,16 +30,16 @@ after_place before place line =
     ap (λ (t : Text). before ++ t) (sym (append_assoc (decimal place) (32 ∷ []) line))
     ∙ sym (append_assoc before (decimal place ++ 32 ∷ []) line)
 
-pub string_finding_pasted : (before : Text) (place : ℕ) (f : Finding) (said : List Text)
-    → ArePasted said (before ++ string_line (record { place = place; answer = Broken f }))
+pub string_finding_pasted : (before : Text) (string : Scanned) (f : Finding) (said : List Text)
+    → ArePasted said (before ++ string_line (record string { answer = Broken f }))
     → names_in (line_of said) ≡ Some (rule_name f.rule ∷ [])
-string_finding_pasted before place f said are =
-    finding_pasted (before ++ (decimal place ++ 32 ∷ [])) f said
-    (are ∙ ap (λ (t : Text). 32 ∷ t) (after_place before place (finding_line f)))
+string_finding_pasted before string f said are =
+    finding_pasted (before ++ (decimal string.place ++ 32 ∷ [])) f said
+    (are ∙ ap (λ (t : Text). 32 ∷ t) (after_place before string.place (finding_line f)))
 
-pub string_refusal_pasted : (before : Text) (place : ℕ) (f : Fault) (said : List Text)
-    → ArePasted said (before ++ string_line (record { place = place; answer = Refused f }))
+pub string_refusal_pasted : (before : Text) (string : Scanned) (f : Fault) (said : List Text)
+    → ArePasted said (before ++ string_line (record string { answer = Refused f }))
     → names_in (line_of said) ≡ Some (reason_name f.reason ∷ [])
-string_refusal_pasted before place f said are =
-    refusal_pasted (before ++ (decimal place ++ 32 ∷ [])) f said
-    (are ∙ ap (λ (t : Text). 32 ∷ t) (after_place before place (refusal_line f)))
+string_refusal_pasted before string f said are =
+    refusal_pasted (before ++ (decimal string.place ++ 32 ∷ [])) f said
+    (are ∙ ap (λ (t : Text). 32 ∷ t) (after_place before string.place (refusal_line f)))

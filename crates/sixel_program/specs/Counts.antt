@@ -5,7 +5,7 @@ use Rattle.sixel_program.specs.declared.lines.Lines.{Lines}
 use Rattle.sixel_program.specs.declared.lines.Lines.TheVariants.{Json, Nothing, Plain}
 use Rattle.sixel_run.specs.declared.fault.RunFault.{RunFault}
 use Rattle.sixel_run.specs.declared.task.Status.{Status}
-use Rattle.sixel_run.specs.declared.task.Status.TheVariants.{Done}
+use Rattle.sixel_run.specs.declared.task.Status.TheVariants.{Done, Noted}
 use Rattle.sixel_run.specs.declared.task.Task.{Task}
 use Rattle.sixel_run.specs.declared.task.Task.TheVariants.{Check}
 use Rattle.sixel_run.specs.Texts.{Text, line}
@@ -13,6 +13,7 @@ use Rattle.sixel_run.specs.Texts.{Text, line}
 -- whether an input with this answer isn't portable: a rule is broken, or it is refused
 abbrev pub has_failed : Result Status RunFault → Bool
 has_failed (Ok Done) = false
+has_failed (Ok (Noted note)) = false
 has_failed answer = true
 
 -- whether a last line counts the files: if messages are shown or only failures are wanted, but not after a quiet check

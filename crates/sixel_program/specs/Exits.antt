@@ -13,7 +13,10 @@ use Rattle.sixel_run.specs.declared.task.Task.TheVariants as task
 use Rattle.sixel_run.specs.declared.fault.RunFault.TheVariants as run
 use Rattle.sixel_program.specs.declared.formats.Format.{Format}
 use Rattle.sixel_program.specs.Formats.{IsFormat, advice_for}
+use Rattle.sixel_program.specs.Lines.{is_quiet}
 use Rattle.sixel_program.specs.Names.{named, named_fault_line}
+use Rattle.sixel_program.specs.Notes.{note_line}
+use Rattle.sixel_program.specs.declared.lines.Lines.{Lines}
 use Rattle.sixel_run.specs.Outputs.{CountsReads, CountsWrites, TakesMemory, Wrote}
 use Rattle.sixel_run.specs.Texts.{Text, fault_line, finding_line}
 
@@ -27,8 +30,9 @@ exit_code Usage = 3
 -- the exit status after a run with this answer
 abbrev pub exit_for_answer : Result Status RunFault → Exit
 exit_for_answer (Ok status.Done) = Done
+exit_for_answer (Ok (status.Noted note)) = Done
 exit_for_answer (Ok (status.Broken finding)) = Broken
-exit_for_answer (Ok status.Unfit) = Broken
+exit_for_answer (Ok (status.Unfit wrapped)) = Broken
 exit_for_answer (Err fault) = Refused
 
 -- ---- what is said of a run
@@ -47,12 +51,14 @@ abbrev pub fault_said : Option Text → RunFault → Text
 fault_said None fault = fault_line fault
 fault_said (Some name) fault = named_fault_line name fault
 
--- the message about a run: why it was refused, or which rule kept its picture from being rendered; otherwise none
-abbrev pub complaint : Task → Option Text → Result Status RunFault → Text
-complaint t name (Ok status.Done) = []
-complaint t name (Ok status.Unfit) = []
-complaint t name (Ok (status.Broken finding)) = if is_render t then labelled name (finding_line finding) else []
-complaint t name (Err fault) = fault_said name fault
+-- the message about a run: why it was refused, which rule kept its picture from being rendered, or, unless it is quiet,
+-- what may surprise; otherwise none
+abbrev pub complaint : Task → Lines → Option Text → Result Status RunFault → Text
+complaint t lines name (Ok status.Done) = []
+complaint t lines name (Ok (status.Noted note)) = if is_quiet lines then [] else note_line note
+complaint t lines name (Ok (status.Unfit wrapped)) = []
+complaint t lines name (Ok (status.Broken finding)) = if is_render t then labelled name (finding_line finding) else []
+complaint t lines name (Err fault) = fault_said name fault
 
 -- the text was appended to the bytes of a sink; or a prefix of it was, and a call on the sink failed
 abbrev pub IsPut : Text → Change SinkState → Type 0
@@ -63,7 +69,7 @@ IsPut text sink =
 -- how a run of the task ended, over an input that has this name or none. The run had some answer. The input and the
 -- output are as after a run with this answer, the exit status is that of the answer, and the errors got the message
 -- about it and the advice on an input of this format
-pub record RunEnds (t : Task) (name : Option Text) (exit : Exit) (input : Change SourceState)
+pub record RunEnds (t : Task) (lines : Lines) (name : Option Text) (exit : Exit) (input : Change SourceState)
     (output errors : Change SinkState) : Type 0 where
   pub answer : Result Status RunFault
   pub format : Option Format
@@ -75,4 +81,4 @@ pub record RunEnds (t : Task) (name : Option Text) (exit : Exit) (input : Change
   pub written : CountsWrites answer output.old.failures output.new.failures
   pub flushed : answer ≢ Err run.Write → output.new.is_flushed ≡ true
   pub ends : exit ≡ exit_for_answer answer
-  pub said : IsPut (complaint t name answer ++ advice_for format answer) errors
+  pub said : IsPut (complaint t lines name answer ++ advice_for format answer) errors

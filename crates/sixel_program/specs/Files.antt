@@ -9,12 +9,11 @@ use Rattle.sixel_io.specs.Devices.{Change, SinkState, SourceState, change, one_m
 use Rattle.sixel_program.specs.declared.hints.Cause.{Cause}
 use Rattle.sixel_program.specs.declared.exit.Exit.{Exit}
 use Rattle.sixel_program.specs.declared.folder.Unopened.{Unopened}
-use Rattle.sixel_program.specs.declared.exit.Exit.TheVariants.{Done, Refused}
+use Rattle.sixel_program.specs.declared.exit.Exit.TheVariants.{Broken, Done, Refused}
 use Rattle.sixel_scan.specs.Scans.{longest_stream}
 use Rattle.sixel_run.specs.declared.fault.RunFault.{RunFault}
 use Rattle.sixel_run.specs.declared.fault.RunFault.TheVariants as run
 use Rattle.sixel_run.specs.declared.task.Status.{Status}
-use Rattle.sixel_run.specs.declared.task.Status.TheVariants as status
 use Rattle.sixel_run.specs.declared.task.Task.{Task}
 use Rattle.sixel_run.specs.declared.task.Task.TheVariants.{Check, Encode, Render, Scan, Show, ShowBox, Survey}
 use Rattle.sixel_program.specs.declared.formats.Format.{Format}
@@ -25,6 +24,7 @@ use Rattle.sixel_run.specs.LineTasks.{ReadsOver, scans}
 use Rattle.sixel_run.specs.Outputs.{Gives, TakesMemory, Wrote, failures_by}
 use Rattle.sixel_program.specs.Hints.{causes_of, hinted, hints_of}
 use Rattle.sixel_program.specs.Names.{unopened_line}
+use Rattle.sixel_program.specs.Notes.{has_wrapped, wrapped_line}
 use Rattle.sixel_program.specs.Openings.{CountsOf, FailsWith, FolderView, IsOpening, Told, bytes_of}
 use Rattle.sixel_run.specs.declared.item.Item.{Item}
 use Rattle.sixel_run.specs.Texts.{Text, fault_line, item_line, items_text}
@@ -73,9 +73,10 @@ reads_input t names = list_any is_dash (names_read t names)
 abbrev pub names_input_twice : Task → List Text → Bool
 names_input_twice t names = nat_lt 1 (count_by is_dash (names_read t names))
 
--- for these bytes, if they are known, the task is done
+-- for these bytes, if they are known, the task is done, perhaps with a note
 abbrev pub IsDoneOver : Task → Option (List ℕ) → Type 0
-IsDoneOver t told = IfSome told (λ bytes. (text : Text) × Gives t bytes text (Ok status.Done))
+IsDoneOver t told = IfSome told (λ bytes. (text : Text) × (found : Status)
+    × (exit_for_answer (Ok found) ≡ Done) × Gives t bytes text (Ok found))
 
 -- a scan takes all of these bytes: they are no more than a stream has; any other task takes all
 abbrev pub TakesAll : Task → List ℕ → Type 0
@@ -85,7 +86,7 @@ TakesAll t bytes = ⊤
 -- for these bytes, if they are known, the task finds a broken rule, or a string that isn't portable
 abbrev pub IsBrokenOver : Task → Option (List ℕ) → Type 0
 IsBrokenOver t told = IfSome told (λ bytes. TakesAll t bytes
-    → (text : Text) × (found : Status) × (found ≢ status.Done) × Gives t bytes text (Ok found))
+    → (text : Text) × (found : Status) × (exit_for_answer (Ok found) ≡ Broken) × Gives t bytes text (Ok found))
 
 -- for these bytes, if they are known, the task has a status, so it doesn't refuse them
 abbrev pub IsJudgedOver : Task → Option (List ℕ) → Type 0
@@ -151,13 +152,13 @@ pub record IsOpened {O : Type 0} (folder : FolderView O) (name : Text) (input : 
 
 -- how a task over the file with this name ended. If the name is that of standard input, the file is `input`. Otherwise
 -- `input` is unchanged, and the file was read or couldn't be opened
-pub record FileEnds {O : Type 0} (t : Task) (folder : FolderView O) (name : Text) (exit : Exit)
+pub record FileEnds {O : Type 0} (t : Task) (lines : Lines) (folder : FolderView O) (name : Text) (exit : Exit)
     (input : Change SourceState) (output errors : Change SinkState) : Type 0 where
   pub file : Change SourceState
   pub told : file.old.remaining ≡ told_of (bytes_of folder.opening) input.old.remaining name
   pub is_input : is_dash name ≡ true → file ≡ input
   pub stays : is_dash name ≡ false → input.new ≡ input.old
-  pub ended : (RunEnds t (Some name) exit file output errors × IsOpened folder name file)
+  pub ended : (RunEnds t lines (Some name) exit file output errors × IsOpened folder name file)
       ⊎ IsUnopened (folder.opening name) name exit output errors
 
 -- ---- checks, surveys and scans
@@ -268,11 +269,16 @@ causes_among ends = causes_of (map (λ e. e.answer) ends)
 abbrev pub failed_among : List FileEnd → ℕ
 failed_among ends = count_by (λ e. has_failed e.answer) ends
 
--- the last messages, after so many inputs of which so many failed: the hints on what was found wrong, and the line that
--- counts the inputs
-abbrev pub closing : Task → Lines → Shown → List Cause → ℕ → ℕ → List Text
-closing t lines shown causes failed all =
-    hints_of t (hinted lines shown causes) ++ count_of t lines shown.is_terminal failed all ∷ []
+-- whether a scan of one of the inputs found a wrapped string
+abbrev pub wrapped_among : List FileEnd → Bool
+wrapped_among ends = list_any (λ e. has_wrapped e.answer) ends
+
+-- the last messages, after so many inputs of which so many failed: the hints on what was found wrong, the note on
+-- wrapped strings, and the line that counts the inputs
+abbrev pub closing : Task → Lines → Shown → List Cause → Bool → ℕ → ℕ → List Text
+closing t lines shown causes wrapped failed all =
+    hints_of t (hinted lines shown causes) ++ wrapped_line shown.notes wrapped
+    ∷ count_of t lines shown.is_terminal failed all ∷ []
 
 abbrev pub labels_of : List FileEnd → List (Option Text)
 labels_of ends = map (λ e. e.label) ends
@@ -396,18 +402,18 @@ pub record AreDone {O : Type 0} (t : Task) (lines : Lines) (shown : Shown) (fold
   pub between : SinkState
   pub checked : AreChecked t lines folder ends labels exit input output (change errors.old between)
   pub flushed : is_quiet lines ≡ false → output.new.is_flushed ≡ true
-  pub closed : ArePut (closing t lines shown (causes_among ends) (failed_among ends) (length ends))
+  pub closed : ArePut (closing t lines shown (causes_among ends) (wrapped_among ends) (failed_among ends) (length ends))
       (change between errors.new)
 
--- a check, a survey or a scan of so many inputs with this exit status, which found this wrong and of which so many
--- failed, came to its end: the output was flushed unless the task is quiet, and the errors got the last messages; or
+-- a check, a survey or a scan of so many inputs with this exit status, which found this wrong, a wrapped string or none,
+-- and of which so many failed, came to its end: the output was flushed unless the task is quiet, and the errors got the last messages; or
 -- that flush failed
-abbrev pub IsFinished : Task → Lines → Shown → Exit → List Cause → ℕ → ℕ → Exit → Change SinkState
+abbrev pub IsFinished : Task → Lines → Shown → Exit → List Cause → Bool → ℕ → ℕ → Exit → Change SinkState
     → Change SinkState → Type 0
-IsFinished t lines shown found causes failed all exit output errors =
+IsFinished t lines shown found causes wrapped failed all exit output errors =
     ((exit ≡ found) × Keeps output.old.taken output.new.taken × (output.new.failures ≡ output.old.failures)
     × (is_quiet lines ≡ false → output.new.is_flushed ≡ true) × (is_quiet lines ≡ true → output.new ≡ output.old)
-    × ArePut (closing t lines shown causes failed all) errors)
+    × ArePut (closing t lines shown causes wrapped failed all) errors)
     ⊎ ((exit ≡ Refused) × Keeps output.old.taken output.new.taken
     × (output.new.failures ≡ one_more output.old.failures) × (is_quiet lines ≡ false)
     × IsPut (fault_line run.Write) errors)
@@ -431,9 +437,9 @@ RequestEnds (Survey profile) lines shown names folder exit input output errors =
     FilesEnd (Survey profile) (all_of lines) shown folder (labels_for names) exit input output errors
 RequestEnds (Scan profile eight) lines shown names folder exit input output errors =
     FilesEnd (Scan profile eight) (all_of lines) shown folder (labels_for names) exit input output errors
-RequestEnds t lines shown [] folder exit input output errors = RunEnds t None exit input output errors
+RequestEnds t lines shown [] folder exit input output errors = RunEnds t lines None exit input output errors
 RequestEnds t lines shown (name ∷ more) folder exit input output errors =
-    FileEnds t folder name exit input output errors
+    FileEnds t lines folder name exit input output errors
 
 -- a request ended so, after its notice
 abbrev pub NoticedEnds : {O : Type 0} → Text → Task → Lines → Shown → List Text → FolderView O → Exit

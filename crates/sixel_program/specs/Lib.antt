@@ -2,6 +2,7 @@ pub mod Formats
 pub mod Peeked
 pub mod Exits
 pub mod Names
+pub mod Notes
 pub mod Hints
 pub mod Openings
 pub mod Json

@@ -1,5 +1,5 @@
 -- Which lines a check, a survey or a scan writes, and which messages come last.
-use Rattle.std.specs.Prelude.{Bool, true, false}
+use Rattle.std.specs.Prelude.{Bool, not, true, false}
 use Rattle.sixel_judge.specs.declared.verdict.Outcome.TheVariants as outcome
 use Rattle.sixel_run.specs.declared.item.Item.{Item}
 use Rattle.sixel_run.specs.declared.item.Item.TheVariants as item
@@ -30,6 +30,7 @@ is_portable_item (item.Outcome (outcome.Portable width height)) = true
 is_portable_item (item.String s) = is_portable_answer s.answer
 is_portable_item i = false
 
--- who sees the messages of a request at these terminals, which asks for hints or doesn't
-abbrev pub shown_at : Terminals → Bool → Shown
-shown_at terminals explains = record { is_terminal = terminals.errors; explains = explains }
+-- which messages come last in a request with these lines at these terminals, which asks for hints or doesn't
+abbrev pub shown_at : Terminals → Lines → Bool → Shown
+shown_at terminals lines explains =
+    record { is_terminal = terminals.errors; explains = explains; notes = not (is_quiet lines) }

@@ -20,6 +20,7 @@ use crate::folder::{Folder, open_file};
 use crate::formats::Format;
 use crate::hints::{Causes, put_hints};
 use crate::lines::{Lines, Shown, is_quiet};
+use crate::notes::{has_wrapped, put_wrapped};
 use crate::nowhere::Nowhere;
 use crate::peeked::Peeked;
 use crate::reporting::{Labelled, name_of, say_answer, say_unopened};
@@ -189,6 +190,8 @@ struct Found {
     exit: Exit,
     /// What was found wrong.
     causes: Causes,
+    /// Whether a scan found a wrapped string.
+    wrapped: bool,
     /// How many inputs aren't portable.
     failed: usize,
     /// How many inputs there were.
@@ -204,12 +207,13 @@ fn finish<K: Sink, E: Sink>(
     output: &mut K,
     errors: &mut E,
 ) -> Exit
-    ensures { IsFinished task.now lines shown found.now.exit found.now.causes.found.items found.now.failed found.now.all
-        result (change (K.state output.old) (K.state output.new)) (change (E.state errors.old) (E.state errors.new)) }
+    ensures { IsFinished task.now lines shown found.now.exit found.now.causes.found.items
+        found.now.wrapped found.now.failed found.now.all result (change (K.state output.old) (K.state output.new)) (change (E.state errors.old) (E.state errors.new)) }
 {
     match flush_verdicts(lines, output) {
         Ok(()) => {
             put_hints(task, lines, shown, found.causes.as_slice(), errors);
+            put_wrapped(shown.notes, found.wrapped, errors);
             put_count(
                 task,
                 lines,
@@ -251,6 +255,7 @@ fn check_input<F: Folder, S: Source, K: Sink, E: Sink>(
             let found = Found {
                 exit: exit_of(answer),
                 causes,
+                wrapped: has_wrapped(&answer),
                 failed: failures_in(&answer),
                 all: 1,
             };
@@ -263,7 +268,8 @@ fn check_input<F: Folder, S: Source, K: Sink, E: Sink>(
 /// Checks, surveys or scans the files with these names in turn; one `-` at most is among them. Without names it is over
 /// standard input. A refused file doesn't end this, but a failed write does. The exit status is the greatest of theirs.
 /// At a terminal a hint on what was found wrong first comes last, or if hints are asked for one on each, but not after a
-/// quiet check or a scan; and then how many of several files failed, which a check of only failures says too.
+/// quiet check or a scan; then a scan's note on wrapped strings; and then how many of several files failed, which a check
+/// of only failures says too.
 ///
 /// It isn't inlined, or its room would be on the stack of every task.
 #[inline(never)]
@@ -294,6 +300,7 @@ pub fn check_files<F: Folder, S: Source, K: Sink, E: Sink>(
     }
     let mut exit = Exit::Done;
     let mut causes = Causes::new();
+    let mut wrapped = false;
     let mut failed = 0;
     for name in names {
         let label = Some(name.as_str());
@@ -302,6 +309,7 @@ pub fn check_files<F: Folder, S: Source, K: Sink, E: Sink>(
         ) {
             Ok(answer) => {
                 causes.note(&answer);
+                wrapped |= has_wrapped(&answer);
                 failed += failures_in(&answer);
                 exit = worse(exit, exit_of(answer));
             }
@@ -311,6 +319,7 @@ pub fn check_files<F: Folder, S: Source, K: Sink, E: Sink>(
     let found = Found {
         exit,
         causes,
+        wrapped,
         failed,
         all: names.len(),
     };

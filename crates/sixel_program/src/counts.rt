@@ -16,7 +16,7 @@ use sixel_run::{RunFault, Status, Task};
 fn has_failed(answer: &Result<Status, RunFault>) -> bool
     ensures { result ≡ has_failed answer.now }
 {
-    !matches!(answer, Ok(Status::Done))
+    !matches!(answer, Ok(Status::Done | Status::Noted(_)))
 }
 
 /// How many of one input with this answer have failed.

@@ -38,7 +38,7 @@ pub fn execute<F: Folder, S: Source, K: Sink, E: Sink>(
     requires { HasSides request.now.task }
     ensures ends { is_misasked terminals request.now.task (map string_bytes request.now.files.items) ≡ false →
         NoticedEnds (notice terminals request.now.task request.now.lines (map string_bytes request.now.files.items))
-        request.now.task request.now.lines (shown_at terminals request.now.explains) (map string_bytes request.now.files.items)
+        request.now.task request.now.lines (shown_at terminals request.now.lines request.now.explains) (map string_bytes request.now.files.items)
         (folder_view (F.opening folder.now) F.Opened.state) result
         (change (⟦<Peeked<S> as Source>⟧.state input.old) (⟦<Peeked<S> as Source>⟧.state input.new))
         (change (K.state output.old) (K.state output.new)) (change (E.state errors.old) (E.state errors.new)) }

@@ -34,8 +34,8 @@ pub fn exit_of(answer: Result<Status, RunFault>) -> Exit
     ensures { result ≡ exit_for_answer answer }
 {
     match answer {
-        Ok(Status::Done) => Exit::Done,
-        Ok(Status::Broken(_)) | Ok(Status::Unfit) => Exit::Broken,
+        Ok(Status::Done | Status::Noted(_)) => Exit::Done,
+        Ok(Status::Broken(_) | Status::Unfit { .. }) => Exit::Broken,
         Err(_) => Exit::Refused,
     }
 }

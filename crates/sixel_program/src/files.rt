@@ -12,7 +12,7 @@ ghost use Rattle.sixel_run.specs.Outputs.{HasSides};
 use crate::checks::check_files;
 use crate::exit::{Exit, exit_of};
 use crate::folder::{Folder, open_file};
-use crate::lines::{all_of, shown_at};
+use crate::lines::{Lines, all_of, shown_at};
 use crate::peeked::Peeked;
 use crate::request::Request;
 use crate::saying::{put_said, put_unopened};
@@ -21,25 +21,26 @@ use sixel_io::{Sink, Source};
 use sixel_run::{Task, run};
 use std::alloc::Global;
 
-/// Runs a task over an input, which has this name or none. Writes to `errors` why the input was refused, or which rule
-/// kept its picture from being rendered, and how to convert an input of another format. If that can't be written, the
-/// exit status stays the same.
+/// Runs a task over an input, which has this name or none. Writes to `errors` why the input was refused, which rule
+/// kept its picture from being rendered, or what may surprise, and how to convert an input of another format. If that
+/// can't be written, the exit status stays the same.
 fn report<S: Source, K: Sink, E: Sink>(
     alloc: Global,
     task: &Task,
+    lines: Lines,
     name: Option<&str>,
     input: &mut Peeked<S>,
     output: &mut K,
     errors: &mut E,
 ) -> Exit
     requires { HasSides task.now }
-    ensures { RunEnds task.now (option_copied name.entry) result
+    ensures { RunEnds task.now lines (option_copied name.entry) result
         (change (⟦<Peeked<S> as Source>⟧.state input.old) (⟦<Peeked<S> as Source>⟧.state input.new))
         (change (K.state output.old) (K.state output.new)) (change (E.state errors.old) (E.state errors.new)) }
 {
     let format = input.format();
     let answer = run(alloc, *task, input, output);
-    let _ = put_said(task, name, format, &answer, errors);
+    let _ = put_said(task, lines, name, format, &answer, errors);
     exit_of(answer)
 }
 
@@ -47,6 +48,7 @@ fn report<S: Source, K: Sink, E: Sink>(
 fn report_file<F: Folder, S: Source, K: Sink, E: Sink>(
     alloc: Global,
     task: &Task,
+    lines: Lines,
     name: &str,
     folder: &F,
     input: &mut Peeked<S>,
@@ -54,18 +56,18 @@ fn report_file<F: Folder, S: Source, K: Sink, E: Sink>(
     errors: &mut E,
 ) -> Exit
     requires { HasSides task.now }
-    ensures ends { FileEnds task.now (folder_view (F.opening folder.now) F.Opened.state) name.now result
+    ensures ends { FileEnds task.now lines (folder_view (F.opening folder.now) F.Opened.state) name.now result
         (change (⟦<Peeked<S> as Source>⟧.state input.old) (⟦<Peeked<S> as Source>⟧.state input.new))
         (change (K.state output.old) (K.state output.new)) (change (E.state errors.old) (E.state errors.new)) }
     ensures unread { is_dash name.now ≡ false → input.new ≡ input.old }
 {
     if name == "-" {
-        return report(alloc, task, Some(name), input, output, errors);
+        return report(alloc, task, lines, Some(name), input, output, errors);
     }
     match open_file(folder, name) {
         Ok(file) => {
             let mut file = Peeked::new(file);
-            report(alloc, task, Some(name), &mut file, output, errors)
+            report(alloc, task, lines, Some(name), &mut file, output, errors)
         }
         Err(reason) => {
             let _ = put_unopened(name, reason, errors);
@@ -88,7 +90,7 @@ pub fn answer<F: Folder, S: Source, K: Sink, E: Sink>(
 ) -> Exit
     requires sides { HasSides request.now.task }
     requires once { names_input_twice request.now.task (map string_bytes request.now.files.items) ≡ false }
-    ensures ends { RequestEnds request.now.task request.now.lines (shown_at terminals request.now.explains)
+    ensures ends { RequestEnds request.now.task request.now.lines (shown_at terminals request.now.lines request.now.explains)
         (map string_bytes request.now.files.items) (folder_view (F.opening folder.now) F.Opened.state) result
         (change (⟦<Peeked<S> as Source>⟧.state input.old) (⟦<Peeked<S> as Source>⟧.state input.new))
         (change (K.state output.old) (K.state output.new)) (change (E.state errors.old) (E.state errors.new)) }
@@ -98,7 +100,7 @@ pub fn answer<F: Folder, S: Source, K: Sink, E: Sink>(
     let task = &request.task;
     let names = request.files.as_slice();
     let lines = request.lines;
-    let shown = shown_at(terminals, request.explains);
+    let shown = shown_at(terminals, lines, request.explains);
     match (request.task, names) {
         (Task::Check { .. }, _) => check_files(
             alloc, task, lines, shown, names, folder, input, output, errors,
@@ -114,7 +116,16 @@ pub fn answer<F: Folder, S: Source, K: Sink, E: Sink>(
             output,
             errors,
         ),
-        (_, []) => report(alloc, task, None, input, output, errors),
-        (_, [name, ..]) => report_file(alloc, task, name.as_str(), folder, input, output, errors),
+        (_, []) => report(alloc, task, lines, None, input, output, errors),
+        (_, [name, ..]) => report_file(
+            alloc,
+            task,
+            lines,
+            name.as_str(),
+            folder,
+            input,
+            output,
+            errors,
+        ),
     }
 }

@@ -8,6 +8,7 @@ ghost use Rattle.json.specs.Lex.{tokens};
 ghost use Rattle.sixel_io.specs.Devices.{Change, SinkState};
 ghost use Rattle.sixel_grammar.specs.Faults.{IsFaultOf};
 ghost use Rattle.sixel_grammar.specs.declared.fault.Fault.{Fault};
+ghost use Rattle.sixel_grammar.specs.declared.fault.Reason.TheVariants.{Truncated};
 ghost use Rattle.sixel_ppm.specs.PpmReading.{at_fault, ppm_read};
 ghost use Rattle.sixel_ppm.specs.declared.ppm.PpmReason.{PpmReason};
 ghost use Rattle.sixel_run.specs.declared.fault.RunFault.{RunFault};
@@ -33,7 +34,7 @@ ghost use Rattle.sixel_program.specs.declared.lines.Lines.{Lines};
 ghost use Rattle.sixel_program.specs.declared.lines.Lines.TheVariants.{Json, Nothing, Plain};
 ghost use Rattle.sixel_program.specs.Json.{FitsFault, FitsItem, HaveValues, Member, fault_members, file_member};
 ghost use Rattle.sixel_program.specs.Json.{item_members, json_line, members_of, object, unread_members};
-ghost use Rattle.sixel_program.specs.Formats.{is_of_empty};
+ghost use Rattle.sixel_program.specs.Formats.{empty_line, is_of_empty};
 ghost use Rattle.sixel_program.specs.Names.{is_control, printed, unopened_line};
 ghost use Rattle.sixel_run.specs.declared.item.Item.{Item};
 ghost use Rattle.sixel_run.specs.Outputs.{Gives};
@@ -86,24 +87,26 @@ pub fn names_are_printed_without_controls()
     ensures plain { (name : Text) → All (λ byte. is_control byte ≡ false) name → printed name ≡ name }
 {}
 
-/// Each line that the program writes about a broken rule, a fault or a file that can't be opened asks for its topic, if
-/// it is pasted after `explain`. This holds for the lines of `check`, of `survey` and of `scan`, and for lines with a
-/// file's name and those without one.
+/// Each line that the program writes about a broken rule, a fault, an empty input or a file that can't be opened asks for
+/// its topic, if it is pasted after `explain`. This holds for the lines of `check`, of `survey` and of `scan`, and for
+/// lines with a file's name and those without one.
 pub fn each_line_can_be_explained()
     ensures broken { (name : Option Text) (finding : Finding) (said : List Text) →
         ArePasted said (labelled name (finding_line finding)) → Asks (Some said) (rule_name finding.rule ∷ []) }
     ensures surveyed { (name : Option Text) (entry : Entry) (said : List Text) →
         ArePasted said (labelled name (entry_line entry)) → Asks (Some said) (rule_name entry.rule ∷ []) }
-    ensures scanned { (name : Option Text) (place : ℕ) (finding : Finding) (said : List Text) →
-        ArePasted said (labelled name (string_line (record { place = place; answer = Broken finding }))) →
+    ensures scanned { (name : Option Text) (string : Scanned) (finding : Finding) (said : List Text) →
+        ArePasted said (labelled name (string_line (record string { answer = Broken finding }))) →
         Asks (Some said) (rule_name finding.rule ∷ []) }
-    ensures scan_refused { (name : Option Text) (place : ℕ) (fault : Fault) (said : List Text) →
-        ArePasted said (labelled name (string_line (record { place = place; answer = Refused fault }))) →
+    ensures scan_refused { (name : Option Text) (string : Scanned) (fault : Fault) (said : List Text) →
+        ArePasted said (labelled name (string_line (record string { answer = Refused fault }))) →
         Asks (Some said) (reason_name fault.reason ∷ []) }
     ensures refused { (name : Option Text) (fault : RunFault) (said : List Text) →
         ArePasted said (fault_said name fault) → Asks (Some said) (topic_name (topic_of fault) ∷ []) }
     ensures unopened { (name : Text) (reason : Unopened) (said : List Text) →
         ArePasted said (unopened_line name reason) → Asks (Some said) (topic_name Read ∷ []) }
+    ensures empty { (said : List Text) →
+        ArePasted said empty_line → Asks (Some said) (reason_name Truncated ∷ []) }
 {}
 
 /// An object of JSON is written as one line, whatever the file's name. What comes before the line feed reads back as the

@@ -13,6 +13,7 @@ mod hints;
 pub mod laws;
 mod lines;
 mod names;
+mod notes;
 mod nowhere;
 mod objects;
 mod peeked;

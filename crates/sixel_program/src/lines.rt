@@ -8,10 +8,10 @@ use sixel_check::Outcome;
 use sixel_run::Item;
 use sixel_scan::Answer;
 
-/// Which lines a check, a survey or a scan writes, and in which form.
+/// Which lines a check, a survey or a scan writes, and in which form. Any other task only may be quiet or not.
 #[derive(Clone, Copy, Debug, PartialEq, Eq)]
 pub enum Lines {
-    /// None. Why an input is refused is said all the same.
+    /// None, and no note. A scan has its lines, and why an input is refused is said, all the same.
     Nothing,
     /// A line for each answer, or only for each that isn't portable.
     Plain { only_failed: bool },
@@ -26,15 +26,18 @@ pub struct Shown {
     pub is_terminal: bool,
     /// Whether hints are asked for.
     pub explains: bool,
+    /// Whether a scan may end with a note.
+    pub notes: bool,
 }
 
-/// Those of a request at these terminals, which asks for hints or doesn't.
-pub fn shown_at(terminals: Terminals, explains: bool) -> Shown
-    ensures { result ≡ shown_at terminals explains }
+/// Those of a request with these lines at these terminals, which asks for hints or doesn't.
+pub fn shown_at(terminals: Terminals, lines: Lines, explains: bool) -> Shown
+    ensures { result ≡ shown_at terminals lines explains }
 {
     Shown {
         is_terminal: terminals.errors,
         explains,
+        notes: !is_quiet(lines),
     }
 }
 

@@ -4,8 +4,6 @@ ghost use Rattle.std.specs.Prelude.{◌≡◌, ◌+◌, ◌*◌, ◌≤◌, ◌�
 ghost use Rattle.arrayvec.specs.ArrayVec.{array_vec_len};
 ghost use Rattle.json.specs.Print.{escape, escape_byte, quoted};
 ghost use Rattle.sixel_io.specs.Devices.{Writes};
-ghost use Rattle.sixel_explain.specs.Explanations.{topic_name, topic_of};
-ghost use Rattle.sixel_run.specs.Texts.{ppm_reason_name};
 ghost use Rattle.sixel_program.specs.Json.{answer_members, broken_at, broken_members, entry_members, fault_members};
 ghost use Rattle.sixel_program.specs.Json.{file_member, finding_members, item_members, json_line, message_member};
 ghost use Rattle.sixel_program.specs.Json.{next_member, next_members, not_read_members, number_member, object_line};
@@ -18,11 +16,10 @@ use crate::names::{is_plain, put_quoted, quoted_byte};
 use arrayvec::ArrayVec;
 use itoa::Buffer;
 use sixel_check::{Finding, Outcome, Rule};
-use sixel_explain::{Topic, summary};
+use sixel_explain::{Topic, summary, topic_name, topic_of};
 use sixel_grammar::Fault;
 use sixel_io::{DeviceFault, Sink};
-use sixel_ppm::PpmReason;
-use sixel_run::{Item, RunFault, reason_name, rule_name};
+use sixel_run::{Item, RunFault, ppm_reason_name, reason_name, rule_name};
 use sixel_scan::{Answer, Scanned};
 use sixel_survey::Entry;
 
@@ -267,60 +264,6 @@ fn push_not_read(text: &mut Rest, reason: &str)
     push_text(text, "result", "unread");
     push_text(text, "reason", reason);
     push_message(text, Topic::Read);
-}
-
-fn ppm_reason_name(reason: PpmReason) -> &'static str
-    ensures text { result.now ≡ ppm_reason_name reason }
-    ensures short { length result.now ≤ 14 }
-{
-    match reason {
-        PpmReason::Header => "Header",
-        PpmReason::Size => "Size",
-        PpmReason::Maxval => "Maxval",
-        PpmReason::Sample => "Sample",
-        PpmReason::Short => "Short",
-        PpmReason::Trailing => "Trailing",
-        PpmReason::TooManyColours => "TooManyColours",
-    }
-}
-
-/// The name by which `explain` knows a topic.
-fn topic_name(topic: Topic) -> &'static str
-    ensures text { result.now ≡ topic_name topic }
-    ensures short { length result.now ≤ 14 }
-{
-    match topic {
-        Topic::Rule(rule) => rule_name(rule),
-        Topic::Grammar(reason) => reason_name(reason),
-        Topic::Ppm(reason) => ppm_reason_name(reason),
-        Topic::NotRgb => "NotRgb",
-        Topic::NoBox => "NoBox",
-        Topic::NoString => "NoString",
-        Topic::Empty => "Empty",
-        Topic::TooLarge => "TooLarge",
-        Topic::OutOfMemory => "OutOfMemory",
-        Topic::Read => "Read",
-        Topic::Write => "Write",
-    }
-}
-
-/// The topic of a fault.
-fn topic_of(fault: &RunFault) -> Topic
-    ensures { result ≡ topic_of fault.now }
-{
-    match fault {
-        RunFault::Grammar(fault) => Topic::Grammar(fault.reason),
-        RunFault::Ppm { reason, .. } => Topic::Ppm(*reason),
-        RunFault::NotRgb => Topic::NotRgb,
-        RunFault::NoBox => Topic::NoBox,
-        RunFault::NoString => Topic::NoString,
-        RunFault::Empty => Topic::Empty,
-        RunFault::TooLarge => Topic::TooLarge,
-        RunFault::TooManyColours => Topic::Ppm(PpmReason::TooManyColours),
-        RunFault::OutOfMemory => Topic::OutOfMemory,
-        RunFault::Read => Topic::Read,
-        RunFault::Write => Topic::Write,
-    }
 }
 
 /// A refusal with no offset.

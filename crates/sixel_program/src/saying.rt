@@ -8,7 +8,9 @@ ghost use Rattle.sixel_program.specs.Names.{unopened_line};
 
 use crate::folder::{Unopened, reason_text};
 use crate::formats::{Format, ppm_advice, sixel_advice};
+use crate::lines::{Lines, is_quiet};
 use crate::names::put_named;
+use crate::notes::put_note;
 use sixel_grammar::{Fault, Reason};
 use sixel_io::{DeviceFault, Sink, put_all};
 use sixel_ppm::PpmReason;
@@ -132,38 +134,41 @@ pub fn put_refusal<K: Sink>(
     put_all(out, advice(format, fault).as_bytes())
 }
 
-/// Writes which rule kept a picture from being rendered.
-fn put_finding<K: Sink>(
+/// Writes which rule kept a picture from being rendered, or what may surprise.
+fn put_status<K: Sink>(
     task: &Task,
+    lines: Lines,
     name: Option<&str>,
     status: &Status,
     out: &mut K,
 ) -> Result<(), DeviceFault>
     ensures { Writes result (K.state out.old) (K.state out.new)
-        (complaint task.now (option_copied name.entry) (Ok status.now)) }
+        (complaint task.now lines (option_copied name.entry) (Ok status.now)) }
 {
     match (status, task) {
         (Status::Broken(finding), Task::Render { .. }) => {
             put_labelled(name, finding_line(finding).as_slice(), out)
         }
+        (Status::Noted(note), _) if !is_quiet(lines) => put_note(*note, out),
         _ => Ok(()),
     }
 }
 
-/// Writes the line of a run that didn't do its task: why the input was refused, or which rule its picture breaks. Advice
+/// Writes the line about a run: why the input was refused, which rule its picture breaks, or what may surprise. Advice
 /// on an input of this format follows.
 pub fn put_said<K: Sink>(
     task: &Task,
+    lines: Lines,
     name: Option<&str>,
     format: Option<Format>,
     answer: &Result<Status, RunFault>,
     out: &mut K,
 ) -> Result<(), DeviceFault>
     ensures { Writes result (K.state out.old) (K.state out.new)
-        (complaint task.now (option_copied name.entry) answer.now ++ advice_for format answer.now) }
+        (complaint task.now lines (option_copied name.entry) answer.now ++ advice_for format answer.now) }
 {
     match answer {
-        Ok(status) => put_finding(task, name, status, out),
+        Ok(status) => put_status(task, lines, name, status, out),
         Err(fault) => put_refusal(name, format, fault, out),
     }
 }

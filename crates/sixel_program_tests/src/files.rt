@@ -8,6 +8,7 @@ mod hints;
 mod lines;
 mod mended;
 mod named;
+mod noted;
 mod notices;
 mod redirection;
 mod scanned;
@@ -67,6 +68,7 @@ const FOLDER: MemoryFolder<'static> = MemoryFolder {
         ("bitmap", b"BM"),
         ("red", RED),
         ("log", LOG),
+        ("wrapped", b"\x1bP\x1bPq\"1;1;1;1#0;2;0;0;0#0@\x1b\\"),
         ("eight", b"\x90q\"1;1;1;1#0;2;0;0;0#0@\x9c"),
     ],
     cut: &[("cut", b"\x1bPq\"1;1;1;1#0;2"), ("halved", HALVED)],

@@ -10,29 +10,33 @@ use sixel_run::Task;
 use std::alloc::{AllocError, Global};
 use std::test::Fail;
 
-/// Whether `mend` with this background makes this text of those bytes.
-fn mends(alloc: Global, background: Colour, bytes: &[u8], text: &[u8]) -> bool {
-    ends(alloc, mend_on(background), bytes, Exit::Done, text, b"")
+/// What is said of a picture whose pixels all have one colour.
+const ONE_COLOUR: &[u8] =
+    b"sixel: all pixels have one colour; '--background' sets that of unpainted pixels\n";
+
+/// Whether `mend` with this background makes this text of those bytes, and says this.
+fn mends(alloc: Global, background: Colour, bytes: &[u8], text: &[u8], said: &[u8]) -> bool {
+    ends(alloc, mend_on(background), bytes, Exit::Done, text, said)
 }
 
-/// What isn't painted gets the background, and a colour keeps its coordinates.
+/// What isn't painted gets the background, and a colour keeps its coordinates. One colour is noted.
 #[test]
 fn pictures_are_mended(rt: HostRuntime) -> Result<(), Fail> {
     let black = Colour::of_percentages(0, 0, 0);
     let white = Colour::of_percentages(100, 100, 100);
     let pixel = b"\x1bP0;1q\"1;1;1;1#0;2;0;0;0#0@\x1b\\";
-    assert!(rt; mends(rt.alloc(), black, PIXEL, pixel));
+    assert!(rt; mends(rt.alloc(), black, PIXEL, pixel, ONE_COLOUR));
     let half = b"\x1bPq\"1;1;2;1#0;2;0;0;0#0@\x1b\\";
     let dark = b"\x1bP0;1q\"1;1;2;1#0;2;0;0;0#0@@\x1b\\";
-    assert!(rt; mends(rt.alloc(), black, half, dark));
+    assert!(rt; mends(rt.alloc(), black, half, dark, ONE_COLOUR));
     let light = b"\x1bP0;1q\"1;1;2;1#0;2;0;0;0#1;2;100;100;100#0@$#1?@\x1b\\";
-    assert!(rt; mends(rt.alloc(), white, half, light));
+    assert!(rt; mends(rt.alloc(), white, half, light, b""));
     let hue = b"\x1bPq\"1;1;1;1#0;1;360;50;100#0@\x1b\\";
     let kept = b"\x1bP0;1q\"1;1;1;1#0;1;360;50;100#0@\x1b\\";
-    assert!(rt; mends(rt.alloc(), black, hue, kept));
+    assert!(rt; mends(rt.alloc(), black, hue, kept, ONE_COLOUR));
     let sizeless = b"\x1bPq\"1;1#1;2;100;0;0#1!3~\x1b\\";
     let sized = b"\x1bP0;1q\"1;1;3;6#0;2;100;0;0#0~~~\x1b\\";
-    assert!(rt; mends(rt.alloc(), black, sizeless, sized));
+    assert!(rt; mends(rt.alloc(), black, sizeless, sized, ONE_COLOUR));
     Ok(())
 }
 
@@ -49,7 +53,7 @@ fn options_of_the_terminal(rt: HostRuntime) -> Result<(), Fail> {
             showing,
             selects,
         };
-        assert!(rt; ends(rt.alloc(), task, bytes, Exit::Done, red, b""));
+        assert!(rt; ends(rt.alloc(), task, bytes, Exit::Done, red, ONE_COLOUR));
     }
     Ok(())
 }

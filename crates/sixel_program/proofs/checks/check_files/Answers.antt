@@ -1,4 +1,4 @@
-use Rattle.std.proofs.Common.{◌≡◌, ◌∙◌, ◌+◌, ◌∷◌, ◌++◌, [], ℕ, List, ap, ap₂, arith, drop, false, inr, map, refl, sym, take, true}
+use Rattle.std.proofs.Common.{◌≡◌, ◌∙◌, ◌+◌, ◌∷◌, ◌++◌, ◌||◌, [], ℕ, List, ap, ap₂, arith, drop, false, inr, map, refl, sym, take, true}
 use Rattle.sixel_program.specs.declared.hints.Cause.{Cause}
 use Rattle.sixel_program.specs.Hints.{cause_of, with_cause}
 use Rattle.std.specs.String.{string_bytes}
@@ -20,7 +20,7 @@ returns-then-is_empty-clause-unread g c = λ none.
     cc
 
 pub loop-name-init : goal.loop-name-init
-loop-name-init g c = (([], none_checked _ _ _ _ _ _, c.new-causes.ensures, refl, refl), λ none. refl)
+loop-name-init g c = (([], none_checked _ _ _ _ _ _, c.new-causes.ensures, refl, refl, refl), λ none. refl)
 
 pub loop-name-preserved : goal.loop-name-preserved
 loop-name-preserved g c =
@@ -42,8 +42,9 @@ loop-name-preserved g c =
         all.0,
         rw (more, c.worse-exit.ensures, c.exit_of.ensures) all.1,
         c.note.ensures ∙ ap (λ (cs : List Cause). with_cause cs (cause_of c.in-Ok.answer)) c.loop-name.invariant.0.2 ∙ sym all.2,
-        ap₂ ◌+◌ c.loop-name.invariant.0.3 c.failures_in-failed.ensures ∙ sym all.3,
-        all.4 ∙ ap (λ (n : ℕ). n + 1) c.loop-name.invariant.0.4,
+        ap₂ ◌||◌ c.loop-name.invariant.0.3 c.has_wrapped-wrapped.ensures ∙ sym all.3,
+        ap₂ ◌+◌ c.loop-name.invariant.0.4 c.failures_in-failed.ensures ∙ sym all.4,
+        all.5 ∙ ap (λ (n : ℕ). n + 1) c.loop-name.invariant.0.5,
       ),
       rw (more_names c.args.names.now c.loop-name.name-index c.name-item.result name c.loop-name-test.true
           c.name-item.is c.as_str.ensures.value)
@@ -88,6 +89,6 @@ returns-clause-checked g c =
     let all = rw
     (take_all c.loop-name.name-index c.args.names.now c.loop-name-test.false) at c.loop-name.invariant.0.1 in
     rw (labels_some c.args.names.now (sym c.is_empty.ensures ∙ c.if-is_empty.false))
-    (ended _ _ _ _ _ _ _ _ _ _ _ _ _ _ _ _ _ _ all c.loop-name.invariant.0.2 c.loop-name.invariant.0.3
-    (omega (arith, c.loop-name.invariant.0.4, c.loop-name-test.false, c.loop-name.auto.name-index-end))
+    (ended _ _ _ _ _ _ _ _ _ _ _ _ _ _ _ _ _ _ _ all c.loop-name.invariant.0.2 c.loop-name.invariant.0.3
+    c.loop-name.invariant.0.4 (omega (arith, c.loop-name.invariant.0.5, c.loop-name-test.false, c.loop-name.auto.name-index-end))
     c.finish.ensures)

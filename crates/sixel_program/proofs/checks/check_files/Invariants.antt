@@ -2,7 +2,7 @@ use Rattle.std.proofs.Common.{◌≡◌, List, Some, drop, false, length, map, t
 use Rattle.std.specs.List.{list_any}
 use Rattle.std.specs.String.{string_bytes}
 use Rattle.sixel_io.specs.Devices.{change}
-use Rattle.sixel_program.specs.Files.{AreChecked, FileEnd, causes_among, failed_among, is_dash}
+use Rattle.sixel_program.specs.Files.{AreChecked, FileEnd, causes_among, failed_among, is_dash, wrapped_among}
 use Rattle.sixel_program.specs.Openings.{folder_view}
 use Rattle.sixel_program.specs.Peeked.{peeked_state}
 use Rattle.sixel_program.proofs.checks.check_files.Given as goal
@@ -17,5 +17,6 @@ invariant-loop-name g l = ((ends : List FileEnd) × AreChecked l.task l.lines
     l.input.failures))
     (change (g.K.Sink.state l.fn.output) (g.K.Sink.state l.output))
     (change (g.E.Sink.state l.fn.errors) (g.E.Sink.state l.errors))
-    × (l.causes.found.items ≡ causes_among ends) × (l.failed ≡ failed_among ends) × (length ends ≡ l.name-index))
+    × (l.causes.found.items ≡ causes_among ends) × (l.wrapped ≡ wrapped_among ends) × (l.failed ≡ failed_among ends)
+    × (length ends ≡ l.name-index))
     × (list_any is_dash (map string_bytes (take l.name-index l.names)) ≡ false → l.input ≡ l.fn.input)

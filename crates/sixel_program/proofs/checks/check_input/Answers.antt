@@ -7,8 +7,8 @@ use Rattle.sixel_program.proofs.checks.check_input.Goals as goal
 pub returns-in-Ok : goal.returns-in-Ok
 returns-in-Ok g c =
     one_ended _ _ _ _ None _ _ _ _ _ _ _ _
-    (λ other. let no : true ≡ false = other in cc) _ _ _ _ _ c.in-Ok.ensures.checked c.exit_of.ensures
-    (c.note.ensures ∙ ap (λ (cs : List Cause). with_cause cs (cause_of c.in-Ok.answer)) c.new-causes.ensures) c.failures_in.ensures c.finish.ensures
+    (λ other. let no : true ≡ false = other in cc) _ _ _ _ _ _ c.in-Ok.ensures.checked c.exit_of.ensures
+    (c.note.ensures ∙ ap (λ (cs : List Cause). with_cause cs (cause_of c.in-Ok.answer)) c.new-causes.ensures) c.has_wrapped.ensures c.failures_in.ensures c.finish.ensures
 
 pub returns-in-Err : goal.returns-in-Err
 returns-in-Err g c =

@@ -1,5 +1,5 @@
 use Rattle.std.proofs.Common.{[], ◌∷◌, ap, inl, refl}
-use Rattle.sixel_program.proofs.FilesLemmas.{one_put, put_then}
+use Rattle.sixel_program.proofs.FilesLemmas.{put_then, two_put}
 use Rattle.sixel_program.proofs.checks.finish.Goals as goal
 
 pub returns-in-Ok : goal.returns-in-Ok
@@ -11,6 +11,7 @@ returns-in-Ok g c =
       flushed.failures,
       flushed.flushed,
       λ quiet. ap (g.K.Sink.state) (flushed.untouched quiet),
-      put_then _ (_ ∷ []) _ (g.E.Sink.state c.put_hints.new.errors) _
-          (rw c.as_slice.ensures at c.put_hints.ensures) (one_put _ _ _ c.put_count.ensures),
+      put_then _ (_ ∷ _ ∷ []) _ (g.E.Sink.state c.put_hints.new.errors) _
+          (rw c.as_slice.ensures at c.put_hints.ensures)
+          (two_put _ _ _ (g.E.Sink.state c.put_wrapped.new.errors) _ c.put_wrapped.ensures c.put_count.ensures),
     )

@@ -6,12 +6,12 @@ use Rattle.sixel_program.proofs.PutLemmas.{is_put}
 use Rattle.sixel_program.proofs.files.report_file.Goals as goal
 
 pub returns-then-eq-clause-ends : goal.returns-then-eq-clause-ends
-returns-then-eq-clause-ends g c = dash_ends _ _ _ _ _ _ _ (sym c.eq.ensures ∙ c.if-eq.true) c.report.ensures
+returns-then-eq-clause-ends g c = dash_ends _ _ _ _ _ _ _ _ (sym c.eq.ensures ∙ c.if-eq.true) c.report.ensures
 
 pub returns-in-Ok-clause-ends : goal.returns-in-Ok-clause-ends
 returns-in-Ok-clause-ends g c =
     let opened = c.new-file.ensures ∙ c.in-Ok.ensures.bytes in
-    file_ends _ _ _ _ _ _ _ _ (sym c.eq.ensures ∙ c.if-eq.false) (ap (λ (s : SourceState). s.remaining) opened)
+    file_ends _ _ _ _ _ _ _ _ _ (sym c.eq.ensures ∙ c.if-eq.false) (ap (λ (s : SourceState). s.remaining) opened)
     c.in-Ok.ensures.ended (
       ap (λ (s : SourceState). s.failures) opened,
       λ some.
@@ -26,5 +26,5 @@ returns-in-Ok-clause-ends g c =
 
 pub returns-in-Err-clause-ends : goal.returns-in-Err-clause-ends
 returns-in-Err-clause-ends g c =
-    unopened_ends _ _ _ _ _ _ _ (sym c.eq.ensures ∙ c.if-eq.false) c.in-Err.ensures.ended
+    unopened_ends _ _ _ _ _ _ _ _ (sym c.eq.ensures ∙ c.if-eq.false) c.in-Err.ensures.ended
     (is_put c.put_unopened.result _ _ _ c.put_unopened.ensures)

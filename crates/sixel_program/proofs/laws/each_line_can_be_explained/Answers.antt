@@ -2,16 +2,18 @@ use Rattle.std.proofs.Common.{◌≡◌, ◌∙◌, ◌∷◌, ◌++◌, ℕ, []
 use Rattle.std.proofs.lemmas.List.{map-append}
 use Rattle.std.specs.Char.{to_ascii_lowercase}
 use Rattle.sixel_grammar.specs.declared.fault.Fault.{Fault}
+use Rattle.sixel_grammar.specs.declared.fault.Reason.TheVariants.{Truncated}
 use Rattle.sixel_judge.specs.declared.verdict.Finding.{Finding}
 use Rattle.sixel_run.specs.declared.fault.RunFault.{RunFault}
 use Rattle.sixel_run.specs.declared.fault.RunFault.TheVariants as fault
 use Rattle.sixel_survey.specs.declared.entry.Entry.{Entry}
+use Rattle.sixel_scan.specs.declared.answer.Scanned.{Scanned}
 use Rattle.sixel_scan.specs.declared.answer.Answer.TheVariants.{Broken, Refused}
 use Rattle.sixel_run.specs.Texts.{Text, entry_line, finding_line, line, reason_name, rule_name, string_line}
-use Rattle.sixel_explain.specs.declared.explanations.Topic.TheVariants.{Read}
+use Rattle.sixel_explain.specs.declared.explanations.Topic.TheVariants.{Grammar, Read}
 use Rattle.sixel_explain.specs.Explanations.{ArePasted, line_of, names_in, topic_name, topic_of, topic_of_end}
-use Rattle.sixel_explain.proofs.PastedLemmas.{ending_pasted, fault_pasted, finding_pasted, is_a_folder, no_such_file}
-use Rattle.sixel_explain.proofs.PastedLemmas.{low, not_utf8, permission_denied, read_failed}
+use Rattle.sixel_explain.proofs.PastedLemmas.{EndsInColon, ending_pasted, fault_pasted, finding_pasted, is_a_folder}
+use Rattle.sixel_explain.proofs.PastedLemmas.{low, no_such_file, not_utf8, permission_denied, read_failed, the_input_is_empty}
 use Rattle.sixel_program.proofs.EntryLemmas.{entry_pasted, entry_pasted_after}
 use Rattle.sixel_program.proofs.StringLineLemmas.{string_finding_pasted, string_refusal_pasted}
 use Rattle.sixel_program.specs.declared.folder.Unopened.{Unopened}
@@ -25,6 +27,15 @@ use Rattle.sixel_program.proofs.laws.each_line_can_be_explained.Goals as goal
 -- what is before the line of a file
 abbrev begun : Text → Text
 begun name = codes "sixel: " ++ printed name ++ codes ":"
+
+bare_colon : EndsInColon (codes "sixel:")
+bare_colon = record { front = codes " sixel"; is = refl }
+
+named_colon : (name : Text) → EndsInColon (begun name)
+named_colon name = record {
+  front = codes " sixel: " ++ low (printed name);
+  is = ap (λ (t : Text). codes " sixel: " ++ t) (map-append to_ascii_lowercase (printed name) (codes ":"));
+}
 
 -- in small letters, too, it ends in the words for a failed read
 after_words : (words x : Text) → topic_of_end (x ++ 32 ∷ low (words ++ codes " read failed")) ≡ Some Read
@@ -51,33 +62,33 @@ surveyed (Some name) entry said are =
     (append_assoc (printed name) (codes ": ") (entry_line entry)
     ∙ sym (append_assoc (printed name) (codes ":") (32 ∷ entry_line entry))))
 
-scanned : (name : Option Text) (place : ℕ) (finding : Finding) (said : List Text)
-    → ArePasted said (labelled name (string_line (record { place = place; answer = Broken finding })))
+scanned : (name : Option Text) (string : Scanned) (finding : Finding) (said : List Text)
+    → ArePasted said (labelled name (string_line (record string { answer = Broken finding })))
     → names_in (line_of said) ≡ Some (rule_name finding.rule ∷ [])
-scanned None place finding said are = string_finding_pasted [] place finding said are
-scanned (Some name) place finding said are =
-    string_finding_pasted (printed name ++ codes ": ") place finding said are
+scanned None string finding said are = string_finding_pasted [] string finding said are
+scanned (Some name) string finding said are =
+    string_finding_pasted (printed name ++ codes ": ") string finding said are
 
-scan_refused : (name : Option Text) (place : ℕ) (f : Fault) (said : List Text)
-    → ArePasted said (labelled name (string_line (record { place = place; answer = Refused f })))
+scan_refused : (name : Option Text) (string : Scanned) (f : Fault) (said : List Text)
+    → ArePasted said (labelled name (string_line (record string { answer = Refused f })))
     → names_in (line_of said) ≡ Some (reason_name f.reason ∷ [])
-scan_refused None place f said are = string_refusal_pasted [] place f said are
-scan_refused (Some name) place f said are = string_refusal_pasted (printed name ++ codes ": ") place f said are
+scan_refused None string f said are = string_refusal_pasted [] string f said are
+scan_refused (Some name) string f said are = string_refusal_pasted (printed name ++ codes ": ") string f said are
 
 refused : (name : Option Text) (f : RunFault) (said : List Text) → ArePasted said (fault_said name f)
     → names_in (line_of said) ≡ Some (topic_name (topic_of f) ∷ [])
-refused None f said are = fault_pasted (codes "sixel:") f said refl are
-refused (Some name) fault.Write said are = fault_pasted (codes "sixel:") fault.Write said refl are
-refused (Some name) (fault.Grammar f) said are = fault_pasted (begun name) (fault.Grammar f) said refl are
-refused (Some name) (fault.Ppm reason place) said are = fault_pasted (begun name) (fault.Ppm reason place) said refl are
-refused (Some name) fault.NotRgb said are = fault_pasted (begun name) fault.NotRgb said refl are
-refused (Some name) fault.NoBox said are = fault_pasted (begun name) fault.NoBox said refl are
-refused (Some name) fault.NoString said are = fault_pasted (begun name) fault.NoString said refl are
-refused (Some name) fault.Empty said are = fault_pasted (begun name) fault.Empty said refl are
-refused (Some name) fault.TooLarge said are = fault_pasted (begun name) fault.TooLarge said refl are
-refused (Some name) fault.TooManyColours said are = fault_pasted (begun name) fault.TooManyColours said refl are
-refused (Some name) fault.OutOfMemory said are = fault_pasted (begun name) fault.OutOfMemory said refl are
-refused (Some name) fault.Read said are = fault_pasted (begun name) fault.Read said refl are
+refused None f said are = fault_pasted (codes "sixel:") f said bare_colon are
+refused (Some name) fault.Write said are = fault_pasted (codes "sixel:") fault.Write said bare_colon are
+refused (Some name) (fault.Grammar f) said are = fault_pasted (begun name) (fault.Grammar f) said (named_colon name) are
+refused (Some name) (fault.Ppm reason place) said are = fault_pasted (begun name) (fault.Ppm reason place) said (named_colon name) are
+refused (Some name) fault.NotRgb said are = fault_pasted (begun name) fault.NotRgb said (named_colon name) are
+refused (Some name) fault.NoBox said are = fault_pasted (begun name) fault.NoBox said (named_colon name) are
+refused (Some name) fault.NoString said are = fault_pasted (begun name) fault.NoString said (named_colon name) are
+refused (Some name) fault.Empty said are = fault_pasted (begun name) fault.Empty said (named_colon name) are
+refused (Some name) fault.TooLarge said are = fault_pasted (begun name) fault.TooLarge said (named_colon name) are
+refused (Some name) fault.TooManyColours said are = fault_pasted (begun name) fault.TooManyColours said (named_colon name) are
+refused (Some name) fault.OutOfMemory said are = fault_pasted (begun name) fault.OutOfMemory said (named_colon name) are
+refused (Some name) fault.Read said are = fault_pasted (begun name) fault.Read said (named_colon name) are
 
 -- a line that ends in the words for a failed read, after the words of the system
 failed_after : (name words : Text) (said : List Text)
@@ -106,4 +117,6 @@ returns c = record {
   scan_refused = scan_refused;
   refused = refused;
   unopened = unopened;
+  empty = λ said are.
+      ending_pasted (codes "sixel:") (codes "the input is empty") (Grammar Truncated) said the_input_is_empty are;
 }

@@ -12,9 +12,24 @@ use Rattle.sixel_program.specs.Openings.{Told, bytes_told}
 use Rattle.sixel_program.specs.declared.folder.Unopened.TheVariants.{NotFound}
 use Rattle.sixel_run.specs.Outputs.{Gives}
 use Rattle.sixel_run.specs.Texts.{Text}
-use Rattle.sixel_run.specs.declared.task.Status.TheVariants.{Done}
+use Rattle.sixel_judge.specs.declared.verdict.Verdict.TheVariants.{Portable, Broken as JudgedBroken}
+use Rattle.sixel_program.specs.Exits.{exit_for_answer}
+use Rattle.sixel_program.specs.declared.exit.Exit.TheVariants as exit
+use Rattle.sixel_run.specs.declared.task.Status.{Status}
+use Rattle.sixel_run.specs.declared.task.Status.TheVariants.{Done, Noted, Broken, Unfit}
 use Rattle.sixel_run.specs.declared.task.Task.TheVariants.{Check}
 use Rattle.sixel_program_tests.proofs.files.told.checked.Goals as goal
+
+-- a check that is done has no note
+no_note : (bytes : List ℕ) (text : Text) (found : Status) → exit_for_answer (Ok found) ≡ exit.Done
+    → Gives (Check Registers16) bytes text (Ok found) → Gives (Check Registers16) bytes text (Ok Done)
+no_note bytes text Done is gives = gives
+no_note bytes text (Noted note) is (events, document, (Portable picture, judged, same, status)) =
+    let no : Noted note ≡ Done = status in cc
+no_note bytes text (Noted note) is (events, document, (JudgedBroken finding, judged, same, status)) =
+    let no : Noted note ≡ Broken finding = status in cc
+no_note bytes text (Broken finding) is gives = let no : exit.Broken ≡ exit.Done = is in cc
+no_note bytes text (Unfit wrapped) is gives = let no : exit.Broken ≡ exit.Done = is in cc
 
 -- a check of one file that a folder tells is done over what it tells
 done_alone : (contents : Text → Option (List ℕ)) (input : Option (List ℕ)) (names : List Text) (name : Text)
@@ -28,7 +43,8 @@ done_alone contents input names name bytes one file tells all =
     (subst (λ (ns : List Text).
     All (λ n. IsDoneOver (Check Registers16) (told_of contents input n)) (names_read (Check Registers16) ns)) one
     all) in
-    subst (IsDoneOver (Check Registers16)) told here
+    let done : IsDoneOver (Check Registers16) (Some bytes) = subst (IsDoneOver (Check Registers16)) told here in
+    (done.0, no_note bytes done.0 done.1 done.2.0 done.2.1)
 
 tells_it : (name : Text) (bytes : List ℕ)
     → bytes_told (if bytes_eq name name then Some (Ok bytes) else Some (Err NotFound)) ≡ Some bytes
