@@ -98,8 +98,9 @@ survey_app =
 -- `scan`
 abbrev pub scan_app : App
 scan_app =
-    with_rule (with_rule (with_rule (with_rule (new_app (codes "scan"))
+    with_rule (with_rule (with_rule (with_rule (with_rule (new_app (codes "scan"))
     (flag (codes "wide")))
+    quiet)
     (flag (codes "eight-bit")))
     (flag (codes "json")))
     files
@@ -107,8 +108,10 @@ scan_app =
 -- `show`
 abbrev pub show_app : App
 show_app =
-    with_rule (with_rule (with_rule (with_rule (with_rule (with_rule (with_rule (with_rule (new_app (codes "show"))
+    with_rule (with_rule (with_rule (with_rule (with_rule (with_rule (with_rule (with_rule (with_rule
+    (new_app (codes "show"))
     (flag (codes "wide")))
+    quiet)
     (flag (codes "showing")))
     (flag (codes "fill")))
     (flag (codes "define-selects")))
@@ -120,8 +123,9 @@ show_app =
 -- `mend`
 abbrev pub mend_app : App
 mend_app =
-    with_rule (with_rule (with_rule (with_rule (with_rule (new_app (codes "mend"))
+    with_rule (with_rule (with_rule (with_rule (with_rule (with_rule (new_app (codes "mend"))
     (flag (codes "wide")))
+    quiet)
     background)
     (flag (codes "showing")))
     (flag (codes "define-selects")))
@@ -263,7 +267,7 @@ IsTaskOf words t = (name : Text) × (rows : List Row)
 
 -- ---- files and lines
 
--- the lines that are asked for: none with `--quiet`; objects with `--json`; only those of failures with `--failed`
+-- the lines that are asked for: none, and no note, with `--quiet`; objects with `--json`; only those of failures with `--failed`
 abbrev pub lines_of : List Row → Lines
 lines_of rows = if is_given (codes "quiet") rows then Nothing
     else if is_given (codes "json") rows then Json (is_given (codes "failed") rows)

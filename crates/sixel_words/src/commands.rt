@@ -146,7 +146,7 @@ pub fn check_command<'a>(alloc: Global) -> Result<Command<'a>, AllocError>
         help::CHECK,
     )?
     .arg(wide_arg(alloc))?
-    .arg(quiet_arg(alloc))?
+    .arg(quiet_arg(alloc, "Print no verdict; use the exit status"))?
     .arg(flag_arg(
         alloc,
         "failed",
@@ -174,7 +174,7 @@ pub fn survey_command<'a>(alloc: Global) -> Result<Command<'a>, AllocError>
     .arg(files_arg(alloc))
 }
 
-/// `scan`, with two options and any number of files.
+/// `scan`, with four options and any number of files.
 pub fn scan_command<'a>(alloc: Global) -> Result<Command<'a>, AllocError>
     ensures app { IfOk result (λ c. app_of c ≡ scan_app) }
     ensures local { IfOk result (λ c. (fields_of c).has_globals ≡ false) }
@@ -186,6 +186,7 @@ pub fn scan_command<'a>(alloc: Global) -> Result<Command<'a>, AllocError>
         help::SCAN,
     )?
     .arg(wide_arg(alloc))?
+    .arg(quiet_arg(alloc, "Leave out the note on wrapped pictures"))?
     .arg(flag_arg(
         alloc,
         "eight-bit",
@@ -195,7 +196,7 @@ pub fn scan_command<'a>(alloc: Global) -> Result<Command<'a>, AllocError>
     .arg(files_arg(alloc))
 }
 
-/// `show`, with seven options and an optional file.
+/// `show`, with eight options and an optional file.
 pub fn show_command<'a>(alloc: Global) -> Result<Command<'a>, AllocError>
     ensures app { IfOk result (λ c. app_of c ≡ show_app) }
     ensures local { IfOk result (λ c. (fields_of c).has_globals ≡ false) }
@@ -207,6 +208,7 @@ pub fn show_command<'a>(alloc: Global) -> Result<Command<'a>, AllocError>
         help::SHOW,
     )?
     .arg(wide_arg(alloc))?
+    .arg(quiet_arg(alloc, "Leave out the note on a register above 15"))?
     .arg(flag_arg(
         alloc,
         "showing",
@@ -234,7 +236,7 @@ pub fn show_command<'a>(alloc: Global) -> Result<Command<'a>, AllocError>
     .arg(file_arg(alloc))
 }
 
-/// `mend`, with four options and an optional file.
+/// `mend`, with five options and an optional file.
 pub fn mend_command<'a>(alloc: Global) -> Result<Command<'a>, AllocError>
     ensures app { IfOk result (λ c. app_of c ≡ mend_app) }
     ensures local { IfOk result (λ c. (fields_of c).has_globals ≡ false) }
@@ -246,6 +248,7 @@ pub fn mend_command<'a>(alloc: Global) -> Result<Command<'a>, AllocError>
         help::MEND,
     )?
     .arg(wide_arg(alloc))?
+    .arg(quiet_arg(alloc, "Leave out the note on a picture of one colour"))?
     .arg(background_arg(alloc))?
     .arg(flag_arg(
         alloc,
@@ -329,11 +332,11 @@ fn explain_arg<'a>(alloc: Global) -> Arg<'a>
 }
 
 /// `-q` or `--quiet`.
-fn quiet_arg<'a>(alloc: Global) -> Arg<'a>
+fn quiet_arg<'a>(alloc: Global, help: &'a str) -> Arg<'a>
     ensures rule { rule_of result ≡ quiet }
     ensures local { result.global ≡ false }
 {
-    flag_arg(alloc, "quiet", "Print no verdict; use the exit status").short('q')
+    flag_arg(alloc, "quiet", help).short('q')
 }
 
 /// `FILE`, optional.

@@ -47,7 +47,7 @@ pub fn the_word_scan_gives_a_scan()
 {}
 
 /// `sixel mend` is accepted, and mends without any flag, with 16 registers and a black background. So is `--background`,
-/// whose colour is red, green and blue: three percentages, or `#` and three samples.
+/// whose colour is red, green and blue: three percentages, or `#` and three samples. So is `-q`, for no note.
 pub fn the_word_mend_gives_a_mend()
     ensures taken { (program : Text) → takes sixel_app (program ∷ codes "mend" ∷ []) ≡ true }
     ensures task { (program : Text) →
@@ -62,6 +62,8 @@ pub fn the_word_mend_gives_a_mend()
     ensures sampled { (program : Text) →
         IsTaskOf (program ∷ codes "mend" ∷ codes "--background" ∷ codes "#Ff8002" ∷ [])
         (Mend Registers16 (Rgb 100 50 1) false false) }
+    ensures quiet { (program : Text) → IsRequestOf (program ∷ codes "mend" ∷ codes "-q" ∷ [])
+        (Mend Registers16 (Rgb 0 0 0) false false) Nothing false [] }
 {}
 
 /// `sixel show` is accepted, and shows without any flag, with 16 registers on a screen of 800 by 480 pixels.
@@ -128,7 +130,8 @@ pub fn an_option_may_come_again()
 {}
 
 /// `--failed` asks a check for the lines of failures, and `--json` a check, a survey or a scan for JSON. `-q` asks for no
-/// lines, whatever else is asked for. `--explain` asks a check or a survey for hints.
+/// lines, whatever else is asked for; a scan or a show with it has no note. `--explain` asks a check or a survey for
+/// hints.
 pub fn options_ask_for_lines()
     ensures failed { (program : Text) → IsRequestOf (program ∷ codes "check" ∷ codes "--failed" ∷ codes "a" ∷ [])
         (Check Registers16) (Plain true) false (codes "a" ∷ []) }
@@ -144,6 +147,10 @@ pub fn options_ask_for_lines()
     ensures quiet { (program : Text) →
         IsRequestOf (program ∷ codes "check" ∷ codes "--json" ∷ codes "-q" ∷ codes "--failed" ∷ [])
         (Check Registers16) Nothing false [] }
+    ensures quiet_scan { (program : Text) → IsRequestOf (program ∷ codes "scan" ∷ codes "-q" ∷ codes "a" ∷ [])
+        (Scan Registers16 false) Nothing false (codes "a" ∷ []) }
+    ensures quiet_box { (program : Text) → IsRequestOf (program ∷ codes "show" ∷ codes "--box" ∷ codes "--quiet" ∷ [])
+        (ShowBox Registers16 false false false) Nothing false [] }
     ensures explained { (program : Text) → IsRequestOf (program ∷ codes "check" ∷ codes "--explain" ∷ [])
         (Check Registers16) (Plain false) true [] }
     ensures survey_explained { (program : Text) → IsRequestOf (program ∷ codes "survey" ∷ codes "--explain" ∷ [])

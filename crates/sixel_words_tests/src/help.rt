@@ -154,6 +154,7 @@ Arguments:
 
 Options:
       --wide       Use 256 colour registers instead of 16
+  -q, --quiet      Leave out the note on wrapped pictures
       --eight-bit  Let the bytes 90 and 9C start and end a picture, too
       --json       Print objects of JSON, one a line, also for refusals
   -h, --help       Print help
@@ -228,6 +229,7 @@ Arguments:
 
 Options:
       --wide                 Use 256 colour registers instead of 16
+  -q, --quiet                Leave out the note on a picture of one colour
       --background <COLOUR>  What isn't painted: red, green and blue in percent, or '#RRGGBB' [default: 0,0,0]
       --showing              Show each pixel in the final colour of its register
       --define-selects       Let a colour definition also select its register
@@ -265,6 +267,7 @@ Arguments:
 
 Options:
       --wide            Use 256 colour registers instead of 16
+  -q, --quiet           Leave out the note on a register above 15
       --showing         Show each pixel in the final colour of its register
       --fill            Fill the declared box with register 0
       --define-selects  Let a colour definition also select its register

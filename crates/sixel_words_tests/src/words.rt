@@ -293,6 +293,27 @@ fn names_the_file_of_a_task(rt: HostRuntime) -> Result<(), Fail> {
     Ok(())
 }
 
+/// `scan`, `show` and `mend` may be quiet, too.
+#[test]
+fn other_tasks_may_be_quiet(rt: HostRuntime) -> Result<(), Fail> {
+    let rows = [
+        (
+            "sixel scan -q a",
+            "Scan { profile: Registers16, eight_bit: false }",
+            "[\"a\"]",
+        ),
+        (
+            "sixel show --box --quiet",
+            "ShowBox { profile: Registers16, showing: false, fill: false, selects: false }",
+            "[]",
+        ),
+    ];
+    for (line, task, files) in rows {
+        assert!(rt; asks(&rt, line, task, "Nothing", files)?, "{line}");
+    }
+    Ok(())
+}
+
 const NO_COMMAND: &str = "usage error: 'sixel' requires a subcommand but one was not provided
   [subcommands: list, check, survey, scan, render, encode, show, mend, explain, help]
 

@@ -27,6 +27,15 @@ pub returns-clause-quiet : goal.returns-clause-quiet
 unfolding clap_on_literals
 returns-clause-quiet c = λ program. (codes "check", _, refl, (refl, refl), refl, refl, refl)
 
+pub returns-clause-quiet_scan : goal.returns-clause-quiet_scan
+unfolding clap_on_literals
+returns-clause-quiet_scan c = λ program. (codes "scan", _, refl, (refl, refl, refl), refl, refl, refl)
+
+pub returns-clause-quiet_box : goal.returns-clause-quiet_box
+unfolding clap_on_literals
+returns-clause-quiet_box c = λ program.
+    (codes "show", _, refl, (refl, refl, refl, refl, refl, refl, refl, refl), refl, refl, refl)
+
 pub returns-clause-explained : goal.returns-clause-explained
 unfolding walked
 returns-clause-explained c = λ program. (codes "check", _, refl, (refl, refl), refl, refl, refl)

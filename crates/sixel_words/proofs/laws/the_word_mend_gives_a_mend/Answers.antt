@@ -1,4 +1,5 @@
 use Rattle.std.proofs.Common.{arith, codes, inl, inr, refl}
+use Rattle.clap.proofs.OnLiterals.{clap_on_literals}
 use Rattle.clap.specs.Takes.{walk_passes}
 use Rattle.clap.specs.Walk.{walked}
 use Rattle.sixel_words.specs.Words.{IsPercentage, IsSample}
@@ -49,6 +50,24 @@ returns-clause-task c = λ program. (
     refl,
     refl,
   ),
+)
+
+pub returns-clause-quiet : goal.returns-clause-quiet
+unfolding clap_on_literals
+returns-clause-quiet c = λ program. (
+  codes "mend",
+  _,
+  refl,
+  (
+    refl,
+    refl,
+    (codes "0,0,0", refl, inl (codes "0", codes "0", codes "0", refl, none, none, none)),
+    refl,
+    refl,
+  ),
+  refl,
+  refl,
+  refl,
 )
 
 pub returns-clause-coloured : goal.returns-clause-coloured
