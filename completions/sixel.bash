@@ -27,11 +27,12 @@ _sixel() {
         list) options='-h --help -V --version' ;;
         check) options='--wide -q --quiet --failed --json --explain -h --help -V --version' operands=0 ;;
         survey) options='--wide --json --explain -h --help -V --version' operands=0 ;;
-        scan) options='--wide --eight-bit --json -h --help -V --version' operands=0 ;;
+        scan) options='--wide -q --quiet --eight-bit --json -h --help -V --version' operands=0 ;;
         render) options='--wide -h --help -V --version' ;;
         encode) options='--wide -h --help -V --version' ;;
-        show) options='--wide --showing --fill --define-selects --width --height --box -h --help -V --version' ;;
-        mend) options='--wide --background --showing --define-selects -h --help -V --version' ;;
+        show) options='--wide -q --quiet --showing --fill --define-selects --width --height --box
+                -h --help -V --version' ;;
+        mend) options='--wide -q --quiet --background --showing --define-selects -h --help -V --version' ;;
         explain) options='-h --help -V --version' operands=0
             names='RasterFirst RasterTwice Ratio BoxSize Register ColourValue RepeatZero Unselected Undefined
                 Redefined Outside Uncovered EightBit NotSixel BadByte NumberTooLarge FieldCount BadRepeat

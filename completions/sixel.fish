@@ -44,6 +44,7 @@ complete -c sixel -n '__fish_sixel_is survey' -s V -l version -d 'Print version'
 
 complete -c sixel -n '__fish_sixel_is scan' -F
 complete -c sixel -n '__fish_sixel_is scan' -l wide -d 'Use 256 colour registers instead of 16'
+complete -c sixel -n '__fish_sixel_is scan' -s q -l quiet -d 'Leave out the note on wrapped pictures'
 complete -c sixel -n '__fish_sixel_is scan' -l eight-bit -d 'Let the bytes 90 and 9C start and end a picture, too'
 complete -c sixel -n '__fish_sixel_is scan' -l json -d 'Print objects of JSON, one a line, also for refusals'
 complete -c sixel -n '__fish_sixel_is scan' -s h -l help -d 'Print help'
@@ -61,6 +62,7 @@ complete -c sixel -n '__fish_sixel_is encode' -s V -l version -d 'Print version'
 
 complete -c sixel -n '__fish_sixel_is show' -F
 complete -c sixel -n '__fish_sixel_is show' -l wide -d 'Use 256 colour registers instead of 16'
+complete -c sixel -n '__fish_sixel_is show' -s q -l quiet -d 'Leave out the note on a register above 15'
 complete -c sixel -n '__fish_sixel_is show' -l showing -d 'Show each pixel in the final colour of its register'
 complete -c sixel -n '__fish_sixel_is show' -l fill -d 'Fill the declared box with register 0'
 complete -c sixel -n '__fish_sixel_is show' -l define-selects -d 'Let a colour definition also select its register'
@@ -72,6 +74,7 @@ complete -c sixel -n '__fish_sixel_is show' -s V -l version -d 'Print version'
 
 complete -c sixel -n '__fish_sixel_is mend' -F
 complete -c sixel -n '__fish_sixel_is mend' -l wide -d 'Use 256 colour registers instead of 16'
+complete -c sixel -n '__fish_sixel_is mend' -s q -l quiet -d 'Leave out the note on a picture of one colour'
 complete -c sixel -n '__fish_sixel_is mend' -l background -x -d 'What isn\'t painted: red, green and blue in percent, or \'#RRGGBB\' [default: 0,0,0]'
 complete -c sixel -n '__fish_sixel_is mend' -l showing -d 'Show each pixel in the final colour of its register'
 complete -c sixel -n '__fish_sixel_is mend' -l define-selects -d 'Let a colour definition also select its register'
