@@ -27,9 +27,10 @@ use Rattle.sixel_program.proofs.ReportLemmas.{no_message, no_refusal, unwritten_
 -- ---- what is written
 
 -- a quiet task writes nothing of its items
-pub none_written : (label : Option Text) (items : List Item) → flat_map (written_for Nothing label) items ≡ []
-none_written label [] = refl
-none_written label (i ∷ items) = none_written label items
+pub none_written : (json : Bool) (label : Option Text) (items : List Item)
+    → flat_map (written_for (Nothing json) label) items ≡ []
+none_written json label [] = refl
+none_written json label (i ∷ items) = none_written json label items
 
 -- ---- the answer
 
@@ -61,18 +62,18 @@ none_unwritten answer old new first last counts is =
 -- ---- quiet or not
 
 -- the lines were put to such a sink, and nothing was put to the output
-pub quiet_lines : (t : Task) (written : Item → Text) (label : Option Text) (answer : Result Status RunFault)
+pub quiet_lines : (t : Task) (json : Bool) (written : Item → Text) (label : Option Text) (answer : Result Status RunFault)
     (i : Change SourceState) (nowhere : Change SinkState) (o : SinkState) → WritesItems t written answer i nowhere
-    → answer ≢ Err run.Write → WritesItems t (written_for Nothing label) answer i (change o o)
-quiet_lines t written label answer i nowhere o k other = record {
+    → answer ≢ Err run.Write → WritesItems t (written_for (Nothing json) label) answer i (change o o)
+quiet_lines t json written label answer i nowhere o k other = record {
   found = k.found;
   items = k.items;
   wrote = k.wrote;
   refused = k.refused;
   unwritten = k.unwritten;
   ends = k.ends;
-  put = puts_unfailed answer o.taken o.taken (flat_map (written_for Nothing label) k.items) other
-      (subst (Appends o.taken o.taken) (sym (none_written label k.items)) (Appends-none o.taken));
+  put = puts_unfailed answer o.taken o.taken (flat_map (written_for (Nothing json) label) k.items) other
+      (subst (Appends o.taken o.taken) (sym (none_written json label k.items)) (Appends-none o.taken));
   memory = k.memory;
   over = k.over;
   reads = k.reads;

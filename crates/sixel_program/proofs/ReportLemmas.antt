@@ -16,19 +16,19 @@ use Rattle.sixel_program.specs.Json.{fault_members, file_member, json_line}
 -- an input that isn't refused has no refusal, nor a message
 pub no_refusal : (lines : Lines) (label : Option Text) (status : Status)
     → refusal_text lines label None (Ok status) ≡ []
-no_refusal Nothing label status = refl
+no_refusal (Nothing json) label status = refl
 no_refusal (Plain only_failed) label status = refl
 no_refusal (Json only_failed) label status = refl
 
 pub no_message : (lines : Lines) (label : Option Text) (format : Option Format) (status : Status)
     → said_of_file lines label None format (Ok status) ≡ []
-no_message Nothing label format status = refl
+no_message (Nothing json) label format status = refl
 no_message (Plain only_failed) label format status = refl
 no_message (Json only_failed) label format status = refl
 
 -- nor has a failed write a refusal
 pub unwritten_refusal : (lines : Lines) (label : Option Text) → refusal_text lines label None (Err run.Write) ≡ []
-unwritten_refusal Nothing label = refl
+unwritten_refusal (Nothing json) label = refl
 unwritten_refusal (Plain only_failed) label = refl
 unwritten_refusal (Json only_failed) label = refl
 
@@ -47,13 +47,13 @@ module _ (lines : Lines) (label : Option Text) (unopened : Option Unopened) (for
 
 pub in_json : (lines : Lines) (label : Option Text) (unopened : Option Unopened) (format : Option Format)
     (answer : Result Status RunFault) → is_json lines ≡ true → InJson lines label unopened format answer
-in_json Nothing label unopened format answer is = let no : false ≡ true = is in cc
+in_json (Nothing json) label unopened format answer is = let no : false ≡ true = is in cc
 in_json (Plain only_failed) label unopened format answer is = let no : false ≡ true = is in cc
 in_json (Json only_failed) label unopened format answer is = record { refusal = refl; message = refl; loud = refl }
 
 pub in_lines : (lines : Lines) (label : Option Text) (unopened : Option Unopened) (format : Option Format)
     (answer : Result Status RunFault) → is_json lines ≡ false → InLines lines label unopened format answer
-in_lines Nothing label unopened format answer is = record { refusal = refl; message = refl }
+in_lines (Nothing json) label unopened format answer is = record { refusal = refl; message = refl }
 in_lines (Plain only_failed) label unopened format answer is = record { refusal = refl; message = refl }
 in_lines (Json only_failed) label unopened format answer is = let no : true ≡ false = is in cc
 

@@ -169,10 +169,10 @@ pub failures_of : (label : Option Text) (items : List Item) → flat_map (writte
 failures_of label [] = refl
 failures_of label (i ∷ items) = failures_step (is_portable_item i) label i items refl (failures_of label items)
 
-pub quiet : (ends : List FileEnd) → files_text Nothing ends ≡ []
-quiet [] = refl
-quiet (e ∷ ends) =
-    rw (none_written e.label e.items) (quiet ends)
+pub quiet : (json : Bool) (ends : List FileEnd) → files_text (Nothing json) ends ≡ []
+quiet json [] = refl
+quiet json (e ∷ ends) =
+    rw (none_written json e.label e.items) (quiet json ends)
 
 refuses : (t : Task) (bytes text : Text) (fault : Fault) → has_lines t ≡ true
     → Gives t bytes text (Err (run.Grammar fault)) → Gives t bytes [] (Err (run.Grammar fault))

@@ -18,7 +18,7 @@ has_failed answer = true
 
 -- whether a last line counts the files: if messages are shown or only failures are wanted, but not after a quiet check
 abbrev pub is_counted : Lines → Bool → Bool
-is_counted Nothing is_shown = false
+is_counted (Nothing json) is_shown = false
 is_counted (Plain only_failed) is_shown = only_failed || is_shown
 is_counted (Json only_failed) is_shown = only_failed || is_shown
 

@@ -198,7 +198,7 @@ pub record IsFileOpening {O : Type 0} (folder : FolderView O) (e : FileEnd) : Ty
 -- what is written for an item of the input with this label: its line after the label or an object of JSON, but not for
 -- what is portable, if only failures are wanted
 abbrev pub written_for : Lines → Option Text → Item → Text
-written_for Nothing label i = []
+written_for (Nothing json) label i = []
 written_for (Plain only_failed) label i =
     if only_failed && is_portable_item i then [] else labelled label (item_line i)
 written_for (Json only_failed) label i =

@@ -11,7 +11,7 @@ use Rattle.sixel_program.specs.declared.terminals.Terminals.{Terminals}
 
 -- whether nothing is written of an input that isn't refused
 abbrev pub is_quiet : Lines → Bool
-is_quiet Nothing = true
+is_quiet (Nothing json) = true
 is_quiet lines = false
 
 -- whether they are objects of JSON, and refusals are among them
@@ -22,6 +22,7 @@ is_json lines = false
 -- as many of them as there are, in the same form
 abbrev pub all_of : Lines → Lines
 all_of (Json only_failed) = Json false
+all_of (Nothing true) = Json false
 all_of lines = Plain false
 
 -- whether a line says that a picture is portable

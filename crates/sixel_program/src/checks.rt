@@ -66,7 +66,7 @@ fn write_labelled<S: Source, K: Sink>(
     ensures untouched { is_quiet lines ≡ true → output.new ≡ output.old }
 {
     match (lines, label) {
-        (Lines::Nothing, _) => {
+        (Lines::Nothing { .. }, _) => {
             write_lines(alloc, *task, &Plain, input, piece, &mut Nowhere::new())
         }
         (Lines::Plain { only_failed: false }, None) => {

@@ -31,7 +31,7 @@ fn is_counted(lines: Lines, is_shown: bool) -> bool
     ensures { result ≡ is_counted lines is_shown }
 {
     match lines {
-        Lines::Nothing => false,
+        Lines::Nothing { .. } => false,
         Lines::Plain { only_failed } | Lines::Json { only_failed } => only_failed || is_shown,
     }
 }

@@ -66,7 +66,7 @@ pub fn several_files_are_checked_one_by_one()
         IsFileEnd task e → scans task ≡ false → e.answer ≡ Err fault →
         (files_text (Plain only_failed) (e ∷ []) ≡ [])
         × (files_text (Json only_failed) (e ∷ []) ≡ refusal_object e.label e.unopened e.answer) }
-    ensures quiet { (ends : List FileEnd) → files_text Nothing ends ≡ [] }
+    ensures quiet { (json : Bool) (ends : List FileEnd) → files_text (Nothing json) ends ≡ [] }
     ensures faulty { (task : Task) (e : FileEnd) (bytes : List ℕ) (fault : Fault) → has_lines task ≡ true →
         IsFileEnd task e → e.told ≡ Some bytes → e.answer ≡ Err (Grammar fault) →
         Gives task bytes [] (Err (Grammar fault)) }

@@ -11,12 +11,19 @@ use sixel_scan::Answer;
 /// Which lines a check, a survey or a scan writes, and in which form. Any other task only may be quiet or not.
 #[derive(Clone, Copy, Debug, PartialEq, Eq)]
 pub enum Lines {
-    /// None, and no note. A scan has its lines, and why an input is refused is said, all the same.
-    Nothing,
+    /// None, and no note. Why an input is refused is said all the same, and a scan has all of its lines.
+    Nothing {
+        /// Whether those are objects of JSON.
+        is_json: bool,
+    },
     /// A line for each answer, or only for each that isn't portable.
-    Plain { only_failed: bool },
+    Plain {
+        only_failed: bool,
+    },
     /// An object of JSON in place of each line, and one for each input that is refused or can't be read.
-    Json { only_failed: bool },
+    Json {
+        only_failed: bool,
+    },
 }
 
 /// Which messages come last.
@@ -45,7 +52,7 @@ pub fn shown_at(terminals: Terminals, lines: Lines, explains: bool) -> Shown
 pub fn is_quiet(lines: Lines) -> bool
     ensures { result ≡ is_quiet lines }
 {
-    matches!(lines, Lines::Nothing)
+    matches!(lines, Lines::Nothing { .. })
 }
 
 /// Whether they are objects of JSON.
@@ -60,7 +67,7 @@ pub fn all_of(lines: Lines) -> Lines
     ensures { result ≡ all_of lines }
 {
     match lines {
-        Lines::Json { .. } => Lines::Json { only_failed: false },
+        Lines::Json { .. } | Lines::Nothing { is_json: true } => Lines::Json { only_failed: false },
         _ => Lines::Plain { only_failed: false },
     }
 }

@@ -26,7 +26,7 @@ impl<'a> PutItem for Labelled<'a> {
 
     fn put_item<K: Sink>(&self, item: &Item, out: &mut K) -> Result<(), DeviceFault> {
         match self.lines {
-            Lines::Nothing => Ok(()),
+            Lines::Nothing { .. } => Ok(()),
             Lines::Plain { only_failed: true } | Lines::Json { only_failed: true }
                 if is_portable_item(item) => Ok(()),
             Lines::Plain { .. } => put_labelled(self.label, item_line(item).as_slice(), out),

@@ -82,6 +82,9 @@ const FOLDER: MemoryFolder<'static> = MemoryFolder {
 /// A line for each answer.
 const ALL: Lines = Lines::Plain { only_failed: false };
 
+/// No lines.
+const QUIET: Lines = Lines::Nothing { is_json: false };
+
 /// A request, and the bytes of standard input.
 #[derive(Clone, Copy)]
 struct Asked<'a> {
@@ -258,7 +261,7 @@ fn ends_unread(
 fn check_of<'a>(is_quiet: bool, names: &'a [&'a str], input: &'a [u8]) -> Asked<'a>
     ensures { HasSides result.task }
 {
-    let lines = if is_quiet { Lines::Nothing } else { ALL };
+    let lines = if is_quiet { QUIET } else { ALL };
     Asked {
         lines,
         ..asked_of(CHECK, names, input)

@@ -261,7 +261,7 @@ quiet_after g (flag ∷ flags) are =
 -- what these flags ask for
 record AsksSo (g : Given) : Type 0 where
   pub profile : profile_of (rows_for g) ≡ (if had_wide g then Registers256 else Registers16)
-  pub lines : lines_of (rows_for g) ≡ (if had_quiet g then Nothing else Plain false)
+  pub lines : lines_of (rows_for g) ≡ (if had_quiet g then Nothing false else Plain false)
   pub explains : is_given (codes "explain") (rows_for g) ≡ false
   pub files : files_of (rows_for g) ≡ []
 
@@ -276,7 +276,7 @@ asks_so quiet_wide = record { profile = refl; lines = refl; explains = refl; fil
 pub flags_ask : (program : Text) (flags : List Text) → AreFlags flags
     → IsRequestOf (program ∷ codes "check" ∷ flags)
     (Check (if is_among flags (codes "--wide") then Registers256 else Registers16))
-    (if is_among flags (codes "-q") || is_among flags (codes "--quiet") then Nothing else Plain false) false []
+    (if is_among flags (codes "-q") || is_among flags (codes "--quiet") then Nothing false else Plain false) false []
 flags_ask program flags are =
     let g = after_all none flags in
     let asks = asks_so g in
@@ -288,7 +288,7 @@ flags_ask program flags are =
       rows_for g,
       found,
       (refl, asks.profile ∙ wide),
-      asks.lines ∙ ap (λ (b : Bool). if b then Nothing else Plain false) (quiet_after none flags are),
+      asks.lines ∙ ap (λ (b : Bool). if b then Nothing false else Plain false) (quiet_after none flags are),
       asks.explains,
       asks.files,
     )

@@ -267,9 +267,9 @@ IsTaskOf words t = (name : Text) × (rows : List Row)
 
 -- ---- files and lines
 
--- the lines that are asked for: none, and no note, with `--quiet`; objects with `--json`; only those of failures with `--failed`
+-- the lines that are asked for: none, and no note, with `--quiet`, and of a scan all; objects with `--json`; only those of failures with `--failed`
 abbrev pub lines_of : List Row → Lines
-lines_of rows = if is_given (codes "quiet") rows then Nothing
+lines_of rows = if is_given (codes "quiet") rows then Nothing (is_given (codes "json") rows)
     else if is_given (codes "json") rows then Json (is_given (codes "failed") rows)
     else Plain (is_given (codes "failed") rows)
 

@@ -63,7 +63,7 @@ pub fn the_word_mend_gives_a_mend()
         IsTaskOf (program ∷ codes "mend" ∷ codes "--background" ∷ codes "#Ff8002" ∷ [])
         (Mend Registers16 (Rgb 100 50 1) false false) }
     ensures quiet { (program : Text) → IsRequestOf (program ∷ codes "mend" ∷ codes "-q" ∷ [])
-        (Mend Registers16 (Rgb 0 0 0) false false) Nothing false [] }
+        (Mend Registers16 (Rgb 0 0 0) false false) (Nothing false) false [] }
 {}
 
 /// `sixel show` is accepted, and shows without any flag, with 16 registers on a screen of 800 by 480 pixels.
@@ -122,7 +122,8 @@ pub fn an_option_may_come_again()
     ensures request { (program : Text) (flags : List Text) → All (Contains check_flags) flags →
         IsRequestOf (program ∷ codes "check" ∷ flags)
         (Check (if is_among flags (codes "--wide") then Registers256 else Registers16))
-        (if is_among flags (codes "-q") || is_among flags (codes "--quiet") then Nothing else Plain false) false [] }
+        (if is_among flags (codes "-q") || is_among flags (codes "--quiet") then Nothing false else Plain false)
+        false [] }
     ensures number_taken { (program : Text) → takes sixel_app (program ∷ codes "show" ∷ codes "--width" ∷ codes "3"
         ∷ codes "--width" ∷ codes "2" ∷ []) ≡ true }
     ensures number { (program : Text) → IsTaskOf (program ∷ codes "show" ∷ codes "--width" ∷ codes "3"
@@ -130,7 +131,7 @@ pub fn an_option_may_come_again()
 {}
 
 /// `--failed` asks a check for the lines of failures, and `--json` a check, a survey or a scan for JSON. `-q` asks for no
-/// lines, whatever else is asked for; a scan or a show with it has no note. `--explain` asks a check or a survey for
+/// lines, whatever else is asked for; a scan or a show with it has no note, and the lines of a scan stay as they are. `--explain` asks a check or a survey for
 /// hints.
 pub fn options_ask_for_lines()
     ensures failed { (program : Text) → IsRequestOf (program ∷ codes "check" ∷ codes "--failed" ∷ codes "a" ∷ [])
@@ -146,11 +147,12 @@ pub fn options_ask_for_lines()
         (Check Registers16) (Json true) false [] }
     ensures quiet { (program : Text) →
         IsRequestOf (program ∷ codes "check" ∷ codes "--json" ∷ codes "-q" ∷ codes "--failed" ∷ [])
-        (Check Registers16) Nothing false [] }
-    ensures quiet_scan { (program : Text) → IsRequestOf (program ∷ codes "scan" ∷ codes "-q" ∷ codes "a" ∷ [])
-        (Scan Registers16 false) Nothing false (codes "a" ∷ []) }
+        (Check Registers16) (Nothing true) false [] }
+    ensures quiet_scan { (program : Text) →
+        IsRequestOf (program ∷ codes "scan" ∷ codes "-q" ∷ codes "--json" ∷ codes "a" ∷ [])
+        (Scan Registers16 false) (Nothing true) false (codes "a" ∷ []) }
     ensures quiet_box { (program : Text) → IsRequestOf (program ∷ codes "show" ∷ codes "--box" ∷ codes "--quiet" ∷ [])
-        (ShowBox Registers16 false false false) Nothing false [] }
+        (ShowBox Registers16 false false false) (Nothing false) false [] }
     ensures explained { (program : Text) → IsRequestOf (program ∷ codes "check" ∷ codes "--explain" ∷ [])
         (Check Registers16) (Plain false) true [] }
     ensures survey_explained { (program : Text) → IsRequestOf (program ∷ codes "survey" ∷ codes "--explain" ∷ [])

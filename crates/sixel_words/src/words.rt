@@ -206,9 +206,10 @@ fn lines_of(matches: &ArgMatches<'_>) -> Lines
     ensures { lines_of (rows_of (found_of matches.now)) ≡ result }
 {
     let only_failed = flag_of(matches, "failed");
+    let is_json = flag_of(matches, "json");
     if flag_of(matches, "quiet") {
-        Lines::Nothing
-    } else if flag_of(matches, "json") {
+        Lines::Nothing { is_json }
+    } else if is_json {
         Lines::Json { only_failed }
     } else {
         Lines::Plain { only_failed }

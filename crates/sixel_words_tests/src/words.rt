@@ -59,6 +59,12 @@ pub fn says(rt: &HostRuntime, line: &str, text: &str) -> Result<bool, Fail> {
 /// A line for each answer.
 pub const ALL: &str = "Plain { only_failed: false }";
 
+/// None.
+const QUIET: &str = "Nothing { is_json: false }";
+
+/// None, or for a scan objects of JSON.
+const QUIET_JSON: &str = "Nothing { is_json: true }";
+
 const FAILED: &str = "Plain { only_failed: true }";
 
 const JSON: &str = "Json { only_failed: false }";
@@ -185,14 +191,14 @@ fn names_the_files_to_check(rt: HostRuntime) -> Result<(), Fail> {
             ALL,
             "[\"a\", \"-q\", \"--wide\"]",
         ),
-        ("sixel check -q", "Nothing", "[]"),
-        ("sixel check --quiet", "Nothing", "[]"),
-        ("sixel check -q -q", "Nothing", "[]"),
-        ("sixel check -qq", "Nothing", "[]"),
-        ("sixel check -q a --quiet", "Nothing", "[\"a\"]"),
-        ("sixel check -q a", "Nothing", "[\"a\"]"),
-        ("sixel check --quiet a b", "Nothing", "[\"a\", \"b\"]"),
-        ("sixel check a -q -", "Nothing", "[\"a\", \"-\"]"),
+        ("sixel check -q", QUIET, "[]"),
+        ("sixel check --quiet", QUIET, "[]"),
+        ("sixel check -q -q", QUIET, "[]"),
+        ("sixel check -qq", QUIET, "[]"),
+        ("sixel check -q a --quiet", QUIET, "[\"a\"]"),
+        ("sixel check -q a", QUIET, "[\"a\"]"),
+        ("sixel check --quiet a b", QUIET, "[\"a\", \"b\"]"),
+        ("sixel check a -q -", QUIET, "[\"a\", \"-\"]"),
         ("sixel check --failed a", FAILED, "[\"a\"]"),
         ("sixel check a --json", JSON, "[\"a\"]"),
         (
@@ -200,8 +206,8 @@ fn names_the_files_to_check(rt: HostRuntime) -> Result<(), Fail> {
             "Json { only_failed: true }",
             "[]",
         ),
-        ("sixel check --failed --json -q", "Nothing", "[]"),
-        ("sixel check -q --failed a", "Nothing", "[\"a\"]"),
+        ("sixel check --failed --json -q", QUIET_JSON, "[]"),
+        ("sixel check -q --failed a", QUIET, "[\"a\"]"),
     ];
     for (line, lines, files) in rows {
         let task = "Check { profile: Registers16 }";
@@ -209,7 +215,7 @@ fn names_the_files_to_check(rt: HostRuntime) -> Result<(), Fail> {
     }
     for line in ["sixel check --wide -q a", "sixel check -q a --wide"] {
         let task = "Check { profile: Registers256 }";
-        assert!(rt; asks(&rt, line, task, "Nothing", "[\"a\"]")?, "{line}");
+        assert!(rt; asks(&rt, line, task, QUIET, "[\"a\"]")?, "{line}");
     }
     Ok(())
 }
@@ -300,16 +306,24 @@ fn other_tasks_may_be_quiet(rt: HostRuntime) -> Result<(), Fail> {
         (
             "sixel scan -q a",
             "Scan { profile: Registers16, eight_bit: false }",
+            QUIET,
             "[\"a\"]",
+        ),
+        (
+            "sixel scan --json -q",
+            "Scan { profile: Registers16, eight_bit: false }",
+            QUIET_JSON,
+            "[]",
         ),
         (
             "sixel show --box --quiet",
             "ShowBox { profile: Registers16, showing: false, fill: false, selects: false }",
+            QUIET,
             "[]",
         ),
     ];
-    for (line, task, files) in rows {
-        assert!(rt; asks(&rt, line, task, "Nothing", files)?, "{line}");
+    for (line, task, lines, files) in rows {
+        assert!(rt; asks(&rt, line, task, lines, files)?, "{line}");
     }
     Ok(())
 }

@@ -163,7 +163,7 @@ fn a_hint_on_each(rt: HostRuntime) -> Result<(), Fail> {
         )?
     );
     let quiet = Asked {
-        lines: Lines::Nothing,
+        lines: Lines::Nothing { is_json: false },
         ..explained
     };
     let quiet = Asked {

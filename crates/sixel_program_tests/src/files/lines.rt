@@ -88,7 +88,16 @@ fn a_count_of_files(rt: HostRuntime) -> Result<(), Fail> {
     let ended = unread(Exit::Refused, lines, said);
     assert!(rt; ends(alloc, CHECK, ALL, &names, SEEN, ended)?);
     let ended = unread(Exit::Refused, b"", b"sixel: none: no such file\n");
-    assert!(rt; ends(alloc, CHECK, Lines::Nothing, &names, SEEN, ended)?);
+    assert!(rt;
+        ends(
+            alloc,
+            CHECK,
+            Lines::Nothing { is_json: false },
+            &names,
+            SEEN,
+            ended
+        )?
+    );
     let ended = unread(Exit::Refused, lines, b"sixel: none: no such file\n");
     assert!(rt; ends(alloc, CHECK, ALL, &names, STREAMS, ended)?);
     assert!(rt; ends(alloc, SURVEY, ALL, &names, SEEN, ended)?);

@@ -32,7 +32,7 @@ fn notes(
 {
     let plain = asked_of(task, &[], bytes);
     let quiet = Asked {
-        lines: Lines::Nothing,
+        lines: Lines::Nothing { is_json: false },
         ..plain
     };
     Ok(
@@ -142,19 +142,24 @@ fn wrapped_strings_of_files(rt: HostRuntime) -> Result<(), Fail> {
             unread(Exit::Done, lines, WRAPPED)
         )?
     );
-    let json = Asked {
-        lines: Lines::Json { only_failed: false },
-        ..asked_of(SCAN, &["wrapped"], b"")
-    };
     let object =
         b"{\"file\":\"wrapped\",\"string\":2,\"result\":\"portable\",\"width\":1,\"height\":1}\n";
-    assert!(rt;
-        ends_over(
-            rt.alloc(),
-            &json,
-            STREAMS,
-            unread(Exit::Done, object, WRAPPED)
-        )?
-    );
+    for (lines, said) in [
+        (Lines::Json { only_failed: false }, WRAPPED),
+        (Lines::Nothing { is_json: true }, b"".as_slice()),
+    ] {
+        let asked = Asked {
+            lines,
+            ..asked_of(SCAN, &["wrapped"], b"")
+        };
+        assert!(rt;
+            ends_over(
+                rt.alloc(),
+                &asked,
+                STREAMS,
+                unread(Exit::Done, object, said)
+            )?
+        );
+    }
     Ok(())
 }

@@ -49,7 +49,7 @@ fn checked(alloc: Global, file: ToldFile<'_>) -> Result<Exit, AllocError>
     files.push(String::from_str(alloc, file.name)?)?;
     let request = Request {
         task: CHECK,
-        lines: Lines::Nothing,
+        lines: Lines::Nothing { is_json: false },
         explains: false,
         files,
     };
