@@ -30,8 +30,7 @@ _sixel() {
         scan) options='--wide -q --quiet --eight-bit --json -h --help -V --version' operands=0 ;;
         render) options='--wide -h --help -V --version' ;;
         encode) options='--wide -h --help -V --version' ;;
-        show) options='--wide -q --quiet --showing --fill --define-selects --width --height --box
-                -h --help -V --version' ;;
+        show) options='--wide -q --quiet --showing --fill --define-selects --width --height --box -h --help -V --version' ;;
         mend) options='--wide -q --quiet --background --showing --define-selects -h --help -V --version' ;;
         explain) options='-h --help -V --version' operands=0
             names='RasterFirst RasterTwice Ratio BoxSize Register ColourValue RepeatZero Unselected Undefined
