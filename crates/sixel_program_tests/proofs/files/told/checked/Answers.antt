@@ -44,7 +44,7 @@ done_alone contents input names name bytes one file tells all =
     All (λ n. IsDoneOver (Check Registers16) (told_of contents input n)) (names_read (Check Registers16) ns)) one
     all) in
     let done : IsDoneOver (Check Registers16) (Some bytes) = subst (IsDoneOver (Check Registers16)) told here in
-    (done.0, no_note bytes done.0 done.1 done.2.0 done.2.1)
+    (done.0, no_note bytes done.0 done.1 done.2 done.3)
 
 tells_it : (name : Text) (bytes : List ℕ)
     → bytes_told (if bytes_eq name name then Some (Ok bytes) else Some (Err NotFound)) ≡ Some bytes
