@@ -5,8 +5,8 @@ use Rattle.sixel_grammar.specs.Following.{input_fault_of}
 use Rattle.sixel_grammar.specs.Reading.{Explains}
 use Rattle.sixel_grammar.specs.declared.fault.InputFault.{InputFault}
 use Rattle.sixel_grammar.specs.declared.fault.InputFault.TheVariants.{OutOfMemory, Read}
-use Rattle.sixel_grammar.specs.declared.following.Halt.{Halt}
-use Rattle.sixel_grammar.specs.declared.following.Halt.TheVariants.{Refused, Stopped}
+use Rattle.sixel_grammar.specs.declared.halt.Halt.{Halt}
+use Rattle.sixel_grammar.specs.declared.halt.Halt.TheVariants.{Refused, Stopped}
 use Rattle.sixel_judge.specs.Growth.{MayGrowIn}
 use Rattle.sixel_grammar.specs.Source.{HaltsSource, IsFollowed, source_halt_of}
 use Rattle.sixel_grammar.proofs.FollowSourceLemmas.{told_known}

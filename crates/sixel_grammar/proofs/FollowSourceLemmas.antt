@@ -6,7 +6,7 @@ use Rattle.std.specs.Io.KnownBytes.{Consumes, IsAtEnd}
 use Rattle.sixel_grammar.specs.declared.command.Placed.{Placed}
 use Rattle.sixel_grammar.specs.declared.fault.InputFault.{InputFault}
 use Rattle.sixel_grammar.specs.declared.fault.InputFault.TheVariants.{OutOfMemory, Read as ReadFault}
-use Rattle.sixel_grammar.specs.declared.following.Halt as halt
+use Rattle.sixel_grammar.specs.declared.halt.Halt as halt
 use Rattle.sixel_grammar.specs.declared.reader.Reader.{Reader}
 use Rattle.sixel_grammar.specs.declared.source.SourceHalt.{SourceHalt}
 use Rattle.sixel_grammar.specs.declared.source.SourceHalt.TheVariants.{Read, Refused, Stopped}

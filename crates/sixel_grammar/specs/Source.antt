@@ -4,7 +4,7 @@ use Rattle.sixel_io.specs.Devices.{one_more}
 use Rattle.sixel_grammar.specs.declared.command.Placed.{Placed}
 use Rattle.sixel_grammar.specs.declared.fault.InputFault.{InputFault}
 use Rattle.sixel_grammar.specs.declared.fault.InputFault.TheVariants.{Grammar, OutOfMemory, Read as ReadFault}
-use Rattle.sixel_grammar.specs.declared.following.Halt as halt
+use Rattle.sixel_grammar.specs.declared.halt.Halt as halt
 use Rattle.sixel_grammar.specs.declared.source.SourceHalt.{SourceHalt}
 use Rattle.sixel_grammar.specs.declared.source.SourceHalt.TheVariants.{Read, Refused, Stopped}
 use Rattle.sixel_grammar.specs.Document.{Document}

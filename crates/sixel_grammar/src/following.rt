@@ -14,59 +14,9 @@ ghost use Rattle.sixel_grammar.specs.declared.command.Columns.TheVariants.{Sixel
 ghost use Rattle.sixel_grammar.specs.declared.command.Placed.{Placed as PlacedValue};
 
 use crate::command::{Columns, Command, Completed, Event, Placed, Plain, Run, TwoCommands};
-use crate::fault::{Fault, InputFault};
+use crate::halt::Halt;
 use crate::reader::Reader;
-use std::alloc::AllocError;
 use std::convert::Infallible;
-
-/// Why the bytes weren't followed to their end.
-#[derive(Clone, Copy, Debug, PartialEq, Eq)]
-pub enum Halt<S> {
-    /// They are no document.
-    Refused(Fault),
-    /// The follower stopped.
-    Stopped(S),
-}
-
-impl<S> From<Fault> for Halt<S> {
-    ghost use Rattle.std.specs.Prelude.{◌≡◌};
-    ghost use Rattle.sixel_grammar.specs.declared.following.Halt.TheVariants.{Refused};
-
-    ghost from_gives = { λ fault result. result ≡ Refused fault };
-
-    fn from(fault: Fault) -> Halt<S> {
-        Halt::Refused(fault)
-    }
-}
-
-impl From<Halt<AllocError>> for InputFault {
-    ghost use Rattle.std.specs.Prelude.{◌≡◌};
-    ghost use Rattle.sixel_grammar.specs.Following.{input_fault_of};
-
-    ghost from_gives = { λ halt result. result ≡ input_fault_of halt };
-
-    fn from(halt: Halt<AllocError>) -> InputFault {
-        match halt {
-            Halt::Refused(fault) => InputFault::Grammar(fault),
-            Halt::Stopped(_) => InputFault::OutOfMemory,
-        }
-    }
-}
-
-/// Where the follower never stops.
-impl From<Halt<Infallible>> for Fault {
-    ghost use Rattle.std.specs.Prelude.{◌≡◌};
-    ghost use Rattle.sixel_grammar.specs.declared.following.Halt.TheVariants.{Refused};
-
-    ghost from_gives = { λ halt result. halt ≡ Refused result };
-
-    fn from(halt: Halt<Infallible>) -> Fault {
-        match halt {
-            Halt::Refused(fault) => fault,
-            Halt::Stopped(never) => match never {},
-        }
-    }
-}
 
 /// What takes the events of a document, in order, each with its offset.
 pub trait Follower {

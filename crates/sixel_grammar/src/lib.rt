@@ -7,6 +7,7 @@
 mod command;
 mod fault;
 mod following;
+mod halt;
 pub mod laws;
 mod pending;
 mod reader;
@@ -18,7 +19,8 @@ mod writing;
 
 pub use command::{Columns, Command, Completed, Event, Placed, Plain, Run, Stretch, TwoCommands};
 pub use fault::{Fault, InputFault, Reason};
-pub use following::{Follower, Halt, follow_bytes};
+pub use following::{Follower, follow_bytes};
+pub use halt::Halt;
 pub use reader::Reader;
 pub use reading::read_all;
 pub use sixel_io::{

@@ -1,24 +1,24 @@
 //! What is open after the bytes read so far, and how the next byte changes that.
 
-ghost use Rattle.std.specs.Prelude.{◌≡◌, ◌<◌, ◌+◌, ◌-◌, IsTrue, true, false, if◌then◌else◌, length, List, [], ◌∷◌};
-ghost use Rattle.std.specs.Prelude.{◌++◌, IsNone, IsSome, IfSome, OnSome, Some, None, nat_le, ◌↔◌};
+ghost use Rattle.std.specs.Prelude.{◌≡◌, IsTrue, true, false, [], IsNone, IsSome, IfSome, OnSome, Some, None, ◌↔◌};
 ghost use Rattle.std.specs.Option.{option_map};
 ghost use Rattle.sixel_grammar.specs.declared.command.Event.TheVariants.{Step as step_of};
-ghost use Rattle.sixel_grammar.specs.Bytes.{is_filler as filler_test, is_digit as digit_test, is_data as data_test};
+ghost use Rattle.sixel_grammar.specs.Bytes.{is_filler as filler_test, is_data as data_test};
 ghost use Rattle.sixel_grammar.specs.Bytes.{is_body as body_test};
 ghost use Rattle.sixel_grammar.specs.Faults.{NothingYet as NothingForm, NoCommand as NoCommandForm};
 ghost use Rattle.sixel_grammar.specs.Faults.{RepeatNumber as RepeatForm, RasterFields as RasterForm};
 ghost use Rattle.sixel_grammar.specs.Faults.{ColourFields as ColourForm, Ended as EndedForm, refusal, is_idle};
 ghost use Rattle.sixel_grammar.specs.Next.{begin as begin_of, within as within_of, only_grown, only_whole};
-ghost use Rattle.sixel_grammar.specs.Next.{settled as settled_of, next_of, with_digit, ends_repeat};
+ghost use Rattle.sixel_grammar.specs.Next.{settled as settled_of, next_of, ends_repeat};
 ghost use Rattle.sixel_grammar.specs.Standing.{is_columns};
-ghost use Rattle.sixel_grammar.specs.Pending.{Grows, MakesWhole, event_of, form_of, takes_digits};
+ghost use Rattle.sixel_grammar.specs.Pending.{Grows, MakesWhole, event_of, form_of};
 
 use crate::command::{Command, Event};
 use crate::fault::Reason;
 use arrayvec::ArrayVec;
 
 mod ending;
+mod numbers;
 
 pub(crate) use ending::Ending;
 
@@ -396,141 +396,6 @@ impl Pending {
         ensures { self.new ≡ record self.old { form = form } }
     {
         self.form = form;
-    }
-
-    fn begin_repeat(&mut self)
-        ensures { self.new ≡ record self.old { form = Open.RepeatNumber; number = 0 } }
-    {
-        self.set(Open::RepeatNumber);
-        self.number = 0;
-    }
-
-    /// Opens a command with fields, none of them read yet.
-    fn begin_fields(&mut self, form: Open)
-        ensures { self.new ≡ record self.old { form = form; fields = record { items = [] }; number = 0 } }
-    {
-        self.set(form);
-        self.fields = ArrayVec::new();
-        self.number = 0;
-    }
-
-    /// Opens a select, or a definition, with this number so far.
-    #[inline]
-    pub(crate) fn open_select(&mut self, register: u16)
-        ensures { form_of self.new ≡ ColourForm [] register }
-    {
-        self.begin_fields(Open::ColourFields);
-        self.number = register;
-    }
-
-    /// Opens the parameters of the introducer.
-    fn introduce(&mut self, eight: bool)
-        ensures { self.new ≡ record self.old {
-          form = Open.Parameters;
-          eight = eight;
-          parameters = record { items = [] };
-          number = 0;
-        } }
-    {
-        self.set(Open::Parameters);
-        self.eight = eight;
-        self.parameters = ArrayVec::new();
-        self.number = 0;
-    }
-
-    fn add_field(&mut self)
-        requires { length self.old.fields.items < 4 }
-        ensures { self.new ≡ record self.old {
-          number = 0;
-          fields = record { items = self.old.fields.items ++ self.old.number ∷ [] };
-        } }
-    {
-        self.fields.push(self.number);
-        self.number = 0;
-    }
-
-    fn add_parameter(&mut self)
-        requires { length self.old.parameters.items < 3 }
-        ensures { self.new ≡ record self.old {
-          number = 0;
-          parameters = record { items = self.old.parameters.items ++ self.old.number ∷ [] };
-        } }
-    {
-        self.parameters.push(self.number);
-        self.number = 0;
-    }
-
-    /// Appends the digit to the open number, if it stays at most 65,535. Returns whether it did.
-    #[inline]
-    fn try_add_digit(&mut self, byte: u8) -> bool
-        requires { IsTrue (digit_test byte) }
-        ensures answer { result ≡ nat_le (with_digit self.old.number byte) 65535 }
-        ensures after { self.new ≡
-            (if result then record self.old { number = with_digit self.old.number byte } else self.old) }
-    {
-        let number = u32::from(self.number) * 10 + u32::from(byte - b'0');
-        if number <= 65535 {
-            self.number = number as u16;
-            true
-        } else {
-            false
-        }
-    }
-
-    /// Whether a number is open.
-    #[inline]
-    fn has_number(&self) -> bool
-        ensures { result ≡ takes_digits self.now.form }
-    {
-        matches!(
-            self.form,
-            Open::Parameters | Open::RepeatNumber | Open::RasterFields | Open::ColourFields
-        )
-    }
-
-    /// Appends the digit to the open number, if there is one and it stays at most 65,535. Returns whether it did.
-    #[inline]
-    pub(crate) fn try_take_digit(&mut self, byte: u8) -> bool
-        requires { IsTrue (digit_test byte) }
-        ensures taken { result ≡ true → within_of (form_of self.old) byte ≡ Some (form_of self.new, None) }
-        ensures unfinished { result ≡ true → is_idle (form_of self.old) ≡ false }
-        ensures open { result ≡ true → is_idle (form_of self.new) ≡ false }
-        ensures refused { result ≡ false → self.new ≡ self.old }
-    {
-        self.has_number() && self.try_add_digit(byte)
-    }
-
-    /// Opens the next field, if a colour command is open and may have another. Returns whether it did.
-    #[inline]
-    pub(crate) fn try_take_separator(&mut self) -> bool
-        ensures taken { result ≡ true → within_of (form_of self.old) 59 ≡ Some (form_of self.new, None) }
-        ensures unfinished { result ≡ true → is_idle (form_of self.old) ≡ false }
-        ensures open { result ≡ true → is_idle (form_of self.new) ≡ false }
-        ensures refused { result ≡ false → self.new ≡ self.old }
-    {
-        match self.form {
-            Open::ColourFields if self.fields.len() < 4 => {
-                self.add_field();
-                true
-            }
-            _ => false,
-        }
-    }
-
-    /// Opens a repeat, if no command is open. Returns whether it did.
-    #[inline]
-    pub(crate) fn try_begin_repeat(&mut self) -> bool
-        ensures taken { result ≡ true → within_of (form_of self.old) 33 ≡ Some (form_of self.new, None) }
-        ensures idle { result ≡ true → is_idle (form_of self.old) ≡ true }
-        ensures refused { result ≡ false → self.new ≡ self.old }
-    {
-        match self.form {
-            Open::NoCommand => {
-                self.begin_repeat();
-                true
-            }
-            _ => false,
-        }
     }
 
     /// The open repeat, if the byte ends it.

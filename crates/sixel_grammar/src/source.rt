@@ -7,7 +7,8 @@ ghost use Rattle.sixel_grammar.specs.Source.{FollowsSource, HaltsSource, failure
 ghost use Rattle.sixel_grammar.specs.declared.source.SourceHalt.TheVariants.{Read as SourceRead};
 
 use crate::fault::{Fault, InputFault};
-use crate::following::{Follower, Halt, follow_bytes};
+use crate::following::{Follower, follow_bytes};
+use crate::halt::Halt;
 use crate::reader::Reader;
 use sixel_io::{DeviceFault, PIECE, Source};
 use std::alloc::AllocError;

@@ -13,7 +13,7 @@ use Rattle.sixel_grammar.specs.Faults.{AreBegun, ArePrefix, AreSteps, IsFaultOf}
 use Rattle.sixel_grammar.specs.FixedText.{CanWriteAll}
 use Rattle.sixel_grammar.specs.Following.{AreFollowed, FollowsBytes, HaltsWithin, HoldsIn, MayFollow, StopsAmong}
 use Rattle.sixel_grammar.specs.declared.fault.Fault.{Fault}
-use Rattle.sixel_grammar.specs.declared.following.Halt.TheVariants.{Refused, Stopped}
+use Rattle.sixel_grammar.specs.declared.halt.Halt.TheVariants.{Refused, Stopped}
 use Rattle.sixel_grammar.specs.declared.reader.Reader.{Reader}
 use Rattle.sixel_grammar.specs.Standing.{fault_of}
 use Rattle.sixel_grammar.specs.Prefixes.{CompleteIn}

@@ -46,7 +46,7 @@ impl From<Fault> for MendFault {
 impl From<Halt<Infallible>> for MendFault {
     ghost use Rattle.std.specs.Prelude.{◌≡◌};
     ghost use Rattle.sixel_grammar.specs.declared.fault.Fault.{Fault as AFault};
-    ghost use Rattle.sixel_grammar.specs.declared.following.Halt.TheVariants.{Refused};
+    ghost use Rattle.sixel_grammar.specs.declared.halt.Halt.TheVariants.{Refused};
     ghost use Rattle.sixel_mend.specs.declared.mending.MendFault.TheVariants.{Grammar};
 
     ghost from_gives = { λ halt result. (fault : AFault) × (halt ≡ Refused fault) × (result ≡ Grammar fault) };

@@ -8,7 +8,7 @@ use Rattle.sixel_grammar.specs.declared.command.Command.TheVariants.{Sixel}
 use Rattle.sixel_grammar.specs.declared.command.Event.TheVariants.{Step}
 use Rattle.sixel_grammar.specs.declared.command.Placed.{Placed}
 use Rattle.sixel_grammar.specs.declared.fault.Fault.{Fault}
-use Rattle.sixel_grammar.specs.declared.following.Halt.TheVariants.{Refused, Stopped}
+use Rattle.sixel_grammar.specs.declared.halt.Halt.TheVariants.{Refused, Stopped}
 use Rattle.sixel_grammar.specs.declared.reader.Reader.{Reader}
 use Rattle.sixel_grammar.specs.Following.{AreFollowed, FollowsBytes, HaltsWithin, HoldsIn, StopsAmong}
 use Rattle.sixel_grammar.specs.Following.{TakesEvents}

@@ -7,8 +7,8 @@ use Rattle.std.proofs.lemmas.List.{append-nil, take-append-drop}
 use Rattle.std.proofs.Math.Seq.{take-append_seam}
 use Rattle.sixel_grammar.specs.declared.command.Placed.{Placed}
 use Rattle.sixel_grammar.specs.declared.fault.Fault.{Fault}
-use Rattle.sixel_grammar.specs.declared.following.Halt.{Halt}
-use Rattle.sixel_grammar.specs.declared.following.Halt.TheVariants.{Refused, Stopped}
+use Rattle.sixel_grammar.specs.declared.halt.Halt.{Halt}
+use Rattle.sixel_grammar.specs.declared.halt.Halt.TheVariants.{Refused, Stopped}
 use Rattle.sixel_grammar.specs.declared.reader.Reader.{Reader}
 use Rattle.sixel_grammar.specs.Document.{Document, most_bytes}
 use Rattle.sixel_grammar.specs.Prefixes.{CompleteIn}

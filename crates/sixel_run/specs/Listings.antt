@@ -1,8 +1,8 @@
 -- What a listing has put to its sink.
 use Rattle.std.specs.Prelude.{◌≡◌, List, [], Result, Ok, Err, ℕ}
 use Rattle.sixel_grammar.specs.declared.command.Placed.{Placed}
-use Rattle.sixel_grammar.specs.declared.following.Halt.{Halt}
-use Rattle.sixel_grammar.specs.declared.following.Halt.TheVariants.{Refused, Stopped}
+use Rattle.sixel_grammar.specs.declared.halt.Halt.{Halt}
+use Rattle.sixel_grammar.specs.declared.halt.Halt.TheVariants.{Refused, Stopped}
 use Rattle.sixel_io.specs.Blocks.{WritesThrough}
 use Rattle.sixel_io.specs.Devices.{SinkState}
 use Rattle.sixel_io.specs.declared.device.DeviceFault.{DeviceFault}

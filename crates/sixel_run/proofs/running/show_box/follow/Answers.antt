@@ -1,7 +1,7 @@
 use Rattle.std.proofs.Common.{◌++◌, subst}
 use Rattle.std.proofs.lemmas.Result.{err_from_is_err_and}
 use Rattle.std.specs.declared.convert.Infallible.{Infallible}
-use Rattle.sixel_grammar.specs.declared.following.Halt.{Halt}
+use Rattle.sixel_grammar.specs.declared.halt.Halt.{Halt}
 use Rattle.sixel_grammar.specs.Following.{HaltsWithin}
 use Rattle.sixel_grammar.proofs.FollowingLemmas.{always_refused}
 use Rattle.sixel_run.proofs.running.show_box.follow.Goals as goal
