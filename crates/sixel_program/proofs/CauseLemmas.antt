@@ -1,14 +1,17 @@
 -- What is found wrong, each once: there is room for all.
 use Rattle.std.proofs.Common.{◌≡◌, ◌∙◌, ◌++◌, ◌∷◌, ◌<◌, ◌+◌, ℕ, true, false, List, [], ap, arith, get_or, length, map, refl}
-use Rattle.std.proofs.Common.{sym, take}
+use Rattle.std.proofs.Common.{Bool, cond, filter, sym, take}
 use Rattle.std.proofs.lemmas.List.{length-append, map-append, take_more}
 use Rattle.std.proofs.lemmas.List.Folds.{list_any-append, list_any_at}
+use Rattle.std.proofs.lemmas.List.Elements.{filter_more}
+use Rattle.std.proofs.lemmas.List.Sums.{fold-append}
 use Rattle.std.specs.List.{IsDistinct, list_any}
 use Rattle.std.specs.Cmp.{IsEquivalence}
 use Rattle.std.specs.Cmp.Lexicographic.{nat_list_eq_equiv}
 use Rattle.std.proofs.lemmas.Map.Keys.{IsDistinct-push}
 use Rattle.std.proofs.lemmas.Map.Made.{length-le_from_is_member}
 use Rattle.sixel_grammar.specs.declared.fault.Reason.TheVariants as reason
+use Rattle.sixel_model.specs.declared.rule.Rule.{Rule as RuleOf}
 use Rattle.sixel_model.specs.declared.rule.Rule.TheVariants as rule
 use Rattle.sixel_program.specs.declared.hints.Cause.{Cause}
 use Rattle.sixel_program.specs.declared.hints.Cause.TheVariants.{Refusal, Rule}
@@ -19,7 +22,7 @@ use Rattle.sixel_program.specs.Files.{ArePut}
 use Rattle.sixel_model.specs.declared.profile.Profile.{Profile}
 use Rattle.sixel_run.specs.declared.task.Task.{Task}
 use Rattle.sixel_run.specs.declared.task.Task.TheVariants.{Check, Survey}
-use Rattle.sixel_program.specs.Hints.{cause_name, hints_of, is_same}
+use Rattle.sixel_program.specs.Hints.{cause_name, hints_of, is_same, with_cause, with_causes}
 use Rattle.sixel_program.proofs.FilesLemmas.{one_put, put_then}
 
 same_equivalence : IsEquivalence is_same
@@ -79,6 +82,45 @@ has_room causes cause distinct absent =
     let few = length-le_from_is_member same_equivalence (causes ++ cause ∷ []) all_causes
     (distinct_more causes cause distinct absent) (λ q has. is_one_of_all q) in
     omega (arith, few, length-append causes (cause ∷ []))
+
+-- a rule more, if it is kept
+one_kept : (kept : Bool) (r : RuleOf) (causes : List Cause)
+    → with_causes causes (map Rule (cond kept (r ∷ []) [])) ≡ cond kept (with_cause causes (Rule r)) causes
+one_kept true r causes = refl
+one_kept false r causes = refl
+
+-- with those of the first rules that are kept, and then with the next one if it is kept
+each_more : (keeps : RuleOf → Bool) (causes : List Cause) (rules : List RuleOf) (i : ℕ) (d : RuleOf)
+    → i < length rules
+    → with_causes causes (map Rule (filter keeps (take (i + 1) rules)))
+    ≡ cond (keeps (get_or rules i d))
+    (with_cause (with_causes causes (map Rule (filter keeps (take i rules)))) (Rule (get_or rules i d)))
+    (with_causes causes (map Rule (filter keeps (take i rules))))
+each_more keeps causes rules i d short =
+    let r = get_or rules i d in
+    let before = filter keeps (take i rules) in
+    ap (λ (rs : List RuleOf). with_causes causes (map Rule rs)) (filter_more keeps rules i d short)
+    ∙ ap (with_causes causes) (map-append Rule before (cond (keeps r) (r ∷ []) []))
+    ∙ fold-append with_cause causes (map Rule before) (map Rule (cond (keeps r) (r ∷ []) []))
+    ∙ one_kept (keeps r) r (with_causes causes (map Rule before))
+
+-- the next rule is kept, and its cause was added
+pub kept_next : (keeps : RuleOf → Bool) (causes : List Cause) (rules : List RuleOf) (i : ℕ) (d : RuleOf)
+    (before after : List Cause) → i < length rules → keeps (get_or rules i d) ≡ true
+    → before ≡ with_causes causes (map Rule (filter keeps (take i rules)))
+    → after ≡ with_cause before (Rule (get_or rules i d))
+    → after ≡ with_causes causes (map Rule (filter keeps (take (i + 1) rules)))
+kept_next keeps causes rules i d before after short kept is more =
+    more ∙ ap (λ (cs : List Cause). with_cause cs (Rule (get_or rules i d))) is
+    ∙ sym (rw kept at (each_more keeps causes rules i d short))
+
+-- the next rule isn't kept
+pub passed_over : (keeps : RuleOf → Bool) (causes : List Cause) (rules : List RuleOf) (i : ℕ) (d : RuleOf)
+    (before : List Cause) → i < length rules → keeps (get_or rules i d) ≡ false
+    → before ≡ with_causes causes (map Rule (filter keeps (take i rules)))
+    → before ≡ with_causes causes (map Rule (filter keeps (take (i + 1) rules)))
+passed_over keeps causes rules i d before short other is =
+    is ∙ sym (rw other at (each_more keeps causes rules i d short))
 
 -- none of the first causes is the same, nor is the next one
 pub none_more : (cause : Cause) (causes : List Cause) (i : ℕ) (d : Cause) → i < length causes

@@ -13,7 +13,7 @@ use Rattle.std.proofs.lemmas.List.Elements.{All-cons, All-head, All-nil, All-pus
 use Rattle.std.proofs.lemmas.Grind.{flat_map-append}
 use Rattle.std.proofs.lemmas.List.{map-append}
 use Rattle.std.proofs.lemmas.List.Folds.{list_any-append}
-use Rattle.std.proofs.lemmas.List.Sums.{fold_push, sum_by_push}
+use Rattle.std.proofs.lemmas.List.Sums.{fold-append, fold_push, sum_by_push}
 use Rattle.sixel_io.specs.Devices.{Change, SinkState, SourceState, change, one_more}
 use Rattle.sixel_io.proofs.SinkLemmas.{Appends-keeps, Appends-none}
 use Rattle.sixel_io.proofs.DeviceLemmas.{Appends-then}
@@ -29,12 +29,10 @@ use Rattle.sixel_program.specs.declared.exit.Exit.TheVariants as exit
 use Rattle.sixel_run.specs.declared.fault.RunFault.{RunFault}
 use Rattle.sixel_run.specs.declared.fault.RunFault.TheVariants as run
 use Rattle.sixel_run.specs.declared.task.Status.{Status}
-use Rattle.sixel_run.specs.declared.task.Status.TheVariants as status
 use Rattle.sixel_run.specs.declared.task.Task.{Task}
 use Rattle.sixel_run.specs.declared.task.Task.TheVariants as task
 use Rattle.sixel_run.specs.declared.task.Task.TheVariants.{Check}
 use Rattle.sixel_program.specs.Exits.{IsPut, exit_for_answer}
-use Rattle.sixel_program.specs.declared.formats.Format.{Format}
 use Rattle.sixel_program.specs.Formats.{IsFormat}
 use Rattle.sixel_program.specs.Files.{AreChecked, ArePut, FileEnd, FilesEnd, IsChecked, IsFileEnd, AreCut}
 use Rattle.sixel_program.specs.Files.{IsFileOpening, IsFinished, IsRead, causes_among, complaints_of, failed_among}
@@ -43,7 +41,7 @@ use Rattle.sixel_program.specs.Files.{labels_of, name_of, said_of, text_of_end, 
 use Rattle.sixel_program.specs.Files.{worst, wrapped_among}
 use Rattle.sixel_program.specs.Notes.{has_wrapped}
 use Rattle.sixel_run.specs.LineTasks.{ReadsOver, has_lines}
-use Rattle.sixel_program.specs.Hints.{cause_of, causes_of, with_cause}
+use Rattle.sixel_program.specs.Hints.{causes_in, causes_of, with_cause, with_causes}
 use Rattle.sixel_program.specs.Openings.{FailsWith, FolderView, bytes_of}
 use Rattle.sixel_program.specs.declared.folder.Unopened.{Unopened}
 use Rattle.sixel_run.specs.Outputs.{TakesMemory, Wrote, failures_by}
@@ -200,10 +198,13 @@ from_done exit.Refused = refl
 from_done exit.Usage = refl
 
 causes_more : (ends : List FileEnd) (e : FileEnd)
-    → causes_among (ends ++ e ∷ []) ≡ with_cause (causes_among ends) (cause_of e.answer)
+    → causes_among (ends ++ e ∷ []) ≡ with_causes (causes_among ends) (causes_in e.answer)
 causes_more ends e =
+    let answers = map (λ (e : FileEnd). e.answer) ends in
     ap causes_of (map-append (λ (e : FileEnd). e.answer) ends (e ∷ []))
-    ∙ fold_push (λ causes answer. with_cause causes (cause_of answer)) [] (map (λ e. e.answer) ends) e.answer
+    ∙ ap (with_causes []) (flat_map-append causes_in answers (e.answer ∷ [])
+    ∙ ap (λ (causes : List Cause). flat_map causes_in answers ++ causes) (append-nil (causes_in e.answer)))
+    ∙ fold-append with_cause [] (flat_map causes_in answers) (causes_in e.answer)
 
 or_none : (b : Bool) → (b || false) ≡ b
 or_none true = refl
@@ -238,7 +239,7 @@ module _ (t : Task) (q : Lines) {O : Type 0} (folder : FolderView O) (ends : Lis
       → IsChecked {E = E} t q folder label (Ok y) (change i₁ i₂) (change o₁ o₂) (change e₁ e₂)
       → (all : List FileEnd) × AreChecked t q folder all (labels ++ label ∷ [])
       (worse x (exit_for_answer y)) (change i₀ i₂) (change o₀ o₂) (change e₀ e₂)
-      × (causes_among all ≡ with_cause (causes_among ends) (cause_of y))
+      × (causes_among all ≡ with_causes (causes_among ends) (causes_in y))
       × (wrapped_among all ≡ (wrapped_among ends || has_wrapped y))
       × (failed_among all ≡ failed_among ends + cond (has_failed y) 1 0) × (length all ≡ length ends + 1)
   checked_more y one = (
@@ -260,7 +261,7 @@ module _ (t : Task) (q : Lines) {O : Type 0} (folder : FolderView O) (ends : Lis
           (put_then (complaints_of q ends) (said_of q one.e) e₀ e₁ e₂ before.said (rw one.label_is one.outcome.3));
     },
     causes_more ends one.e
-        ∙ ap (λ (a : Result Status RunFault). with_cause (causes_among ends) (cause_of a)) (sym one.outcome.0),
+        ∙ ap (λ (a : Result Status RunFault). with_causes (causes_among ends) (causes_in a)) (sym one.outcome.0),
     wrapped_more ends one.e
         ∙ ap (λ (a : Result Status RunFault). wrapped_among ends || has_wrapped a) (sym one.outcome.0),
     failed_more ends one.e
@@ -441,7 +442,7 @@ module _ (t : Task) (q : Lines) (h : Shown) {O : Type 0} (folder : FolderView O)
   pub one_ended : {E : Type 0} (answer : Result Status RunFault) (x y : Exit) (causes : List Cause) (wrapped : Bool)
       (failed : ℕ)
       → IsChecked {E = E} t q folder label (Ok answer) (change i₀ i₁) (change o₀ o₁) (change e₀ e₁)
-      → x ≡ exit_for_answer answer → causes ≡ with_cause [] (cause_of answer) → wrapped ≡ has_wrapped answer
+      → x ≡ exit_for_answer answer → causes ≡ with_causes [] (causes_in answer) → wrapped ≡ has_wrapped answer
       → failed ≡ cond (has_failed answer) 1 0
       → IsFinished t q h x causes wrapped failed 1 y (change o₁ o₂) (change e₁ e₂)
       → FilesEnd t q h folder (label ∷ []) y (change i₀ i₁) (change o₀ o₂) (change e₀ e₂)

@@ -3,7 +3,6 @@ use Rattle.std.proofs.Common.{◌≡◌, ◌∙◌, Some, None, false, inl, inr,
 use Rattle.sixel_io.specs.Devices.{Change, SinkState, SourceState, change}
 use Rattle.sixel_program.specs.declared.exit.Exit.{Exit}
 use Rattle.sixel_program.specs.declared.exit.Exit.TheVariants as exit
-use Rattle.sixel_run.specs.declared.fault.RunFault.TheVariants as run
 use Rattle.sixel_run.specs.declared.task.Task.{Task}
 use Rattle.sixel_program.specs.Exits.{IsPut, RunEnds}
 use Rattle.sixel_program.specs.Files.{FileEnds, is_dash}

@@ -89,6 +89,7 @@ module _ {O : Type 0} (folder : FolderView O) (x : Exit) (i : Change SourceState
 answer_no_usage : (a : Result Status RunFault) → exit_for_answer a ≢ exit.Usage
 answer_no_usage (Ok status.Done) = λ (is : exit.Done ≡ exit.Usage). cc
 answer_no_usage (Ok (status.Broken finding)) = λ (is : exit.Broken ≡ exit.Usage). cc
+answer_no_usage (Ok (status.Surveyed first rules)) = λ (is : exit.Broken ≡ exit.Usage). cc
 answer_no_usage (Ok (status.Noted note)) = λ (is : exit.Done ≡ exit.Usage). cc
 answer_no_usage (Ok (status.Unfit wrapped)) = λ (is : exit.Broken ≡ exit.Usage). cc
 answer_no_usage (Err fault) = λ (is : exit.Refused ≡ exit.Usage). cc

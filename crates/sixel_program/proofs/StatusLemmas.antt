@@ -1,5 +1,5 @@
 -- What an exit status says of each file that was read.
-use Rattle.std.proofs.Common.{◌≡◌, ◌∙◌, ◌≤◌, ◌∷◌, ℕ, Bool, List, [], Option, Some, None, arith, inl, inr, ap, map, refl}
+use Rattle.std.proofs.Common.{◌≡◌, ◌∙◌, ◌≤◌, ◌∷◌, ℕ, List, [], Option, Some, None, arith, inl, inr, ap, map, refl}
 use Rattle.std.proofs.Common.{subst, suc, sym, zero}
 use Rattle.std.specs.Prelude.{All, Contains, Err, IfSome, Ok, Result, slice_index_or}
 use Rattle.std.proofs.lemmas.List.Elements.{All-cons, All-head, All-nil, All-tail}
@@ -49,6 +49,8 @@ judged_gives t (Some bytes) left (Ok status.Done) had has wrote below = (wrote.0
 judged_gives t (Some bytes) left (Ok (status.Noted note)) had has wrote below = (wrote.0, status.Noted note, wrote.1)
 judged_gives t (Some bytes) left (Ok (status.Broken finding)) had has wrote below =
     (wrote.0, status.Broken finding, wrote.1)
+judged_gives t (Some bytes) left (Ok (status.Surveyed first rules)) had has wrote below =
+    (wrote.0, status.Surveyed first rules, wrote.1)
 judged_gives t (Some bytes) left (Ok (status.Unfit wrapped)) had has wrote below =
     (wrote.0, status.Unfit wrapped, wrote.1)
 judged_gives t (Some bytes) left (Err fault) had has wrote below = absurd (omega (arith, below))

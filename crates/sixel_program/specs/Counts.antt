@@ -1,6 +1,6 @@
 -- The last line of a check of several files: how many of them failed.
 use Rattle.std.specs.Prelude.{◌&&◌, ◌||◌, ◌∷◌, ◌==◌, ℕ, Bool, true, false, [], codes, decimal, if◌then◌else◌, nat_lt, Result}
-use Rattle.std.specs.Prelude.{Ok, Err}
+use Rattle.std.specs.Prelude.{Ok}
 use Rattle.sixel_program.specs.declared.lines.Lines.{Lines}
 use Rattle.sixel_program.specs.declared.lines.Lines.TheVariants.{Json, Nothing, Plain}
 use Rattle.sixel_run.specs.declared.fault.RunFault.{RunFault}

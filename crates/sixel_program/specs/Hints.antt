@@ -1,6 +1,5 @@
 -- The hints after a check or a survey: which explanation helps.
-use Rattle.std.specs.Prelude.{◌++◌, ◌∷◌, Bool, List, [], codes, fold, map, take, Option, Some, None, Result, Ok, Err}
-use Rattle.std.specs.Prelude.{if◌then◌else◌}
+use Rattle.std.specs.Prelude.{◌++◌, ◌∷◌, Bool, List, [], codes, flat_map, fold, map, take, Result, Ok, Err, if◌then◌else◌}
 use Rattle.std.specs.List.{list_any}
 use Rattle.std.specs.Str.{bytes_eq}
 use Rattle.sixel_program.specs.Lines.{is_quiet}
@@ -14,16 +13,19 @@ use Rattle.sixel_program.specs.declared.hints.Cause.TheVariants.{Rule, Refusal}
 use Rattle.sixel_run.specs.declared.fault.RunFault.{RunFault}
 use Rattle.sixel_run.specs.declared.fault.RunFault.TheVariants.{Grammar}
 use Rattle.sixel_run.specs.declared.task.Status.{Status}
-use Rattle.sixel_run.specs.declared.task.Status.TheVariants.{Broken}
+use Rattle.sixel_run.specs.declared.task.Status.TheVariants.{Broken, Surveyed}
 use Rattle.sixel_run.specs.declared.task.Task.{Task}
 use Rattle.sixel_run.specs.declared.task.Task.TheVariants.{Check, Survey}
+use Rattle.sixel_run.specs.RuleSets.{rules_in}
 use Rattle.sixel_run.specs.Texts.{Text, reason_name, rule_name}
 
--- what a run found wrong with its input: the rule that is broken, or why it is no sixel text
-abbrev pub cause_of : Result Status RunFault → Option Cause
-cause_of (Ok (Broken finding)) = Some (Rule finding.rule)
-cause_of (Err (Grammar fault)) = Some (Refusal fault.reason)
-cause_of _ = None
+-- what a run found wrong with its input: the rule that is broken, or of a survey the first one and all others; or why it
+-- is no sixel text
+abbrev pub causes_in : Result Status RunFault → List Cause
+causes_in (Ok (Broken finding)) = Rule finding.rule ∷ []
+causes_in (Ok (Surveyed first rules)) = Rule first.rule ∷ map Rule (rules_in rules)
+causes_in (Err (Grammar fault)) = Refusal fault.reason ∷ []
+causes_in _ = []
 
 abbrev pub cause_name : Cause → Text
 cause_name (Rule broken) = rule_name broken
@@ -45,13 +47,16 @@ abbrev pub is_same : Cause → Cause → Bool
 is_same a b = bytes_eq (cause_name a) (cause_name b)
 
 -- these causes, and one more if none of them is the same
-abbrev pub with_cause : List Cause → Option Cause → List Cause
-with_cause causes None = causes
-with_cause causes (Some cause) = if list_any (is_same cause) causes then causes else causes ++ cause ∷ []
+abbrev pub with_cause : List Cause → Cause → List Cause
+with_cause causes cause = if list_any (is_same cause) causes then causes else causes ++ cause ∷ []
+
+-- these causes, and of the others each that isn't there yet
+abbrev pub with_causes : List Cause → List Cause → List Cause
+with_causes causes others = fold with_cause causes others
 
 -- what the runs with these answers found wrong, each once, in the order in which it was found first
 abbrev pub causes_of : List (Result Status RunFault) → List Cause
-causes_of answers = fold (λ causes answer. with_cause causes (cause_of answer)) [] answers
+causes_of answers = with_causes [] (flat_map causes_in answers)
 
 -- those with a hint: all if hints are asked for, else the first if a terminal shows it; none if the task is quiet
 abbrev pub hinted : Lines → Shown → List Cause → List Cause

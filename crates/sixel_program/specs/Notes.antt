@@ -1,10 +1,10 @@
--- Notes: what is said of a task that did its work, where that may surprise.
-use Rattle.std.specs.Prelude.{◌++◌, ◌∷◌, ◌&&◌, Bool, true, false, [], codes, Result, Ok, Err, if◌then◌else◌}
+-- Notes: lines about a task that is done, if its result may surprise.
+use Rattle.std.specs.Prelude.{◌++◌, ◌∷◌, ◌&&◌, Bool, true, false, [], codes, Result, Ok, if◌then◌else◌}
 use Rattle.sixel_run.specs.declared.fault.RunFault.{RunFault}
 use Rattle.sixel_run.specs.declared.task.Note.{Note}
 use Rattle.sixel_run.specs.declared.task.Note.TheVariants.{OneColour, HighRegister, Wrapped}
 use Rattle.sixel_run.specs.declared.task.Status.{Status}
-use Rattle.sixel_run.specs.declared.task.Status.TheVariants.{Done, Noted, Broken, Unfit}
+use Rattle.sixel_run.specs.declared.task.Status.TheVariants.{Noted, Unfit}
 use Rattle.sixel_run.specs.Texts.{Text}
 
 abbrev pub note_text : Note → Text

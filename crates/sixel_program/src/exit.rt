@@ -35,7 +35,7 @@ pub fn exit_of(answer: Result<Status, RunFault>) -> Exit
 {
     match answer {
         Ok(Status::Done | Status::Noted(_)) => Exit::Done,
-        Ok(Status::Broken(_) | Status::Unfit { .. }) => Exit::Broken,
+        Ok(Status::Broken(_) | Status::Surveyed { .. } | Status::Unfit { .. }) => Exit::Broken,
         Err(_) => Exit::Refused,
     }
 }

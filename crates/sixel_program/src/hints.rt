@@ -1,20 +1,22 @@
 //! The hints after a check or a survey of an input that isn't portable.
 
-ghost use Rattle.std.specs.Prelude.{◌≡◌, ◌+◌, ◌≤◌, ◌++◌, [], Some, length, map};
+ghost use Rattle.std.specs.Prelude.{◌≡◌, ◌+◌, ◌≤◌, ◌++◌, [], length, map};
 ghost use Rattle.std.specs.List.{IsDistinct, IsDistinct-prop, list_any};
 ghost use Rattle.arrayvec.specs.ArrayVec.{array_vec_len};
 ghost use Rattle.sixel_io.specs.Devices.{change};
 ghost use Rattle.sixel_program.specs.Files.{ArePut};
-ghost use Rattle.sixel_program.specs.Hints.{cause_name, cause_of, hint_line, hinted, hints_of, is_same, option_hint};
-ghost use Rattle.sixel_program.specs.Hints.{with_cause};
+ghost use Rattle.sixel_run.specs.RuleSets.{rules_in};
+ghost use Rattle.sixel_program.specs.Hints.{cause_name, causes_in, hint_line, hinted, hints_of, is_same, option_hint};
+ghost use Rattle.sixel_program.specs.Hints.{with_cause, with_causes};
+ghost use Rattle.sixel_program.specs.declared.hints.Cause.TheVariants.{Rule as RuleCause};
 
 use crate::lines::{Lines, Shown, is_quiet};
 use arrayvec::ArrayVec;
 use sixel_check::Rule;
 use sixel_grammar::Reason;
 use sixel_io::{Sink, put_all};
-use sixel_model::Profile;
-use sixel_run::{RunFault, Status, Task, reason_name, rule_name};
+use sixel_model::{ALL_RULES, Profile};
+use sixel_run::{RuleSet, RunFault, Status, Task, reason_name, rule_name};
 
 /// What is wrong with an input.
 #[derive(Clone, Copy, Debug, PartialEq, Eq, Drop)]
@@ -29,17 +31,6 @@ pub enum Cause {
 impl Default for Cause {
     fn default() -> Cause {
         Cause::Rule(Rule::RasterFirst)
-    }
-}
-
-/// What a run found wrong with its input.
-fn cause_of(answer: &Result<Status, RunFault>) -> Option<Cause>
-    ensures { result ≡ cause_of answer.now }
-{
-    match answer {
-        Ok(Status::Broken(finding)) => Some(Cause::Rule(finding.rule)),
-        Err(RunFault::Grammar(fault)) => Some(Cause::Refusal(fault.reason)),
-        _ => None,
     }
 }
 
@@ -110,20 +101,37 @@ impl Causes {
         }
     }
 
-    /// Adds what this answer says, unless it is there.
+    /// Adds what a run with this answer found wrong, unless it is there.
     pub fn note(&mut self, answer: &Result<Status, RunFault>)
-        ensures { self.new.found.items ≡ with_cause self.old.found.items (cause_of answer.now) }
+        ensures { self.new.found.items ≡ with_causes self.old.found.items (causes_in answer.now) }
     {
-        if let Some(cause) = cause_of(answer) {
-            self.add(cause);
+        match answer {
+            Ok(Status::Broken(finding)) => self.add(Cause::Rule(finding.rule)),
+            Ok(Status::Surveyed { first, rules }) => {
+                self.add(Cause::Rule(first.rule));
+                self.add_each(rules);
+            }
+            Err(RunFault::Grammar(fault)) => self.add(Cause::Refusal(fault.reason)),
+            _ => {}
         }
     }
 
     fn add(&mut self, cause: Cause)
-        ensures { self.new.found.items ≡ with_cause self.old.found.items (Some cause) }
+        ensures { self.new.found.items ≡ with_cause self.old.found.items cause }
     {
         if !is_among(self.found.as_slice(), cause) {
             self.found.push(cause);
+        }
+    }
+
+    /// Adds these rules, in order of number.
+    fn add_each(&mut self, rules: &RuleSet)
+        ensures { self.new.found.items ≡ with_causes self.old.found.items (map RuleCause (rules_in rules.now)) }
+    {
+        for rule in ALL_RULES {
+            if rules.has(rule) {
+                self.add(Cause::Rule(rule));
+            }
         }
     }
 

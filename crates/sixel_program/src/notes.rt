@@ -1,4 +1,4 @@
-//! Notes: what is said of a task that did its work, where that may surprise.
+//! Notes: lines about a task that is done, if its result may surprise.
 
 ghost use Rattle.std.specs.Prelude.{◌≡◌};
 ghost use Rattle.sixel_io.specs.Devices.{Writes, change};

@@ -1,9 +1,8 @@
 -- Each line that is written is one line: it has no line feed before its end.
 use Rattle.std.proofs.Common.{◌≡◌, ◌++◌, ◌∷◌, ℕ, true, false, Bool, List, [], Option, Some, None}
-use Rattle.std.proofs.Common.{ap, append_assoc, arith, codes, map, ne_eqb, refl, sym, ◌∙◌}
+use Rattle.std.proofs.Common.{ap, append_assoc, arith, codes, ne_eqb, refl, sym, ◌∙◌}
 use Rattle.std.specs.Prelude.{◌&&◌, decimal, nat_eq, not}
 use Rattle.std.specs.List.{All}
-use Rattle.std.specs.Option.{option_to_list}
 use Rattle.std.proofs.lemmas.List.Elements.{All-append, All-cons, All-nil}
 use Rattle.sixel_grammar.specs.declared.fault.Reason.{Reason}
 use Rattle.sixel_grammar.specs.declared.fault.Reason.TheVariants as reason
@@ -14,10 +13,9 @@ use Rattle.sixel_judge.specs.declared.verdict.Outcome.TheVariants.{Portable, Bro
 use Rattle.sixel_survey.specs.declared.entry.Entry.{Entry}
 use Rattle.sixel_scan.specs.declared.answer.Answer.{Answer}
 use Rattle.sixel_scan.specs.declared.answer.Answer.TheVariants as scanned
-use Rattle.sixel_scan.specs.declared.answer.Scanned.{Scanned}
 use Rattle.sixel_run.specs.declared.item.Item.{Item}
 use Rattle.sixel_run.specs.declared.item.Item.TheVariants as item
-use Rattle.sixel_run.specs.Texts.{IsLine, Text, entry_line, line, numbers, pixel_parts, rule_name, size_line, spaced}
+use Rattle.sixel_run.specs.Texts.{IsLine, Text, entry_line, line, numbers, pixel_parts, rule_name, spaced}
 use Rattle.sixel_run.specs.Texts.{answer_line, item_line, outcome_line, reason_name}
 use Rattle.sixel_run.proofs.DigitLemmas.{AreDigits, number_digits}
 

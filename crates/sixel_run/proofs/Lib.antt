@@ -5,6 +5,7 @@ pub mod CheckLemmas
 pub mod PictureLemmas
 pub mod FileLemmas
 pub mod MendLemmas
+pub mod RuleSetLemmas
 pub mod SurveyLemmas
 pub mod DigitLemmas
 pub mod FeedLemmas

@@ -24,7 +24,6 @@ use Rattle.sixel_judge.specs.Verdicts.{IsVerdict}
 use Rattle.sixel_judge.proofs.DecideLemmas.{verdict_exists}
 use Rattle.sixel_run.specs.declared.fault.RunFault.{RunFault}
 use Rattle.sixel_run.specs.declared.fault.RunFault.TheVariants.{Grammar, NotRgb}
-use Rattle.sixel_run.specs.declared.fault.RunFault.TheVariants.{Write}
 use Rattle.sixel_run.specs.declared.task.Status.{Status}
 use Rattle.sixel_run.specs.declared.task.Status.TheVariants as status
 use Rattle.sixel_run.specs.declared.task.Status.TheVariants.{Done}

@@ -27,7 +27,7 @@ use Rattle.sixel_run.specs.declared.fault.RunFault.TheVariants.{Grammar}
 use Rattle.sixel_run.specs.declared.task.Status.{Status}
 use Rattle.sixel_run.specs.declared.task.Status.TheVariants as status
 use Rattle.sixel_run.specs.declared.task.Status.TheVariants.{Done}
-use Rattle.sixel_run.specs.Outputs.{SurveyGives, status_of}
+use Rattle.sixel_run.specs.Outputs.{SurveyGives, survey_status}
 use Rattle.sixel_run.specs.LineTasks.{IsStatusOf}
 use Rattle.sixel_run.specs.Texts.{Text, entry_line, survey_text}
 use Rattle.sixel_run.proofs.CheckLemmas.{both_are, same_verdict}
@@ -43,12 +43,14 @@ same_survey registers bytes d e s t p q a b =
 -- the lines of the survey of a document, and the status of its verdict
 of_document : (registers : ℕ) (bytes : List ℕ) (d : List Placed) (s : Survey) (v : Verdict) → Document d bytes
     → IsSurvey registers d s → IsVerdict registers d v → (text : Text) (a : Result Status RunFault)
-    → SurveyGives registers bytes text a → (text ≡ survey_text s) × (a ≡ Ok (status_of v))
-of_document registers bytes d s v doc is rules text (Ok r) g = (
-  g.2.2 ∙ ap survey_text (same_survey registers bytes g.0 d g.2.0 s g.1 doc g.2.1 is),
-  ap (λ (t : Status). Ok t)
-      (g.3.2 ∙ ap status_of (same_verdict registers bytes g.0 d g.3.0 v g.1 doc g.3.1 rules)),
-)
+    → SurveyGives registers bytes text a → (text ≡ survey_text s) × (a ≡ Ok (survey_status s v))
+of_document registers bytes d s v doc is rules text (Ok r) g =
+    let same = same_survey registers bytes g.0 d g.2.0 s g.1 doc g.2.1 is in (
+      g.2.2 ∙ ap survey_text same,
+      ap (λ (t : Status). Ok t)
+          (g.2.3.2 ∙ ap (λ (k : Survey). survey_status k g.2.3.0) same
+          ∙ ap (survey_status s) (same_verdict registers bytes g.0 d g.2.3.0 v g.1 doc g.2.3.1 rules)),
+    )
 of_document registers bytes d s v doc is rules text (Err (Grammar f)) g =
     absurd (fault_no_document bytes f g.1 (d, doc))
 of_document registers bytes d s v doc is rules text (Err other) g = absurd g
@@ -80,7 +82,7 @@ survey-gives registers bytes =
       | inl d ↦
           let s = survey_exists registers d.0 in
           let v = verdict_exists registers d.0 in
-          (survey_text s.0, Ok (status_of v.0), (d.0, d.1, (s.0, s.1, refl), (v.0, v.1, refl)))
+          (survey_text s.0, Ok (survey_status s.0 v.0), (d.0, d.1, (s.0, s.1, refl, (v.0, v.1, refl))))
       | inr f ↦ ([], Err (Grammar f.0), (refl, f.1))
     ]
 
@@ -89,16 +91,18 @@ survey-gives registers bytes =
 -- the status after a survey is that of the verdict
 status_is : (registers : ℕ) (bytes : List ℕ) (events : List Placed) (survey : Survey) (s : Status)
     → Document events bytes → IsSurvey registers events survey → IsStatusOf survey s
-    → (verdict : Verdict) × IsVerdict registers events verdict × (s ≡ status_of verdict)
+    → (verdict : Verdict) × IsVerdict registers events verdict × (s ≡ survey_status survey verdict)
 status_is registers bytes events survey Done doc is none =
     let unbroken = (empty_if_none registers events survey is).0 none in
     (Portable (picture_left registers (events_of events)), (unbroken, refl), refl)
-status_is registers bytes events survey (status.Broken f) doc is first = (
-  Broken f,
-  subst (λ (k : Finding). IsVerdict registers events (Broken k)) (sym first.2)
-      (first_is_verdict registers events bytes survey first.0 doc is first.1),
-  refl,
-)
+status_is registers bytes events survey (status.Surveyed f rules) doc is given =
+    let first = given.0 in (
+      Broken f,
+      subst (λ (k : Finding). IsVerdict registers events (Broken k)) (sym first.2)
+          (first_is_verdict registers events bytes survey first.0 doc is first.1),
+      ap (status.Surveyed f) given.1,
+    )
+status_is registers bytes events survey (status.Broken f) doc is never = absurd never
 status_is registers bytes events survey (status.Noted note) doc is never = absurd never
 status_is registers bytes events survey (status.Unfit wrapped) doc is never = absurd never
 
@@ -109,8 +113,7 @@ surveyed registers None survey s given is = tt
 surveyed registers (Some bytes) survey s given is = (
   given.0,
   given.1,
-  (survey, given.2, refl),
-  status_is registers bytes given.0 survey s given.1 given.2 is,
+  (survey, given.2, refl, status_is registers bytes given.0 survey s given.1 given.2 is),
 )
 
 -- ---- the lines

@@ -18,7 +18,7 @@ use Rattle.sixel_encode.specs.Canon.{canon_text}
 use Rattle.sixel_run.specs.declared.fault.RunFault.{RunFault}
 use Rattle.sixel_run.specs.declared.fault.RunFault.TheVariants.{NoBox}
 use Rattle.sixel_run.specs.declared.task.Status.{Status}
-use Rattle.sixel_run.specs.declared.task.Status.TheVariants.{Done, Broken, Noted, Unfit}
+use Rattle.sixel_run.specs.declared.task.Status.TheVariants.{Done, Broken, Noted, Surveyed, Unfit}
 use Rattle.sixel_run.specs.declared.task.Task.{Task}
 use Rattle.sixel_run.specs.declared.task.Task.TheVariants.{Check, Scan, Show, ShowBox}
 use Rattle.sixel_run.specs.Outputs.{CheckGives, Gives, HasSides}
@@ -87,6 +87,7 @@ abbrev pub status_alone : Status → Status
 status_alone Done = Done
 status_alone (Noted note) = Noted note
 status_alone (Broken finding) = Unfit false
+status_alone (Surveyed first rules) = Unfit false
 status_alone (Unfit wrapped) = Unfit wrapped
 
 -- for a document that begins with ESC P, and has no filler after its end, a scan writes the line of a check after `0 `

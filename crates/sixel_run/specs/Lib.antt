@@ -1,6 +1,7 @@
 pub mod Texts
 pub mod SixelLines
 pub mod Conversions
+pub mod RuleSets
 pub mod Screens
 pub mod Notes
 pub mod Scanned

@@ -10,10 +10,11 @@ use Rattle.sixel_run.specs.declared.fault.RunFault.{RunFault}
 use Rattle.sixel_run.specs.declared.fault.RunFault.TheVariants.{OutOfMemory, Read, Write}
 use Rattle.sixel_run.specs.declared.item.Item.{Item}
 use Rattle.sixel_run.specs.declared.task.Status.{Status}
-use Rattle.sixel_run.specs.declared.task.Status.TheVariants.{Done, Broken, Noted, Unfit}
+use Rattle.sixel_run.specs.declared.task.Status.TheVariants.{Done, Broken, Noted, Surveyed, Unfit}
 use Rattle.sixel_run.specs.declared.task.Task.{Task}
 use Rattle.sixel_run.specs.declared.task.Task.TheVariants.{Check, Scan, Survey}
 use Rattle.sixel_run.specs.Outputs.{CountsWrites, TakesMemory, Wrote, failures_by}
+use Rattle.sixel_run.specs.RuleSets.{rules_of}
 use Rattle.sixel_run.specs.Texts.{Text, items_text}
 
 -- whether the task is a check, a survey or a scan
@@ -67,9 +68,11 @@ pub record WritesItems (t : Task) (written : Item → Text) (answer : Result Sta
   pub reads : input.new.failures ≡ failures_by Read found input.old.failures
   pub writes : CountsWrites answer output.old.failures output.new.failures
 
--- the status after a survey: Done without an entry, else Broken with the first one's finding
+-- the status after a survey: Done without an entry, else the first one's finding, and the rules of all
 abbrev pub IsStatusOf : ASurvey → Status → Type 0
 IsStatusOf survey Done = survey.entries.items ≡ []
-IsStatusOf survey (Broken finding) = IsFirstFinding survey.entries.items finding
+IsStatusOf survey (Surveyed first rules) =
+    IsFirstFinding survey.entries.items first × (rules ≡ rules_of survey.entries.items)
+IsStatusOf survey (Broken finding) = ⊥
 IsStatusOf survey (Noted note) = ⊥
 IsStatusOf survey (Unfit wrapped) = ⊥

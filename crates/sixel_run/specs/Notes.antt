@@ -1,4 +1,4 @@
--- What is noted of a string that is shown.
+-- The note on a string that is shown.
 use Rattle.std.specs.Prelude.{Bool, List, if◌then◌else◌}
 use Rattle.std.specs.List.{list_any}
 use Rattle.sixel_grammar.specs.declared.command.Event.{Event}

@@ -39,7 +39,7 @@ use Rattle.sixel_run.specs.declared.fault.RunFault.TheVariants.{Grammar, NotRgb,
 use Rattle.sixel_run.specs.declared.task.Status.{Status}
 use Rattle.sixel_run.specs.declared.task.Status.TheVariants as status
 use Rattle.sixel_run.specs.declared.task.Note.TheVariants.{OneColour}
-use Rattle.sixel_run.specs.declared.task.Status.TheVariants.{Done, Noted}
+use Rattle.sixel_run.specs.declared.task.Status.TheVariants.{Done, Noted, Surveyed}
 use Rattle.sixel_run.specs.declared.task.Task.{Task}
 use Rattle.sixel_run.specs.declared.task.Task.TheVariants.{List as Listing, Check, Survey, Render, Show, ShowBox}
 use Rattle.sixel_run.specs.declared.task.Task.TheVariants.{Encode}
@@ -47,6 +47,7 @@ use Rattle.sixel_run.specs.declared.task.Task.TheVariants.{Mend, Scan}
 use Rattle.sixel_run.specs.Scanned.{AreBeforeAllocation, AreOfGiven, AreOfStream, MayGrowInString, answer_of_strings}
 use Rattle.sixel_run.specs.Scanned.{scan_text}
 use Rattle.sixel_run.specs.Notes.{shown_status}
+use Rattle.sixel_run.specs.RuleSets.{rules_of}
 use Rattle.sixel_run.specs.Screens.{DeclareScreenIn, declared_screen, screen_terminal, screen_text, show_choices}
 use Rattle.sixel_run.specs.Screens.{show_terminal}
 use Rattle.sixel_run.specs.Texts.{Text, BeginsWith, list_text, survey_text, verdict_line}
@@ -94,13 +95,18 @@ outcome_status (BrokenRule finding) = status.Broken finding
 
 -- ---- surveys
 
--- for a document the lines of its survey, with this many registers, and the status of its verdict; for other bytes
--- their fault, and no text
+-- the status of a survey, after the verdict on the same document
+abbrev pub survey_status : ASurvey → Verdict → Status
+survey_status survey (Portable picture) = Done
+survey_status survey (Broken finding) = Surveyed finding (rules_of survey.entries.items)
+
+-- for a document the lines of its survey, with this many registers, and its status; for other bytes their fault, and no
+-- text
 abbrev pub SurveyGives : ℕ → List ℕ → Text → Result Status RunFault → Type 0
 SurveyGives registers bytes text (Ok status) =
     (events : List Placed) × Document events bytes
-    × ((survey : ASurvey) × IsSurvey registers events survey × (text ≡ survey_text survey))
-    × ((verdict : Verdict) × IsVerdict registers events verdict × (status ≡ status_of verdict))
+    × ((survey : ASurvey) × IsSurvey registers events survey × (text ≡ survey_text survey)
+    × ((verdict : Verdict) × IsVerdict registers events verdict × (status ≡ survey_status survey verdict)))
 SurveyGives registers bytes text (Err (Grammar fault)) = (text ≡ []) × IsFaultOf bytes fault
 SurveyGives registers bytes text (Err fault) = ⊥
 

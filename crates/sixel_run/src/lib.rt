@@ -6,6 +6,7 @@ mod item;
 pub mod laws;
 mod lines;
 mod put_item;
+mod rule_set;
 mod running;
 mod sixel_line;
 mod string_lines;
@@ -19,6 +20,7 @@ pub use lines::{
     verdict_line, write_fault, write_finding, write_verdict,
 };
 pub use put_item::{Plain, PutItem};
+pub use rule_set::RuleSet;
 pub use running::{run, write_lines};
 pub use string_lines::{StringLine, string_line};
 pub use survey_lines::{entry_line, size_line};

@@ -1,5 +1,6 @@
 //! What a run does, and how it ends if it isn't refused.
 
+use crate::rule_set::RuleSet;
 use sixel_check::Finding;
 use sixel_model::{Colour, Profile};
 
@@ -97,6 +98,12 @@ pub enum Status {
     Noted(Note),
     /// The picture isn't portable: its first broken rule.
     Broken(Finding),
+    /// The same of a survey.
+    Surveyed {
+        first: Finding,
+        /// The rules that it lists.
+        rules: RuleSet,
+    },
     /// A string of the stream isn't portable.
     Unfit {
         /// A string of the stream, perhaps another, stands in the pass-through of tmux or GNU Screen.

@@ -4,28 +4,43 @@ use crate::in_turn::{Case, PIXEL, all_stop, checked, done, fault, refused};
 use crate::runs::{SURVEY, agrees, mend_on_black};
 use sixel_check::{Finding, Rule};
 use sixel_model::Profile;
-use sixel_run::{Note, RunFault, Status, entry_line};
+use sixel_run::{Note, RuleSet, RunFault, Status, entry_line};
 use sixel_survey::Entry;
 use sixel_test_devices::filled;
 use std::alloc::Global;
 use std::test::Fail;
 
+/// The rules that three lines list.
+fn three_rules() -> RuleSet {
+    let mut rules = RuleSet::new();
+    for rule in [Rule::RasterFirst, Rule::RepeatZero, Rule::Unselected] {
+        rules.add(rule);
+    }
+    rules
+}
+
 /// Three broken rules: 15 bytes in, 46 out.
-const THREE: Case = Case {
-    bytes: b"\x1bPq!0@!65535~\x1b\\",
-    text: b"RasterFirst 3 3\nRepeatZero 1 3\nUnselected 2 3\n",
-    answer: Ok(Status::Broken(Finding {
+fn three() -> Case {
+    let first = Finding {
         rule: Rule::RasterFirst,
         place: 3,
         pixel: None,
-    })),
-    calls: [(16, 46), (4, 10), (2, 1)],
-};
+    };
+    Case {
+        bytes: b"\x1bPq!0@!65535~\x1b\\",
+        text: b"RasterFirst 3 3\nRepeatZero 1 3\nUnselected 2 3\n",
+        answer: Ok(Status::Surveyed {
+            first,
+            rules: three_rules(),
+        }),
+        calls: [(16, 46), (4, 10), (2, 1)],
+    }
+}
 
 /// The survey of one pixel is the line of a check.
 #[test]
 fn each_call_of_a_device_fails_in_a_survey(rt: HostRuntime) {
-    assert!(rt; all_stop(rt.alloc(), &SURVEY, &[checked(), THREE, fault()]));
+    assert!(rt; all_stop(rt.alloc(), &SURVEY, &[checked(), three(), fault()]));
 }
 
 /// One pixel, mended: 29 bytes.

@@ -153,6 +153,7 @@ fn a_hint_on_each(rt: HostRuntime) -> Result<(), Fail> {
     };
     let written = b"ratio: Ratio 1 3\nratio: Uncovered 1 11 0 0\nwide: Register 2 11\n";
     let said = b"sixel: 'sixel explain Ratio' tells how to fix it\n\
+        sixel: 'sixel explain Uncovered' tells how to fix it\n\
         sixel: 'sixel explain Register' tells how to fix it; '--wide' checks for 256 registers\n";
     assert!(rt;
         ends_over(
@@ -171,5 +172,28 @@ fn a_hint_on_each(rt: HostRuntime) -> Result<(), Fail> {
         ..quiet
     };
     assert!(rt; ends_over(alloc, &quiet, SEEN, unread(Exit::Broken, b"", b""))?);
+    Ok(())
+}
+
+/// Of a survey each rule that it lists has a hint. The rule that is broken first comes first, also if others have
+/// smaller numbers; where no hint is asked for, only that rule has one.
+#[test]
+fn rules_of_a_survey(rt: HostRuntime) -> Result<(), Fail> {
+    let bytes = b"\x1bPq\"1;1;1;1#16\"1;1;1;1#0;2;0;0;0#0@\x1b\\";
+    let written = b"RasterTwice 1 14\nRegister 1 11\n";
+    let first =
+        b"sixel: 'sixel explain Register' tells how to fix it; '--wide' checks for 256 registers\n";
+    let both =
+        b"sixel: 'sixel explain Register' tells how to fix it; '--wide' checks for 256 registers\n\
+        sixel: 'sixel explain RasterTwice' tells how to fix it\n";
+    let plain = asked_of(SURVEY, &[], bytes);
+    let ended = after_input(Exit::Broken, written, first);
+    assert!(rt; ends_over(rt.alloc(), &plain, SEEN, ended)?);
+    let explained = Asked {
+        explains: true,
+        ..plain
+    };
+    let ended = after_input(Exit::Broken, written, both);
+    assert!(rt; ends_over(rt.alloc(), &explained, STREAMS, ended)?);
     Ok(())
 }

@@ -7,6 +7,7 @@ ghost use Rattle.sixel_run.specs.LineTasks.{IsStatusOf, WritesItems};
 use crate::fault::RunFault;
 use crate::item::survey_items;
 use crate::put_item::PutItem;
+use crate::rule_set::rules_of;
 use crate::task::Status;
 use sixel_io::{PIECE, Sink, Source};
 use sixel_model::Profile;
@@ -37,8 +38,9 @@ pub fn survey<P: PutItem, S: Source, K: Sink>(
 fn status_of(survey: &Survey) -> Status
     ensures { IsStatusOf survey.now result }
 {
-    match survey.first() {
-        Some(finding) => Status::Broken(finding),
-        None => Status::Done,
-    }
+    let Some(first) = survey.first() else {
+        return Status::Done;
+    };
+    let rules = rules_of(survey.entries.as_slice());
+    Status::Surveyed { first, rules }
 }

@@ -1,6 +1,6 @@
 use Rattle.std.proofs.Common.{◌≡◌, ◌∙◌, ◌+◌, ◌∷◌, ◌++◌, ◌||◌, [], ℕ, List, ap, ap₂, arith, drop, false, inr, map, refl, sym, take, true}
 use Rattle.sixel_program.specs.declared.hints.Cause.{Cause}
-use Rattle.sixel_program.specs.Hints.{cause_of, with_cause}
+use Rattle.sixel_program.specs.Hints.{causes_in, with_causes}
 use Rattle.std.specs.String.{string_bytes}
 use Rattle.std.proofs.lemmas.List.{take_all}
 use Rattle.sixel_program.proofs.FilesLemmas.{all_labels, all_names, checked_more, cut_after, ended, labels_none}
@@ -41,7 +41,7 @@ loop-name-preserved g c =
       (
         all.0,
         rw (more, c.worse-exit.ensures, c.exit_of.ensures) all.1,
-        c.note.ensures ∙ ap (λ (cs : List Cause). with_cause cs (cause_of c.in-Ok.answer)) c.loop-name.invariant.0.2 ∙ sym all.2,
+        c.note.ensures ∙ ap (λ (cs : List Cause). with_causes cs (causes_in c.in-Ok.answer)) c.loop-name.invariant.0.2 ∙ sym all.2,
         ap₂ ◌||◌ c.loop-name.invariant.0.3 c.has_wrapped-wrapped.ensures ∙ sym all.3,
         ap₂ ◌+◌ c.loop-name.invariant.0.4 c.failures_in-failed.ensures ∙ sym all.4,
         all.5 ∙ ap (λ (n : ℕ). n + 1) c.loop-name.invariant.0.5,

@@ -1,4 +1,4 @@
-use Rattle.std.proofs.Common.{◌≡◌, ◌∙◌, ◌∷◌, ◌++◌, ℕ, [], List, None, Option, Some, ap, append_assoc, codes, refl, sym}
+use Rattle.std.proofs.Common.{◌≡◌, ◌∙◌, ◌∷◌, ◌++◌, [], List, None, Option, Some, ap, append_assoc, codes, refl, sym}
 use Rattle.std.proofs.lemmas.List.{map-append}
 use Rattle.std.specs.Char.{to_ascii_lowercase}
 use Rattle.sixel_grammar.specs.declared.fault.Fault.{Fault}

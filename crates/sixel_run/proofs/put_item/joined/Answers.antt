@@ -1,4 +1,4 @@
-use Rattle.std.proofs.Common.{◌+◌, arith}
+use Rattle.std.proofs.Common.{arith}
 use Rattle.sixel_run.proofs.LineTaskLemmas.{line_pushed}
 use Rattle.sixel_run.proofs.put_item.joined.Goals as goal
 

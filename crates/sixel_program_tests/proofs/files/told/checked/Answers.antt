@@ -16,7 +16,7 @@ use Rattle.sixel_judge.specs.declared.verdict.Verdict.TheVariants.{Portable, Bro
 use Rattle.sixel_program.specs.Exits.{exit_for_answer}
 use Rattle.sixel_program.specs.declared.exit.Exit.TheVariants as exit
 use Rattle.sixel_run.specs.declared.task.Status.{Status}
-use Rattle.sixel_run.specs.declared.task.Status.TheVariants.{Done, Noted, Broken, Unfit}
+use Rattle.sixel_run.specs.declared.task.Status.TheVariants.{Done, Noted, Broken, Surveyed, Unfit}
 use Rattle.sixel_run.specs.declared.task.Task.TheVariants.{Check}
 use Rattle.sixel_program_tests.proofs.files.told.checked.Goals as goal
 
@@ -29,6 +29,7 @@ no_note bytes text (Noted note) is (events, document, (Portable picture, judged,
 no_note bytes text (Noted note) is (events, document, (JudgedBroken finding, judged, same, status)) =
     let no : Noted note ≡ Broken finding = status in cc
 no_note bytes text (Broken finding) is gives = let no : exit.Broken ≡ exit.Done = is in cc
+no_note bytes text (Surveyed first rules) is gives = let no : exit.Broken ≡ exit.Done = is in cc
 no_note bytes text (Unfit wrapped) is gives = let no : exit.Broken ≡ exit.Done = is in cc
 
 -- a check of one file that a folder tells is done over what it tells
