@@ -1,0 +1,3 @@
+pub mod Readings
+pub mod Places
+pub mod Words

@@ -1,0 +1,81 @@
+-- What a named terminal makes of the events of a string: its reading.
+use Rattle.std.specs.Prelude.{◌≡◌, ◌≤◌, ◌<◌, ◌+◌, ◌&&◌, ◌++◌, ℕ, Bool, true, false, List, [], ◌∷◌, Option, Some}
+use Rattle.std.specs.Prelude.{flat_map, length, slice_get, take}
+use Rattle.std.specs.List.{range_with_len}
+use Rattle.std.specs.Option.{option_map_or}
+use Rattle.sixel_grammar.specs.declared.command.Event.{Event}
+use Rattle.sixel_grammar.specs.declared.command.Event.TheVariants.{Start, Step, Finish}
+use Rattle.sixel_models.specs.declared.reading.Reads.{Reads}
+use Rattle.sixel_models.specs.declared.reading.Reads.TheVariants.{Nothing, Draws, DrawsTwo, Stops, Unsaid}
+
+-- what a terminal makes of an event, with the events before it and the one after it
+abbrev pub Rule : Type 0
+Rule = List Event → Event → Option Event → Reads
+
+-- a model of a terminal: its rule; what it draws before the first event, by all events of the string; and which of the
+-- 8-bit controls the model doesn't say
+pub record Model : Type 0 where
+  pub rule : Rule
+  pub opening : List Event → List Event
+  pub unsaid_introducer : Bool
+  pub unsaid_terminator : Bool
+
+-- it draws nothing before the first event
+abbrev pub no_opening : List Event → List Event
+no_opening events = []
+
+-- what a plain terminal draws in place of the event
+abbrev pub drawn_by : Reads → List Event
+drawn_by Nothing = []
+drawn_by (Draws command) = Step command ∷ []
+drawn_by (DrawsTwo first second) = Step first ∷ Step second ∷ []
+drawn_by Stops = []
+drawn_by Unsaid = []
+
+-- it draws nothing more, from this event on
+abbrev pub is_stop : Reads → Bool
+is_stop Nothing = false
+is_stop (Draws command) = false
+is_stop (DrawsTwo first second) = false
+is_stop Stops = true
+is_stop Unsaid = false
+
+-- what it makes of the event at this position; past the end it draws nothing
+abbrev pub read_at : Model → List Event → ℕ → Reads
+read_at m events i =
+    option_map_or (λ e. m.rule (take i events) e (slice_get events (i + 1))) (slice_get events i) Nothing
+
+-- it stops at no position below n
+abbrev pub StopsNowhereBelow : Model → List Event → ℕ → Type 0
+StopsNowhereBelow m events n = (k : ℕ) → k < n → is_stop (read_at m events k) ≡ false
+
+-- what a plain terminal draws in place of the events: what comes before the first event, then what each gives, up to the
+-- first that stops, if there is one
+pub record IsReading (m : Model) (events drawing : List Event) : Type 0 where
+  pub end : ℕ
+  pub within : end ≤ length events
+  pub goes_on : StopsNowhereBelow m events end
+  pub stops : end < length events → is_stop (read_at m events end) ≡ true
+  pub drawing_is : drawing ≡ m.opening events ++ flat_map (λ i. drawn_by (read_at m events i)) (range_with_len 0 end)
+
+-- the event is an 8-bit control that the model doesn't say
+abbrev pub is_unsaid_control : Model → Event → Bool
+is_unsaid_control m (Start eight parameters) = eight && m.unsaid_introducer
+is_unsaid_control m (Step command) = false
+is_unsaid_control m (Finish eight) = eight && m.unsaid_terminator
+
+-- the model doesn't say what the terminal does at this position: there is such a control, even behind an event that
+-- stops; or no event before stops, and the rule doesn't say what this one does
+pub data IsUnsaid (m : Model) (events : List Event) (i : ℕ) : Type 0 where
+  Control : (e : Event) → slice_get events i ≡ Some e → is_unsaid_control m e ≡ true → IsUnsaid m events i
+  Behaviour : StopsNowhereBelow m events i → read_at m events i ≡ Unsaid → IsUnsaid m events i
+
+-- the model ends at this position: it says what the terminal does at each position before
+pub record EndsAt (m : Model) (events : List Event) (i : ℕ) : Type 0 where
+  pub within : i < length events
+  pub unsaid : IsUnsaid m events i
+  pub first : (k : ℕ) → k < i → ¬ IsUnsaid m events k
+
+-- the model says all
+abbrev pub IsSaid : Model → List Event → Type 0
+IsSaid m events = (i : ℕ) → i < length events → ¬ IsUnsaid m events i

@@ -1,0 +1,30 @@
+-- What the rules of several terminals ask of events.
+use Rattle.std.specs.Prelude.{ℕ, List, Option, Some, None, slice_index_or, unwrap_or}
+use Rattle.std.specs.Option.{option_map}
+use Rattle.sixel_grammar.specs.declared.command.Command.{Command}
+use Rattle.sixel_grammar.specs.declared.command.Command.TheVariants.{Define}
+use Rattle.sixel_grammar.specs.declared.command.Event.{Event}
+use Rattle.sixel_grammar.specs.declared.command.Event.TheVariants.{Start, Step, Finish}
+use Rattle.sixel_model.specs.declared.colour.Parts.{Parts}
+use Rattle.sixel_model.specs.declared.colour.Parts.TheVariants.{Rgb, Hls}
+use Rattle.sixel_model.specs.Colours.{clamped, colour_in}
+use Rattle.sixel_model.specs.Positions.{latest}
+
+-- the second parameter, P2, if the event is an introducer; 0 if the parameter is missing
+abbrev pub second_of : Event → Option ℕ
+second_of (Start eight parameters) = Some (slice_index_or parameters.items 1 0)
+second_of (Step command) = None
+second_of (Finish eight) = None
+
+-- P2 of the introducer before; 0 if there is none
+abbrev pub second_parameter : List Event → ℕ
+second_parameter before = unwrap_or (latest second_of before) 0
+
+-- the colour of a definition, each coordinate moved to the nearest value in range; none in a system but 1 and 2
+abbrev pub nearest : ℕ → ℕ → ℕ → ℕ → Option Parts
+nearest system x y z = option_map clamped (colour_in system x y z)
+
+-- the definition of a register that gives it this colour
+abbrev pub defining : ℕ → Parts → Command
+defining register (Rgb red green blue) = Define register 2 red green blue
+defining register (Hls hue lightness saturation) = Define register 1 hue lightness saturation

@@ -1,0 +1,39 @@
+//! What a named terminal makes of the events of a string, one by one.
+
+ghost use Rattle.std.specs.Prelude.{◌≡◌, ◌++◌, ◌∷◌, [], List};
+ghost use Rattle.std.specs.Option.{option_map};
+ghost use Rattle.sixel_grammar.specs.declared.command.Event.{Event as AnEvent};
+ghost use Rattle.sixel_models.specs.Readings.{Model as AModel};
+
+use sixel_grammar::{Command, Event};
+
+/// What a terminal makes of one event.
+#[derive(Clone, Copy, Debug, PartialEq, Eq)]
+pub enum Reads {
+    /// It draws nothing.
+    Nothing,
+    /// It draws as a plain terminal draws this command.
+    Draws(Command),
+    /// It draws as a plain terminal draws these two, one after the other.
+    DrawsTwo(Command, Command),
+    /// It draws nothing, from this event on.
+    Stops,
+    /// The model doesn't say what it does.
+    Unsaid,
+}
+
+/// A terminal that reads the events of a string in order, each with the one after it.
+pub trait Reading {
+    /// The terminal's model.
+    ghost model: { AModel };
+
+    /// `has_seen now events`: it has read these events.
+    ghost has_seen: { Self → List AnEvent → Type 0 };
+
+    /// Reads the next event. `next` is the one after it, if there is one.
+    fn read(&mut self, event: &Event, next: Option<&Event>) -> Reads
+        ensures reads { (before : List AnEvent) → has_seen self.old before
+            → result ≡ model.rule before event.now (option_map (λ e. e.now) next.entry) }
+        ensures seen { (before : List AnEvent) → has_seen self.old before
+            → has_seen self.new (before ++ event.now ∷ []) };
+}
