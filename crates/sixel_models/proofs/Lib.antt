@@ -1,1 +1,3 @@
 pub mod PlaceLemmas
+pub mod WordLemmas
+pub mod XTermLemmas

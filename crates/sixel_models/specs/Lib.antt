@@ -1,3 +1,5 @@
 pub mod Readings
 pub mod Places
 pub mod Words
+pub mod XTerm
+pub mod XTermSeen

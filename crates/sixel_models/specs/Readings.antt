@@ -49,8 +49,8 @@ read_at m events i =
 abbrev pub StopsNowhereBelow : Model → List Event → ℕ → Type 0
 StopsNowhereBelow m events n = (k : ℕ) → k < n → is_stop (read_at m events k) ≡ false
 
--- what a plain terminal draws in place of the events: what comes before the first event, then what each gives, up to the
--- first that stops, if there is one
+-- what a plain terminal draws in place of the events: what comes before the first event, then what each gives, up to
+-- the first that stops, if there is one
 pub record IsReading (m : Model) (events drawing : List Event) : Type 0 where
   pub end : ℕ
   pub within : end ≤ length events

@@ -1,5 +1,5 @@
 -- What the rules of several terminals ask of events.
-use Rattle.std.specs.Prelude.{ℕ, List, Option, Some, None, slice_index_or, unwrap_or}
+use Rattle.std.specs.Prelude.{ℕ, ◌%◌, ◌^◌, List, [], ◌∷◌, Option, Some, None, max, min, slice_index_or, unwrap_or}
 use Rattle.std.specs.Option.{option_map}
 use Rattle.sixel_grammar.specs.declared.command.Command.{Command}
 use Rattle.sixel_grammar.specs.declared.command.Command.TheVariants.{Define}
@@ -8,6 +8,7 @@ use Rattle.sixel_grammar.specs.declared.command.Event.TheVariants.{Start, Step, 
 use Rattle.sixel_model.specs.declared.colour.Parts.{Parts}
 use Rattle.sixel_model.specs.declared.colour.Parts.TheVariants.{Rgb, Hls}
 use Rattle.sixel_model.specs.Colours.{clamped, colour_in}
+use Rattle.sixel_model.specs.Geometry.{band_rows}
 use Rattle.sixel_model.specs.Positions.{latest}
 
 -- the second parameter, P2, if the event is an introducer; 0 if the parameter is missing
@@ -28,3 +29,12 @@ nearest system x y z = option_map clamped (colour_in system x y z)
 abbrev pub defining : ℕ → Parts → Command
 defining register (Rgb red green blue) = Define register 2 red green blue
 defining register (Hls hue lightness saturation) = Define register 1 hue lightness saturation
+
+-- the upper rows of a sixel: so many of its bits, from bit 0 on
+abbrev pub upper : ℕ → ℕ → ℕ
+upper rows bits = bits % 2 ^ min band_rows rows
+
+-- the greatest value that f has for one of the events; 0 if there is none
+unfoldable pub greatest : (Event → ℕ) → List Event → ℕ
+greatest f [] = 0
+greatest f (e ∷ es) = max (f e) (greatest f es)

@@ -4,5 +4,7 @@
 mod place;
 mod reading;
 mod words;
+mod xterm;
 
 pub use reading::{Reading, Reads};
+pub use xterm::XTerm;

@@ -1,10 +1,11 @@
 //! What several terminals ask of events.
 
 ghost use Rattle.std.specs.Prelude.{◌≡◌};
-ghost use Rattle.sixel_models.specs.Words.{defining as defining_command, nearest, second_of};
+ghost use Rattle.sixel_model.specs.Events.{is_data_command};
+ghost use Rattle.sixel_models.specs.Words.{defining as defining_command, nearest, second_of, upper};
 
 use sixel_grammar::{Command, Event};
-use sixel_model::{Colour, Parts};
+use sixel_model::{BAND_ROWS, Colour, Parts};
 
 /// The second parameter, if the event is an introducer. 0 if the parameter is missing.
 pub(crate) fn second_of(event: &Event) -> Option<u16>
@@ -43,4 +44,21 @@ pub(crate) fn defining(register: u16, colour: Colour) -> Command
         y: u16::from(y),
         z: u16::from(z),
     }
+}
+
+/// The upper rows of a sixel: so many of its bits, from bit 0 on.
+pub(crate) fn upper(rows: u32, bits: u8) -> u8
+    ensures { result ≡ upper rows bits }
+{
+    bits % (1 << rows.min(BAND_ROWS))
+}
+
+/// Whether it is a sixel or a repeat.
+pub(crate) fn is_data_command(event: &Event) -> bool
+    ensures { result ≡ is_data_command event.now }
+{
+    matches!(
+        event,
+        Event::Step(Command::Sixel(_) | Command::Repeat { .. })
+    )
 }
