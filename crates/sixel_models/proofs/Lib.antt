@@ -1,3 +1,5 @@
 pub mod PlaceLemmas
 pub mod WordLemmas
 pub mod XTermLemmas
+pub mod FootLemmas
+pub mod FootColourLemmas

@@ -3,3 +3,5 @@ pub mod Places
 pub mod Words
 pub mod XTerm
 pub mod XTermSeen
+pub mod Foot
+pub mod FootSeen

@@ -1,6 +1,7 @@
 -- What the rules of several terminals ask of events.
-use Rattle.std.specs.Prelude.{ℕ, ◌%◌, ◌^◌, List, [], ◌∷◌, Option, Some, None, max, min, slice_index_or, unwrap_or}
-use Rattle.std.specs.Option.{option_map}
+use Rattle.std.specs.Prelude.{ℕ, zero, suc, ◌%◌, ◌^◌, List, [], ◌∷◌, Option, Some, None, length, max, min}
+use Rattle.std.specs.Prelude.{slice_get, slice_index_or, take, unwrap_or}
+use Rattle.std.specs.Option.{option_map, option_map_or}
 use Rattle.sixel_grammar.specs.declared.command.Command.{Command}
 use Rattle.sixel_grammar.specs.declared.command.Command.TheVariants.{Define}
 use Rattle.sixel_grammar.specs.declared.command.Event.{Event}
@@ -38,3 +39,14 @@ upper rows bits = bits % 2 ^ min band_rows rows
 unfoldable pub greatest : (Event → ℕ) → List Event → ℕ
 greatest f [] = 0
 greatest f (e ∷ es) = max (f e) (greatest f es)
+
+-- what becomes of a value by the first n events. By each it becomes another; `step` says which, with the events before
+unfoldable pub after_first : {S : Type 0} → ℕ → (S → List Event → Event → S) → S → List Event → S
+after_first zero step start events = start
+after_first (suc n) step start events =
+    option_map_or (step (after_first n step start events) (take n events)) (slice_get events n)
+    (after_first n step start events)
+
+-- what becomes of it by all the events
+unfoldable pub after_each : {S : Type 0} → (S → List Event → Event → S) → S → List Event → S
+after_each step start events = after_first (length events) step start events

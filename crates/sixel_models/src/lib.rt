@@ -1,10 +1,12 @@
 //! Models of named terminals: what each makes of the events of a string.
 #![tactic(auto)]
 
+mod foot;
 mod place;
 mod reading;
 mod words;
 mod xterm;
 
+pub use foot::Foot;
 pub use reading::{Reading, Reads};
 pub use xterm::XTerm;

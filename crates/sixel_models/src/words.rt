@@ -1,7 +1,7 @@
 //! What several terminals ask of events.
 
 ghost use Rattle.std.specs.Prelude.{◌≡◌};
-ghost use Rattle.sixel_model.specs.Events.{is_data_command};
+ghost use Rattle.sixel_model.specs.Events.{is_data_command, is_painting};
 ghost use Rattle.sixel_models.specs.Words.{defining as defining_command, nearest, second_of, upper};
 
 use sixel_grammar::{Command, Event};
@@ -61,4 +61,14 @@ pub(crate) fn is_data_command(event: &Event) -> bool
         event,
         Event::Step(Command::Sixel(_) | Command::Repeat { .. })
     )
+}
+
+/// Whether it is a sixel or a repeat with at least one of the six bits set.
+pub(crate) fn is_painting(event: &Event) -> bool
+    ensures { result ≡ is_painting event.now }
+{
+    match event {
+        Event::Step(Command::Sixel(bits) | Command::Repeat { bits, .. }) => *bits % 64 != 0,
+        _ => false,
+    }
 }

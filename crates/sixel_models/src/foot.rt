@@ -1,0 +1,139 @@
+//! What foot makes of events.
+
+mod colours;
+mod size;
+
+ghost use Rattle.std.specs.Prelude.{◌≡◌, ◌++◌, ◌∷◌, [], IfOk, List, Option};
+ghost use Rattle.std.specs.Option.{option_map};
+ghost use Rattle.sixel_grammar.specs.declared.command.Event.{Event as AnEvent};
+ghost use Rattle.sixel_models.specs.Foot.{foot, foot_data, foot_model, foot_raster, foot_select, has_begun_on_foot};
+ghost use Rattle.sixel_models.specs.Foot.{is_last, spoils_on_foot};
+ghost use Rattle.sixel_models.specs.FootSeen.{HasSeenFoot};
+
+use crate::foot::colours::Colours;
+use crate::foot::size::Growing;
+use crate::reading::{Reading, Reads};
+use crate::words::{defining, is_painting, upper};
+use sixel_grammar::{Command, Event};
+use std::alloc::{AllocError, Global};
+
+/// The register of the pen, and the one that stands for what was never defined.
+const PEN: u16 = 0;
+
+const UNDEFINED: u16 = 1;
+
+/// What foot needs to know of the events that it has read.
+#[derive(Debug, Drop)]
+pub struct Foot {
+    colours: Colours,
+    size: Growing,
+    /// Whether something is painted.
+    has_painted: bool,
+}
+
+/// Whether the terminator is next.
+fn is_last(next: Option<&Event>) -> bool
+    ensures { result ≡ is_last (option_map (λ e. e.now) next.entry) }
+{
+    matches!(next, Some(Event::Finish { .. }))
+}
+
+impl Foot {
+    /// Nothing has been read.
+    pub fn new(alloc: Global) -> Result<Foot, AllocError>
+        ensures { IfOk result (λ foot. HasSeenFoot foot []) }
+    {
+        Ok(Foot {
+            colours: Colours::new(alloc)?,
+            size: Growing::new(),
+            has_painted: false,
+        })
+    }
+
+    /// Whether something is painted, or the next sixel isn't in the first band.
+    fn has_begun(&self) -> bool
+        ensures { (before : List AnEvent) → HasSeenFoot self.now before → result ≡ has_begun_on_foot before }
+    {
+        self.has_painted || self.size.place.band > 0
+    }
+
+    /// Whether raster attributes with these sides count, and cut off what is painted.
+    fn spoils(&self, width: u16, height: u16) -> bool
+        ensures { (before : List AnEvent) → HasSeenFoot self.now before
+            → result ≡ spoils_on_foot before width height }
+    {
+        self.size.counts(width, height) && self.size.cuts(width, height) && self.has_begun()
+    }
+
+    fn read_raster(&self, width: u16, height: u16, next: Option<&Event>) -> Reads
+        ensures { (before : List AnEvent) → HasSeenFoot self.now before
+            → result ≡ foot_raster before width height (option_map (λ e. e.now) next.entry) }
+    {
+        if is_last(next) {
+            Reads::Nothing
+        } else if self.spoils(width, height) {
+            Reads::Unsaid
+        } else {
+            Reads::Nothing
+        }
+    }
+
+    fn read_select(&self, register: u16) -> Reads
+        ensures { (before : List AnEvent) → HasSeenFoot self.now before → result ≡ foot_select before register }
+    {
+        match self.colours.colour_of(register) {
+            Some(colour) => Reads::DrawsTwo(defining(PEN, colour), Command::Select(PEN)),
+            None => Reads::Draws(Command::Select(UNDEFINED)),
+        }
+    }
+
+    fn read_data(&self, count: u16, bits: u8) -> Reads
+        ensures { (before : List AnEvent) → HasSeenFoot self.now before → result ≡ foot_data before count bits }
+    {
+        Reads::Draws(Command::Repeat {
+            count: count.max(1),
+            bits: upper(self.size.rows, bits),
+        })
+    }
+
+    /// What it makes of the event.
+    fn read_event(&self, event: &Event, next: Option<&Event>) -> Reads
+        ensures { (before : List AnEvent) → HasSeenFoot self.now before
+            → result ≡ foot before event.now (option_map (λ e. e.now) next.entry) }
+    {
+        match event {
+            Event::Step(Command::Sixel(bits)) => self.read_data(1, *bits),
+            Event::Step(Command::Repeat { count, bits }) => self.read_data(*count, *bits),
+            Event::Step(Command::Raster { width, height, .. }) => {
+                self.read_raster(*width, *height, next)
+            }
+            Event::Step(Command::Select(register)) => self.read_select(*register),
+            Event::Step(Command::CarriageReturn) => Reads::Draws(Command::CarriageReturn),
+            Event::Step(Command::NextLine) => Reads::Draws(Command::NextLine),
+            Event::Step(Command::Define { .. }) => Reads::Nothing,
+            Event::Start { .. } | Event::Finish { .. } => Reads::Nothing,
+        }
+    }
+
+    /// Notes one more event.
+    fn note(&mut self, event: &Event)
+        ensures { (before : List AnEvent) → HasSeenFoot self.old before
+            → HasSeenFoot self.new (before ++ event.now ∷ []) }
+    {
+        self.colours.note(event);
+        self.size = self.size.after(event);
+        self.has_painted |= is_painting(event);
+    }
+}
+
+impl Reading for Foot {
+    ghost model = { foot_model };
+
+    ghost has_seen = { HasSeenFoot };
+
+    fn read(&mut self, event: &Event, next: Option<&Event>) -> Reads {
+        let reads = self.read_event(event, next);
+        self.note(event);
+        reads
+    }
+}
