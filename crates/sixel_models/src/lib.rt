@@ -4,9 +4,11 @@
 mod foot;
 mod place;
 mod reading;
+mod waiting;
 mod words;
 mod xterm;
 
 pub use foot::Foot;
 pub use reading::{Reading, Reads};
+pub use waiting::Waiting;
 pub use xterm::XTerm;

@@ -1,0 +1,60 @@
+//! Reads events once the one after them is known.
+
+ghost use Rattle.std.specs.Prelude.{◌≡◌, ◌++◌, None, Some, List};
+ghost use Rattle.std.specs.Option.{option_map, option_to_list};
+ghost use Rattle.sixel_grammar.specs.declared.command.Event.{Event as AnEvent};
+
+use crate::reading::{Reading, Reads};
+use sixel_grammar::Event;
+
+/// A reading, and the event that it reads next, once the one after it has come.
+#[derive(Debug, Drop)]
+pub struct Waiting<R> {
+    pub reading: R,
+    pub pending: Option<Event>,
+}
+
+impl<R: Reading> Waiting<R> {
+    /// No event has come.
+    pub fn new(reading: R) -> Waiting<R>
+        ensures reading { result.reading ≡ reading }
+        ensures pending { result.pending ≡ None }
+    {
+        Waiting {
+            reading,
+            pending: None,
+        }
+    }
+
+    /// Takes the next event. Gives what the terminal makes of the one before it, if there is one.
+    pub fn take(&mut self, event: Event) -> Option<Reads>
+        ensures reads { (before : List AnEvent) → R.has_seen self.old.reading before
+            → result ≡ option_map (λ last. R.model.rule before last (Some event)) self.old.pending }
+        ensures seen { (before : List AnEvent) → R.has_seen self.old.reading before
+            → R.has_seen self.new.reading (before ++ option_to_list self.old.pending) }
+        ensures pending { self.new.pending ≡ Some event }
+    {
+        let reads = match &self.pending {
+            Some(last) => Some(self.reading.read(last, Some(&event))),
+            None => None,
+        };
+        self.pending = Some(event);
+        reads
+    }
+
+    /// Gives what the terminal makes of the last event, if there is one.
+    pub fn finish(&mut self) -> Option<Reads>
+        ensures reads { (before : List AnEvent) → R.has_seen self.old.reading before
+            → result ≡ option_map (λ last. R.model.rule before last None) self.old.pending }
+        ensures seen { (before : List AnEvent) → R.has_seen self.old.reading before
+            → R.has_seen self.new.reading (before ++ option_to_list self.old.pending) }
+        ensures pending { self.new.pending ≡ None }
+    {
+        let reads = match &self.pending {
+            Some(last) => Some(self.reading.read(last, None)),
+            None => None,
+        };
+        self.pending = None;
+        reads
+    }
+}
