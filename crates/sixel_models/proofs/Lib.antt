@@ -3,3 +3,4 @@ pub mod WordLemmas
 pub mod XTermLemmas
 pub mod FootLemmas
 pub mod FootColourLemmas
+pub mod SettingLemmas

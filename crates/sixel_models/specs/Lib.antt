@@ -5,3 +5,5 @@ pub mod XTerm
 pub mod XTermSeen
 pub mod Foot
 pub mod FootSeen
+pub mod Settings
+pub mod Laws

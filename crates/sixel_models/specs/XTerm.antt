@@ -1,5 +1,5 @@
 -- xterm 379, run as a VT340. A definition doesn't select, and a pixel has the colour that its register has at the end.
--- The first data command fills a box with register 0. What xterm can't read ends the string: what is drawn by then stays.
+-- The first data command fills a box with register 0. What xterm can't read ends the string: what is drawn stays.
 use Rattle.std.specs.Prelude.{◌==◌, ◌&&◌, ◌||◌, ℕ, ◌-◌, ◌*◌, ◌/◌, ◌%◌, Bool, true, false, not, List, min, nat_lt}
 use Rattle.std.specs.Prelude.{if◌then◌else◌}
 use Rattle.std.specs.List.{list_any}

@@ -20,7 +20,7 @@ use std::alloc::{AllocError, Global};
 /// The register of the pen, and the one that stands for what was never defined.
 const PEN: u16 = 0;
 
-const UNDEFINED: u16 = 1;
+pub(crate) const UNDEFINED: u16 = 1;
 
 /// What foot needs to know of the events that it has read.
 #[derive(Debug, Drop)]

@@ -2,13 +2,16 @@
 #![tactic(auto)]
 
 mod foot;
+pub mod laws;
 mod place;
 mod reading;
+mod settings;
 mod waiting;
 mod words;
 mod xterm;
 
 pub use foot::Foot;
 pub use reading::{Reading, Reads};
+pub use settings::{foot_terminal, xterm_choices};
 pub use waiting::Waiting;
 pub use xterm::XTerm;

@@ -1,0 +1,66 @@
+-- Strings that were shown on the real terminals, between ESC P and ESC \, and what the rules make of an event of each.
+use Rattle.std.specs.Prelude.{◌≡◌, List, [], ◌∷◌, Option, Some}
+use Rattle.sixel_grammar.specs.declared.command.Command.TheVariants.{Sixel, Repeat, Raster, Select, Define}
+use Rattle.sixel_grammar.specs.declared.command.Event.{Event}
+use Rattle.sixel_grammar.specs.declared.command.Event.TheVariants.{Step}
+use Rattle.sixel_models.specs.declared.reading.Reads.{Reads}
+use Rattle.sixel_models.specs.declared.reading.Reads.TheVariants.{Nothing, Draws, DrawsTwo, Stops, Unsaid}
+use Rattle.sixel_models.specs.Readings.{Rule}
+use Rattle.sixel_models.specs.Foot.{foot}
+use Rattle.sixel_models.specs.XTerm.{xterm}
+
+-- whatever comes next
+abbrev pub ReadsAs : Rule → List Event → Event → Reads → Type 0
+ReadsAs rule before e reads = (next : Option Event) → rule before e next ≡ reads
+
+-- ---- xterm
+
+-- q#1@"1;1;1001;6@ keeps the first sixel
+abbrev pub LargeSideStops : Type 0
+LargeSideStops = ReadsAs xterm (Step (Select 1) ∷ Step (Sixel 1) ∷ []) (Step (Raster 1 1 1001 6)) Stops
+
+-- q#1@"1;1;0;12@ keeps it, too
+abbrev pub NoWidthStops : Type 0
+NoWidthStops = ReadsAs xterm (Step (Select 1) ∷ Step (Sixel 1) ∷ []) (Step (Raster 1 1 0 12)) Stops
+
+-- q"1;1;29;1"1;1;6;18#1@ fills 29 by 18
+abbrev pub GreatestSidesFill : Type 0
+GreatestSidesFill = ReadsAs xterm (Step (Raster 1 1 29 1) ∷ Step (Raster 1 1 6 18) ∷ Step (Select 1) ∷ [])
+    (Step (Sixel 1)) (DrawsTwo (Raster 1 1 29 18) (Repeat 1 1))
+
+-- q?"1;1;12;12@ fills nothing
+abbrev pub BlankSixelIsFirst : Type 0
+BlankSixelIsFirst = ReadsAs xterm (Step (Sixel 0) ∷ Step (Raster 1 1 12 12) ∷ []) (Step (Sixel 1)) (Draws (Repeat 1 1))
+
+-- q?#1!65535~ paints the first 1,000 columns
+abbrev pub FarColumnsAreLost : Type 0
+FarColumnsAreLost =
+    ReadsAs xterm (Step (Sixel 0) ∷ Step (Select 1) ∷ []) (Step (Repeat 65535 63)) (Draws (Repeat 999 63))
+
+-- ---- foot
+
+-- q"1;1;5;3~ has six rows
+abbrev pub NarrowBoxDoesNotCount : Type 0
+NarrowBoxDoesNotCount = ReadsAs foot (Step (Raster 1 1 5 3) ∷ []) (Step (Sixel 63)) (Draws (Repeat 1 63))
+
+-- q"1;1;6;3~ has three
+abbrev pub WideBoxCuts : Type 0
+WideBoxCuts = ReadsAs foot (Step (Raster 1 1 6 3) ∷ []) (Step (Sixel 63)) (Draws (Repeat 1 7))
+
+-- q"1;1;6;1#1;2;100;0;0#1!7~ is one row, though it ends past the width
+abbrev pub DataPastTheWidthIsCut : Type 0
+DataPastTheWidthIsCut =
+    ReadsAs foot (Step (Raster 1 1 6 1) ∷ Step (Define 1 2 100 0 0) ∷ Step (Select 1) ∷ []) (Step (Repeat 7 63))
+    (Draws (Repeat 7 1))
+
+-- q#1;2;100;0;0#1!31~"1;1;29;40!31~ loses two columns that are painted
+abbrev pub LateBoxIsUnsaid : Type 0
+LateBoxIsUnsaid =
+    foot (Step (Define 1 2 100 0 0) ∷ Step (Select 1) ∷ Step (Repeat 31 63) ∷ []) (Step (Raster 1 1 29 40))
+    (Some (Step (Repeat 31 63))) ≡ Unsaid
+
+-- q#1;2;100;0;0#1#1;2;0;100;0~ is red
+abbrev pub PenKeepsItsColour : Type 0
+PenKeepsItsColour =
+    ReadsAs foot (Step (Define 1 2 100 0 0) ∷ []) (Step (Select 1)) (DrawsTwo (Define 0 2 100 0 0) (Select 0))
+    × ReadsAs foot (Step (Define 1 2 100 0 0) ∷ Step (Select 1) ∷ []) (Step (Define 1 2 0 100 0)) Nothing
