@@ -4,3 +4,4 @@ pub mod XTermLemmas
 pub mod FootLemmas
 pub mod FootColourLemmas
 pub mod SettingLemmas
+pub mod PositionLemmas

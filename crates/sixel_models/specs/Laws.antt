@@ -1,11 +1,11 @@
 -- Strings that were shown on the real terminals, between ESC P and ESC \, and what the rules make of an event of each.
-use Rattle.std.specs.Prelude.{◌≡◌, List, [], ◌∷◌, Option, Some}
+use Rattle.std.specs.Prelude.{◌≡◌, ◌++◌, List, [], ◌∷◌, Option, Some, None, length}
 use Rattle.sixel_grammar.specs.declared.command.Command.TheVariants.{Sixel, Repeat, Raster, Select, Define}
 use Rattle.sixel_grammar.specs.declared.command.Event.{Event}
 use Rattle.sixel_grammar.specs.declared.command.Event.TheVariants.{Step}
 use Rattle.sixel_models.specs.declared.reading.Reads.{Reads}
 use Rattle.sixel_models.specs.declared.reading.Reads.TheVariants.{Nothing, Draws, DrawsTwo, Stops, Unsaid}
-use Rattle.sixel_models.specs.Readings.{Rule}
+use Rattle.sixel_models.specs.Readings.{Model, Rule, read_at}
 use Rattle.sixel_models.specs.Foot.{foot}
 use Rattle.sixel_models.specs.XTerm.{xterm}
 
@@ -32,10 +32,10 @@ GreatestSidesFill = ReadsAs xterm (Step (Raster 1 1 29 1) ∷ Step (Raster 1 1 6
 abbrev pub BlankSixelIsFirst : Type 0
 BlankSixelIsFirst = ReadsAs xterm (Step (Sixel 0) ∷ Step (Raster 1 1 12 12) ∷ []) (Step (Sixel 1)) (Draws (Repeat 1 1))
 
--- q?#1!65535~ paints the first 1,000 columns
+-- q#1!65535~ paints the first 1,000 columns
 abbrev pub FarColumnsAreLost : Type 0
 FarColumnsAreLost =
-    ReadsAs xterm (Step (Sixel 0) ∷ Step (Select 1) ∷ []) (Step (Repeat 65535 63)) (Draws (Repeat 999 63))
+    ReadsAs xterm (Step (Select 1) ∷ []) (Step (Repeat 65535 63)) (DrawsTwo (Raster 1 1 0 0) (Repeat 1000 63))
 
 -- ---- foot
 
@@ -59,8 +59,20 @@ LateBoxIsUnsaid =
     foot (Step (Define 1 2 100 0 0) ∷ Step (Select 1) ∷ Step (Repeat 31 63) ∷ []) (Step (Raster 1 1 29 40))
     (Some (Step (Repeat 31 63))) ≡ Unsaid
 
--- q#1;2;100;0;0#1#1;2;0;100;0~ is red
+-- q"1;1;1;1#1#1;2;100;0;0@ isn't red
 abbrev pub PenKeepsItsColour : Type 0
 PenKeepsItsColour =
-    ReadsAs foot (Step (Define 1 2 100 0 0) ∷ []) (Step (Select 1)) (DrawsTwo (Define 0 2 100 0 0) (Select 0))
-    × ReadsAs foot (Step (Define 1 2 100 0 0) ∷ Step (Select 1) ∷ []) (Step (Define 1 2 0 100 0)) Nothing
+    ReadsAs foot (Step (Raster 1 1 1 1) ∷ []) (Step (Select 1)) (Draws (Select 1))
+    × ReadsAs foot (Step (Raster 1 1 1 1) ∷ Step (Select 1) ∷ []) (Step (Define 1 2 100 0 0)) Nothing
+
+-- ---- any model
+
+-- each event is read with the one after it: at its position, whatever comes later
+abbrev pub PositionsAreRead : Type 0
+PositionsAreRead = (m : Model) (before rest : List Event) (e next : Event)
+    → read_at m (before ++ e ∷ next ∷ rest) (length before) ≡ m.rule before e (Some next)
+
+-- the last one is read without
+abbrev pub LastPositionIsRead : Type 0
+LastPositionIsRead = (m : Model) (before : List Event) (e : Event)
+    → read_at m (before ++ e ∷ []) (length before) ≡ m.rule before e None

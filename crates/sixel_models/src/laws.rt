@@ -1,8 +1,9 @@
 //! Laws about the rules. Each function's contract is the law.
 
 ghost use Rattle.sixel_models.specs.Laws.{BlankSixelIsFirst, DataPastTheWidthIsCut, FarColumnsAreLost};
-ghost use Rattle.sixel_models.specs.Laws.{GreatestSidesFill, LargeSideStops, LateBoxIsUnsaid, NarrowBoxDoesNotCount, NoWidthStops};
-ghost use Rattle.sixel_models.specs.Laws.{PenKeepsItsColour, WideBoxCuts};
+ghost use Rattle.sixel_models.specs.Laws.{GreatestSidesFill, LargeSideStops, LastPositionIsRead, LateBoxIsUnsaid};
+ghost use Rattle.sixel_models.specs.Laws.{NarrowBoxDoesNotCount, NoWidthStops, PenKeepsItsColour, PositionsAreRead};
+ghost use Rattle.sixel_models.specs.Laws.{WideBoxCuts};
 
 /// What xterm makes of strings that were shown on it.
 pub fn xterm_on_strings()
@@ -20,4 +21,15 @@ pub fn foot_on_strings()
     ensures past_the_width { DataPastTheWidthIsCut }
     ensures late_box { LateBoxIsUnsaid }
     ensures pen { PenKeepsItsColour }
+{}
+
+/// What a reading makes of an event, with the events before it and the one after, is what its model makes of the event
+/// at that position.
+pub fn positions_are_read()
+    ensures { PositionsAreRead }
+{}
+
+/// The same for the last event.
+pub fn last_position_is_read()
+    ensures { LastPositionIsRead }
 {}
