@@ -1,12 +1,15 @@
 -- Strings that were shown on the real terminals, between ESC P and ESC \, and what the rules make of an event of each.
-use Rattle.std.specs.Prelude.{◌≡◌, ◌++◌, List, [], ◌∷◌, Option, Some, None, length}
+use Rattle.std.specs.Prelude.{◌≡◌, ◌+◌, ◌*◌, ◌++◌, false, List, [], ◌∷◌, Option, Some, None, is_some, length}
+use Rattle.std.specs.List.{list_any}
 use Rattle.sixel_grammar.specs.declared.command.Command.TheVariants.{Sixel, Repeat, Raster, Select, Define}
 use Rattle.sixel_grammar.specs.declared.command.Event.{Event}
 use Rattle.sixel_grammar.specs.declared.command.Event.TheVariants.{Step}
 use Rattle.sixel_models.specs.declared.reading.Reads.{Reads}
 use Rattle.sixel_models.specs.declared.reading.Reads.TheVariants.{Nothing, Draws, DrawsTwo, Stops, Unsaid}
 use Rattle.sixel_models.specs.Readings.{Model, Rule, read_at}
-use Rattle.sixel_models.specs.Foot.{foot}
+use Rattle.sixel_model.specs.Events.{raster_of}
+use Rattle.sixel_model.specs.Geometry.{band, band_rows}
+use Rattle.sixel_models.specs.Foot.{foot, foot_size}
 use Rattle.sixel_models.specs.XTerm.{xterm}
 
 -- whatever comes next
@@ -76,3 +79,9 @@ PositionsAreRead = (m : Model) (before rest : List Event) (e next : Event)
 abbrev pub LastPositionIsRead : Type 0
 LastPositionIsRead = (m : Model) (before : List Event) (e : Event)
     → read_at m (before ++ e ∷ []) (length before) ≡ m.rule before e None
+
+-- foot's picture is as high as its bands, if there are no raster attributes
+abbrev pub BandsAreTheHeight : Type 0
+BandsAreTheHeight =
+    (events : List Event) → list_any (λ e. is_some (raster_of e)) events ≡ false
+    → (foot_size events).height ≡ band_rows * band events + band_rows

@@ -94,7 +94,7 @@ xterm_bits before bits = upper (xterm_side - band_rows * band before) bits
 abbrev pub xterm_painting : List Event → ℕ → ℕ → Command
 xterm_painting before count bits = Repeat (xterm_columns before count) (xterm_bits before bits)
 
--- a repeat of 0 is read as one without a number isn't
+-- a repeat of 0 and one without a number are the same event, and xterm reads them in different ways
 abbrev pub xterm_data : List Event → ℕ → ℕ → Reads
 xterm_data before count bits =
     if count == 0 then Unsaid

@@ -1,6 +1,7 @@
 //! Laws about the rules. Each function's contract is the law.
 
-ghost use Rattle.sixel_models.specs.Laws.{BlankSixelIsFirst, DataPastTheWidthIsCut, FarColumnsAreLost};
+ghost use Rattle.sixel_models.specs.Laws.{BandsAreTheHeight, BlankSixelIsFirst, DataPastTheWidthIsCut};
+ghost use Rattle.sixel_models.specs.Laws.{FarColumnsAreLost};
 ghost use Rattle.sixel_models.specs.Laws.{GreatestSidesFill, LargeSideStops, LastPositionIsRead, LateBoxIsUnsaid};
 ghost use Rattle.sixel_models.specs.Laws.{NarrowBoxDoesNotCount, NoWidthStops, PenKeepsItsColour, PositionsAreRead};
 ghost use Rattle.sixel_models.specs.Laws.{WideBoxCuts};
@@ -32,4 +33,9 @@ pub fn positions_are_read()
 /// The same for the last event.
 pub fn last_position_is_read()
     ensures { LastPositionIsRead }
+{}
+
+/// A picture of foot's without raster attributes is as high as its bands.
+pub fn bands_are_the_height()
+    ensures { BandsAreTheHeight }
 {}
