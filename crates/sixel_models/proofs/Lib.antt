@@ -5,3 +5,4 @@ pub mod FootLemmas
 pub mod FootColourLemmas
 pub mod SettingLemmas
 pub mod PositionLemmas
+pub mod CourseLemmas

@@ -1,12 +1,14 @@
 -- Strings that were shown on the real terminals, between ESC P and ESC \, and what the rules make of an event of each.
-use Rattle.std.specs.Prelude.{◌≡◌, ◌+◌, ◌*◌, ◌++◌, false, List, [], ◌∷◌, Option, Some, None, is_some, length}
-use Rattle.std.specs.List.{list_any}
+use Rattle.std.specs.Prelude.{◌≡◌, ℕ, ◌+◌, ◌*◌, ◌++◌, false, List, [], ◌∷◌, Option, Some, None, flat_map, is_some, length}
+use Rattle.std.specs.List.{list_any, range_with_len}
 use Rattle.sixel_grammar.specs.declared.command.Command.TheVariants.{Sixel, Repeat, Raster, Select, Define}
 use Rattle.sixel_grammar.specs.declared.command.Event.{Event}
 use Rattle.sixel_grammar.specs.declared.command.Event.TheVariants.{Step}
 use Rattle.sixel_models.specs.declared.reading.Reads.{Reads}
 use Rattle.sixel_models.specs.declared.reading.Reads.TheVariants.{Nothing, Draws, DrawsTwo, Stops, Unsaid}
-use Rattle.sixel_models.specs.Readings.{Model, Rule, read_at}
+use Rattle.sixel_models.specs.declared.course.Course.TheVariants.{Goes, Stopped, Ended}
+use Rattle.sixel_models.specs.Readings.{EndsAt, IsReading, IsSaid, Model, Rule, drawn_by, read_at}
+use Rattle.sixel_models.specs.Courses.{IsCourse}
 use Rattle.sixel_model.specs.Events.{raster_of}
 use Rattle.sixel_model.specs.Geometry.{band, band_rows}
 use Rattle.sixel_models.specs.Foot.{foot, foot_size}
@@ -85,3 +87,24 @@ abbrev pub BandsAreTheHeight : Type 0
 BandsAreTheHeight =
     (events : List Event) → list_any (λ e. is_some (raster_of e)) events ≡ false
     → (foot_size events).height ≡ band_rows * band events + band_rows
+
+-- ---- courses
+
+-- what a plain terminal draws in place of the events below n
+abbrev pub reading_below : Model → List Event → ℕ → List Event
+reading_below m events n =
+    m.opening events ++ flat_map (λ i. drawn_by (read_at m events i)) (range_with_len 0 n)
+
+-- a model that goes on to the end says all, and its reading is what all events give
+abbrev pub GoesToTheEnd : Type 0
+GoesToTheEnd = (m : Model) (events : List Event) → IsCourse m events (length events) Goes
+    → IsSaid m events × IsReading m events (reading_below m events (length events))
+
+-- one that has stopped says all, and its reading is what the events before give
+abbrev pub StopsAtAnEvent : Type 0
+StopsAtAnEvent = (m : Model) (events : List Event) → IsCourse m events (length events) Stopped
+    → IsSaid m events × ((n : ℕ) × IsReading m events (reading_below m events n))
+
+-- one that has ended ends at a position
+abbrev pub EndsAtAnEvent : Type 0
+EndsAtAnEvent = (m : Model) (events : List Event) → IsCourse m events (length events) Ended → (i : ℕ) × EndsAt m events i

@@ -7,3 +7,4 @@ pub mod Foot
 pub mod FootSeen
 pub mod Settings
 pub mod Laws
+pub mod Courses

@@ -1,7 +1,7 @@
 //! Laws about the rules. Each function's contract is the law.
 
 ghost use Rattle.sixel_models.specs.Laws.{BandsAreTheHeight, BlankSixelIsFirst, DataPastTheWidthIsCut};
-ghost use Rattle.sixel_models.specs.Laws.{FarColumnsAreLost};
+ghost use Rattle.sixel_models.specs.Laws.{EndsAtAnEvent, FarColumnsAreLost, GoesToTheEnd, StopsAtAnEvent};
 ghost use Rattle.sixel_models.specs.Laws.{GreatestSidesFill, LargeSideStops, LastPositionIsRead, LateBoxIsUnsaid};
 ghost use Rattle.sixel_models.specs.Laws.{NarrowBoxDoesNotCount, NoWidthStops, PenKeepsItsColour, PositionsAreRead};
 ghost use Rattle.sixel_models.specs.Laws.{WideBoxCuts};
@@ -38,4 +38,11 @@ pub fn last_position_is_read()
 /// A picture of foot's without raster attributes is as high as its bands.
 pub fn bands_are_the_height()
     ensures { BandsAreTheHeight }
+{}
+
+/// What a course that has come to the end of a string says of it.
+pub fn courses_end()
+    ensures goes { GoesToTheEnd }
+    ensures stopped { StopsAtAnEvent }
+    ensures ended { EndsAtAnEvent }
 {}

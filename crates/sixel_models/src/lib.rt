@@ -1,6 +1,7 @@
 //! Models of named terminals: what each makes of the events of a string.
 #![tactic(auto)]
 
+mod course;
 mod foot;
 pub mod laws;
 mod place;
@@ -10,6 +11,7 @@ mod waiting;
 mod words;
 mod xterm;
 
+pub use course::Course;
 pub use foot::Foot;
 pub use reading::{Reading, Reads};
 pub use settings::{foot_terminal, xterm_choices};
