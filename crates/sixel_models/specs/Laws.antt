@@ -1,5 +1,6 @@
 -- Strings that were shown on the real terminals, between ESC P and ESC \, and what the rules make of an event of each.
-use Rattle.std.specs.Prelude.{◌≡◌, ℕ, ◌+◌, ◌*◌, ◌++◌, false, List, [], ◌∷◌, Option, Some, None, flat_map, is_some, length}
+use Rattle.std.specs.Prelude.{◌≡◌, ℕ, ◌+◌, ◌*◌, ◌++◌, false, List, [], ◌∷◌, Option, Some, None, flat_map, is_some}
+use Rattle.std.specs.Prelude.{length}
 use Rattle.std.specs.List.{list_any, range_with_len}
 use Rattle.sixel_grammar.specs.declared.command.Command.TheVariants.{Sixel, Repeat, Raster, Select, Define}
 use Rattle.sixel_grammar.specs.declared.command.Event.{Event}
@@ -107,4 +108,5 @@ StopsAtAnEvent = (m : Model) (events : List Event) → IsCourse m events (length
 
 -- one that has ended ends at a position
 abbrev pub EndsAtAnEvent : Type 0
-EndsAtAnEvent = (m : Model) (events : List Event) → IsCourse m events (length events) Ended → (i : ℕ) × EndsAt m events i
+EndsAtAnEvent = (m : Model) (events : List Event) → IsCourse m events (length events) Ended
+    → (i : ℕ) × EndsAt m events i

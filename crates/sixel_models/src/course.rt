@@ -48,8 +48,8 @@ impl Course {
         }
     }
 
-    /// The course with one more event, of which the terminal makes this. `is_unsaid` tells whether the event is an 8-bit
-    /// control that the model doesn't say.
+    /// The course with one more event, of which the terminal makes this. `is_unsaid` tells whether the event is an
+    /// 8-bit control that the model doesn't say.
     pub fn after(self, is_unsaid: bool, reads: Reads) -> Course
         ensures { (m : AModel) (events : List AnEvent) (n : ℕ) (e : AnEvent) → IsAt m events n e reads
             → is_unsaid ≡ is_unsaid_control m e → IsCourse m events n self → IsCourse m events (suc n) result }
