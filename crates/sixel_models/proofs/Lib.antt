@@ -1,3 +1,9 @@
+pub mod FollowedLemmas
+pub mod KonsoleLemmas
+pub mod KonsoleMeasureLemmas
+pub mod KonsoleReadLemmas
+pub mod MlTermLemmas
+pub mod OtherSettingLemmas
 pub mod PlaceLemmas
 pub mod WordLemmas
 pub mod XTermLemmas

@@ -1,3 +1,8 @@
+pub mod Konsole
+pub mod KonsoleMeasured
+pub mod KonsoleSeen
+pub mod MlTerm
+pub mod MlTermSeen
 pub mod Readings
 pub mod Places
 pub mod Words
@@ -8,3 +13,5 @@ pub mod FootSeen
 pub mod Settings
 pub mod Laws
 pub mod Courses
+pub mod OtherSettings
+pub mod OtherLaws

@@ -11,7 +11,13 @@ use sixel_terminal::{Choices, Ground, Terminal};
 use std::alloc::{AllocError, Global};
 
 /// Choices in which only these differ.
-fn plain_choices(showing: bool, fill: Ground, selected: u16, width: u32, height: u32) -> Choices
+pub(crate) fn plain_choices(
+    showing: bool,
+    fill: Ground,
+    selected: u16,
+    width: u32,
+    height: u32,
+) -> Choices
     ensures { result ≡ plain_choices showing fill selected width height }
 {
     Choices {

@@ -1,0 +1,150 @@
+-- The automaton of konsole, event by event.
+use Rattle.std.proofs.Common.{◌≡◌, ◌==◌, ◌&&◌, ◌||◌, ℕ, Bool, true, false, cond, not, Option, Some, None, List, []}
+use Rattle.std.proofs.Common.{◌∷◌, ◌++◌, refl, sym, ap, ap₂, ◌∙◌, arith}
+use Rattle.std.specs.Prelude.{is_none, is_some, if◌then◌else◌}
+use Rattle.std.specs.List.{list_any}
+use Rattle.std.specs.Option.{option_map, option_or}
+use Rattle.std.proofs.lemmas.List.Folds.{list_any-append}
+use Rattle.sixel_grammar.specs.declared.command.Command.TheVariants.{Sixel, Repeat, Raster, Select, Define}
+use Rattle.sixel_grammar.specs.declared.command.Command.TheVariants.{CarriageReturn, NextLine}
+use Rattle.sixel_grammar.specs.declared.command.Event.{Event}
+use Rattle.sixel_grammar.specs.declared.command.Event.TheVariants.{Start, Step, Finish}
+use Rattle.sixel_model.specs.Events.{Attributes, is_data_command, is_return, named_by, raster_of}
+use Rattle.sixel_model.specs.Positions.{any_below, since}
+use Rattle.sixel_model.proofs.PositionLemmas.{since_push}
+use Rattle.sixel_models.specs.declared.konsole.Konsole.{Konsole}
+use Rattle.sixel_models.specs.Konsole.{any_followed, begins, counting, first_below, first_followed, has_begun}
+use Rattle.sixel_models.specs.Konsole.{has_late, has_unknown_system, is_late, is_stuck, konsole, konsole_move}
+use Rattle.sixel_models.specs.Konsole.{may_count, moves_or_ends}
+use Rattle.sixel_models.specs.KonsoleSeen.{HasSeenKonsole, begun_in, counting_in, konsole_in, may_count_in, next_begun}
+use Rattle.sixel_models.specs.KonsoleSeen.{next_declares, next_late, next_stuck, said}
+use Rattle.sixel_models.proofs.FollowedLemmas.{any_followed_push, first_followed_push}
+
+none_either : {A : Type 0} (b : Bool) → ◌≡◌ {A = Option A} None (if b then None else None)
+none_either true = refl
+none_either false = refl
+
+-- ---- before any event
+
+pub seen_none : HasSeenKonsole (record {
+  stuck = false;
+  has_late = false;
+  begun = false;
+  declares = false;
+  counting = None;
+  waiting = None;
+}) []
+unfolding is_stuck since has_late has_begun any_followed any_below counting first_followed first_below
+seen_none = record {
+  stuck_is = refl;
+  late_is = refl;
+  begun_is = λ next. refl;
+  counting_is = λ next. none_either (moves_or_ends next);
+}
+
+-- ---- one more event
+
+or_false : (b : Bool) → (b || false) ≡ b
+or_false true = refl
+or_false false = refl
+
+any_push : (p : Event → Bool) (ys : List Event) (x : Event) → list_any p (ys ++ x ∷ []) ≡ (list_any p ys || p x)
+any_push p ys x = list_any-append p ys (x ∷ []) ∙ ap (λ b. list_any p ys || b) (or_false (p x))
+
+any_since : (p : Event → Bool) (b : Bool) (ys : List Event) (x : Event)
+    → list_any p (cond b [] (ys ++ x ∷ [])) ≡ (not b && (list_any p ys || p x))
+any_since p true ys x = refl
+any_since p false ys x = any_push p ys x
+
+stuck_push : (before : List Event) (e : Event)
+    → is_stuck (before ++ e ∷ []) ≡ (not (is_return e) && (is_stuck before || has_unknown_system e))
+unfolding is_stuck
+stuck_push before e =
+    ap (list_any has_unknown_system) (since_push is_return before e)
+    ∙ any_since has_unknown_system (is_return e) (since is_return before) e
+
+late_push : (before : List Event) (e : Event) → has_late (before ++ e ∷ []) ≡ (has_late before || is_late e)
+unfolding has_late
+late_push before e = any_push is_late before e
+
+begun_push : (before : List Event) (e : Event) (next : Option Event)
+    → has_begun (before ++ e ∷ []) next ≡ (begins before e next || has_begun before (Some e))
+unfolding has_begun
+begun_push before e next = any_followed_push begins before e next
+
+counting_push : (before : List Event) (e : Event) (next : Option Event)
+    → counting (before ++ e ∷ []) next ≡ option_or (counting before (Some e)) (may_count before e next)
+unfolding counting
+counting_push before e next = first_followed_push may_count before e next
+
+regrouped : (begun named raster painted stuck dropped : Bool)
+    → (((named || (raster && not (dropped || stuck))) || (painted && not stuck)) || begun)
+    ≡ ((begun || (named || (painted && not stuck))) || ((raster && not stuck) && not dropped))
+regrouped begun named raster painted stuck dropped = grind arith
+
+some_unless : {A : Type 0} (b : Bool) (a : A) → is_some (if b then None else Some a) ≡ not b
+some_unless true a = refl
+some_unless false a = refl
+
+unless_either : {A : Type 0} (w m l : Bool) (a : A)
+    → (if w || (m || l) then None else Some a) ≡ (if m then None else if w || l then None else Some a)
+unless_either true true l a = refl
+unless_either true false l a = refl
+unless_either false true l a = refl
+unless_either false false l a = refl
+
+-- what may count, if the event after it is told
+may_count_is : {k : Konsole} {before : List Event} (e : Event) (next : Option Event) → HasSeenKonsole k before
+    → may_count before e next ≡ (if moves_or_ends next then None else may_count_in k e)
+may_count_is {k} {before} (Step (Raster pan pad width height)) next s =
+    rw s.late_is (unless_either (width == 0) (moves_or_ends next) (has_late before)
+    (record { pan = pan; pad = pad; width = width; height = height }))
+may_count_is _ next s = none_either (moves_or_ends next)
+
+pub seen_push : {k : Konsole} (l : Konsole) {before : List Event} (e : Event) → HasSeenKonsole k before
+    → l.stuck ≡ next_stuck k e → l.has_late ≡ next_late k e → l.begun ≡ next_begun k e
+    → l.declares ≡ next_declares k e → option_map said l.counting ≡ counting_in k (moves_or_ends (Some e))
+    → option_map said l.waiting ≡ may_count_in k e → HasSeenKonsole l (before ++ e ∷ [])
+seen_push {k} l {before} e s stuck late begun declares counted waiting = record {
+  stuck_is =
+      stuck ∙ ap (λ b. not (is_return e) && (b || has_unknown_system e)) s.stuck_is ∙ sym (stuck_push before e);
+  late_is = late ∙ ap (λ b. b || is_late e) s.late_is ∙ sym (late_push before e);
+  begun_is = λ next. begun_push before e next
+      ∙ ap₂ (λ a b. ((is_some (named_by e) || (is_some (raster_of e) && not (moves_or_ends next || a)))
+      || (is_data_command e && not a)) || b) (sym s.stuck_is) (s.begun_is (Some e))
+      ∙ regrouped (begun_in k (moves_or_ends (Some e))) (is_some (named_by e)) (is_some (raster_of e))
+      (is_data_command e) k.stuck (moves_or_ends next)
+      ∙ ap₂ (λ a b. a || (b && not (moves_or_ends next))) (sym begun) (sym declares);
+  counting_is = λ next. counting_push before e next
+      ∙ ap₂ (λ (a b : Option Attributes). option_or a b) (s.counting_is (Some e)) (may_count_is e next s)
+      ∙ ap₂ (λ (a b : Option Attributes). option_or a (if moves_or_ends next then None else b)) (sym counted)
+      (sym waiting);
+}
+
+-- ---- what it makes of an event
+
+raster_is : {k : Konsole} {before : List Event} (pan pad width height : ℕ) (next : Option Event)
+    → HasSeenKonsole k before
+    → konsole_in k (moves_or_ends next) (Step (Raster pan pad width height))
+    ≡ konsole before (Step (Raster pan pad width height)) next
+raster_is {k} {before} pan pad width height next s =
+    let a : Attributes = record { pan = pan; pad = pad; width = width; height = height } in
+    let e : Event = Step (Raster pan pad width height) in
+    let may : is_some (may_count before e next) ≡ not ((width == 0) || (moves_or_ends next || has_late before)) =
+    some_unless ((width == 0) || (moves_or_ends next || has_late before)) a in
+    let none : is_none (counting before (Some e)) ≡ is_none (counting_in k false) =
+    ap is_none (s.counting_is (Some e)) in
+    rw (may, none, s.stuck_is, s.late_is) refl
+
+pub konsole_is : {k : Konsole} {before : List Event} (e : Event) (next : Option Event) → HasSeenKonsole k before
+    → konsole_in k (moves_or_ends next) e ≡ konsole before e next
+konsole_is (Start eight parameters) next s = refl
+konsole_is (Step (Raster pan pad width height)) next s = raster_is pan pad width height next s
+konsole_is (Step (Define register system x y z)) next s = rw s.stuck_is refl
+konsole_is (Step (Select register)) next s = rw s.stuck_is refl
+konsole_is (Step (Sixel bits)) next s = rw s.stuck_is refl
+konsole_is (Step (Repeat count bits)) next s = rw s.stuck_is refl
+konsole_is (Step CarriageReturn) next s =
+    ap (λ b. konsole_move b CarriageReturn) (sym (s.begun_is (Some (Step CarriageReturn))))
+konsole_is (Step NextLine) next s = ap (λ b. konsole_move b NextLine) (sym (s.begun_is (Some (Step NextLine))))
+konsole_is (Finish eight) next s = refl

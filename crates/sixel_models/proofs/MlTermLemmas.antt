@@ -1,0 +1,270 @@
+-- The automaton of mlterm, event by event.
+use Rattle.std.proofs.Common.{◌≡◌, ◌==◌, ◌<◌, ◌+◌, ◌*◌, ◌^◌, ◌&&◌, ◌||◌, ℕ, Bool, true, false, Option, Some, None}
+use Rattle.std.proofs.Common.{List, [], ◌∷◌, ◌++◌, length, get_or, set, replicate, min, refl, sym, ap, ap₂, ◌∙◌}
+use Rattle.std.proofs.Common.{subst, arith}
+use Rattle.std.specs.Prelude.{IfSome, is_some, nat_lt, nat_le, if◌then◌else◌}
+use Rattle.std.specs.List.{list_any}
+use Rattle.sixel_model.specs.declared.colour.Parts.{Parts}
+use Rattle.sixel_model.specs.Rules.{is_that}
+use Rattle.std.specs.Option.{option_map, option_map_or, option_or}
+use Rattle.std.proofs.lemmas.List.{get_or-replicate}
+use Rattle.std.proofs.Math.Bool.{or_comm}
+use Rattle.std.proofs.lemmas.Bool.{eqb-false, eqb-true}
+use Rattle.std.proofs.lemmas.Bool.Decides.{nat_tests}
+use Rattle.std.proofs.lemmas.List.Folds.{list_any-append}
+use Rattle.std.proofs.lemmas.List.{get_or-set_other, get_or-set_same, length-set}
+use Rattle.sixel_grammar.specs.declared.command.Command.{Command}
+use Rattle.sixel_grammar.specs.declared.command.Command.TheVariants.{Sixel, Repeat, Raster, Select, Define}
+use Rattle.sixel_grammar.specs.declared.command.Command.TheVariants.{CarriageReturn, NextLine}
+use Rattle.sixel_grammar.specs.declared.command.Event.{Event}
+use Rattle.sixel_grammar.specs.declared.command.Event.TheVariants.{Start, Step, Finish}
+use Rattle.sixel_model.specs.Events.{columns_of, is_data_command, named_by}
+use Rattle.sixel_model.specs.Events.{raster_of}
+use Rattle.sixel_model.specs.Geometry.{band, column}
+use Rattle.sixel_model.specs.Positions.{any_at, any_below, latest}
+use Rattle.sixel_model.proofs.PositionLemmas.{any_at_push, latest_push}
+use Rattle.sixel_models.specs.declared.place.Place.{Place}
+use Rattle.sixel_models.specs.declared.mlterm.MlTerm.{MlTerm}
+use Rattle.sixel_models.specs.declared.mlterm.Sides.{Sides}
+use Rattle.sixel_models.specs.MlTerm.{Box, coloured_by, has_left_mlterm, has_raster_below, height_of}
+use Rattle.sixel_models.specs.MlTerm.{is_coloured_mlterm, is_raster_below, is_unsaid_data, least_box}
+use Rattle.sixel_models.specs.MlTerm.{leaves_from, leaves_mlterm, mlterm, mlterm_box, mlterm_box_of, mlterm_data}
+use Rattle.sixel_models.specs.MlTerm.{mlterm_register, mlterm_selected, width_of}
+use Rattle.sixel_models.specs.MlTermSeen.{AreNarrow, HasSeenMlTerm, box_of_sides, data_in, mlterm_in}
+use Rattle.sixel_models.specs.MlTermSeen.{next_coloured, next_left, next_raster_below, next_selected, stored_box}
+use Rattle.sixel_models.specs.declared.reading.Reads.TheVariants.{Draws, Unsaid}
+use Rattle.sixel_models.specs.Places.{IsPlaceAfter, most}
+use Rattle.sixel_models.specs.Words.{nearest}
+
+-- ---- before any event
+
+pub seen_none : (place : Place) → IsPlaceAfter 0 place [] → HasSeenMlTerm (record {
+  place = place;
+  selected = 0;
+  coloured = replicate 1024 false;
+  sides = None;
+  has_left = false;
+  has_raster_below = false;
+}) []
+unfolding latest is_coloured_mlterm mlterm_box has_left_mlterm has_raster_below any_at any_below
+seen_none place is = record {
+  place_is = is;
+  selected_is = refl;
+  registers = refl;
+  coloured_is = λ r lt. get_or-replicate 1024 r false false lt;
+  box_is = refl;
+  narrow = tt;
+  left_is = refl;
+  lowered_is = refl;
+}
+
+-- ---- numbers that stop at the greatest one
+
+column_test : (w c n : ℕ) → w < 2 ^ 17 → nat_lt w (min c most + n) ≡ nat_lt w (c + n)
+column_test w c n lt = grind (arith, nat_tests)
+
+row_test : (h b n : ℕ) → h < 2 ^ 17 → nat_lt h (6 * min b most + n) ≡ nat_lt h (6 * b + n)
+row_test h b n lt = grind (arith, nat_tests)
+
+band_test : (b : ℕ) → nat_lt 0 (min b most) ≡ nat_lt 0 b
+band_test b = grind (arith, nat_tests)
+
+top_test : (h b : ℕ) → h < 2 ^ 16 → nat_le h (6 * min b most) ≡ nat_le h (6 * b)
+top_test h b lt = grind (arith, nat_tests)
+
+past_test : (b : ℕ) → nat_lt 32767 (6 * min b most) ≡ nat_lt 32767 (6 * b)
+past_test b = grind (arith, nat_tests)
+
+-- ---- the selected register
+
+map_or_or : (f : ℕ → ℕ) (o p : Option ℕ) (d : ℕ)
+    → option_map_or f o (option_map_or f p d) ≡ option_map_or f (option_or o p) d
+map_or_or f None p d = refl
+map_or_or f (Some a) p d = refl
+
+-- ---- the box
+
+least_none : (b : Option Box) → least_box b None ≡ b
+least_none None = refl
+least_none (Some b) = refl
+
+least_least : (a b c : Option Box) → least_box (least_box a b) c ≡ least_box a (least_box b c)
+least_least None b c = refl
+least_least (Some a) None c = refl
+least_least (Some a) (Some b) None = refl
+least_least (Some a) (Some b) (Some c) =
+    let w : min (min a.width b.width) c.width ≡ min a.width (min b.width c.width) = omega arith in
+    let h : min (min a.height b.height) c.height ≡ min a.height (min b.height c.height) = omega arith in
+    rw (w, h) refl
+
+pub box_push : (before : List Event) (e : Event)
+    → mlterm_box (before ++ e ∷ []) ≡ least_box (mlterm_box before) (mlterm_box_of e)
+unfolding mlterm_box
+box_push [] e = least_none (mlterm_box_of e)
+box_push (x ∷ xs) e =
+    ap (least_box (mlterm_box_of x)) (box_push xs e)
+    ∙ sym (least_least (mlterm_box_of x) (mlterm_box xs) (mlterm_box_of e))
+
+-- ---- the registers with a colour
+
+or_false : (b : Bool) → (b || false) ≡ b
+or_false true = refl
+or_false false = refl
+
+pub coloured_push : (before : List Event) (e : Event) (r : ℕ)
+    → is_coloured_mlterm (before ++ e ∷ []) r ≡ (is_coloured_mlterm before r || is_that r (coloured_by e))
+unfolding is_coloured_mlterm
+coloured_push before e r =
+    list_any-append (λ (d : Event). is_that r (coloured_by d)) before (e ∷ [])
+    ∙ ap (λ b. list_any (λ (d : Event). is_that r (coloured_by d)) before || b) (or_false (is_that r (coloured_by e)))
+
+set_is : (b : Bool) (q r : ℕ) (xs : List Bool) → (q == r) ≡ b → q < length xs
+    → get_or (set xs q true) r false ≡ (b || get_or xs r false)
+set_is true q r xs e lt =
+    let same : q ≡ r = eqb-true q r e in
+    ap (λ (i : ℕ). get_or (set xs q true) i false) (sym same) ∙ get_or-set_same xs q true false lt
+set_is false q r xs e lt = get_or-set_other xs q r true false (λ d. eqb-false q r e (sym d))
+
+pub register_below : (number : ℕ) → mlterm_register number < 1024
+register_below number = grind (arith, nat_tests)
+
+pub selected_below : (o : Option ℕ) → option_map_or mlterm_register o 0 < 1024
+selected_below None = omega arith
+selected_below (Some r) = register_below r
+
+length_marked : (o : Option ℕ) (marks : List Bool)
+    → length (option_map_or (λ r. set marks r true) o marks) ≡ length marks
+length_marked None marks = refl
+length_marked (Some r) marks = length-set marks r true
+
+mark_is : (o : Option ℕ) (r : ℕ) (marks : List Bool) → length marks ≡ 1024 → IfSome o (λ q. q < 1024)
+    → get_or (option_map_or (λ q. set marks q true) o marks) r false ≡ (get_or marks r false || is_that r o)
+mark_is None r marks long low = sym (or_false (get_or marks r false))
+mark_is (Some q) r marks long low =
+    set_is (q == r) q r marks refl (omega (arith, long, low)) ∙ or_comm (q == r) (get_or marks r false)
+
+mapped_below : (number : ℕ) (o : Option Parts)
+    → IfSome (option_map (λ (c : Parts). mlterm_register number) o) (λ q. q < 1024)
+mapped_below number None = tt
+mapped_below number (Some c) = register_below number
+
+coloured_below : (e : Event) → IfSome (coloured_by e) (λ q. q < 1024)
+coloured_below (Step (Define number system x y z)) = mapped_below number (nearest system x y z)
+coloured_below _ = tt
+
+-- ---- what leaves the box
+
+pub narrow_sides : (o : Option Sides) → AreNarrow o → (width_of (option_map box_of_sides o) < 2 ^ 16)
+    × (height_of (option_map box_of_sides o) < 2 ^ 16)
+narrow_sides None n = (omega arith, omega arith)
+narrow_sides (Some s) n = n
+
+-- the sides of a box are numbers that a command can have
+pub record IsSmall (b : Option Box) : Type 0 where
+  pub width : width_of b < 2 ^ 16
+  pub height : height_of b < 2 ^ 16
+
+pub seen_small : {m : MlTerm} {before : List Event} → HasSeenMlTerm m before → IsSmall (mlterm_box before)
+seen_small {m} {before} s =
+    let n = narrow_sides m.sides s.narrow in
+    let is : IsSmall (stored_box m) = record { width = n.0; height = n.1 } in
+    subst IsSmall s.box_is is
+
+leaves_capped : (b : Option Box) (c l : ℕ) (e : Event) → IsSmall b
+    → leaves_from b (min c most) (min l most) e ≡ leaves_from b c l e
+leaves_capped b c l e small =
+    let w = column_test (width_of b) c (columns_of 0 e) (omega (arith, small.width)) in
+    let h = top_test (height_of b) l small.height in
+    ap₂ (λ x y. is_data_command e && (x || y)) w h
+
+pub leaves_is : {m : MlTerm} {before : List Event} (e : Event) → HasSeenMlTerm m before
+    → leaves_from (stored_box m) m.place.column m.place.band e ≡ leaves_mlterm before e
+leaves_is {m} {before} e s =
+    rw (s.box_is, s.place_is.column_is, s.place_is.band_is)
+    (leaves_capped (mlterm_box before) (column 0 before) (band before) e (seen_small s))
+
+pub left_push : (before : List Event) (e : Event)
+    → has_left_mlterm (before ++ e ∷ []) ≡ (leaves_mlterm before e || has_left_mlterm before)
+unfolding has_left_mlterm
+left_push before e = any_at_push leaves_mlterm before e
+
+pub raster_below_push : (before : List Event) (e : Event)
+    → has_raster_below (before ++ e ∷ []) ≡ (is_raster_below before e || has_raster_below before)
+unfolding has_raster_below
+raster_below_push before e = any_at_push is_raster_below before e
+
+-- ---- one more event
+
+pub seen_push : (m : MlTerm) (place : Place) (sides : Option Sides) (before : List Event) (e : Event)
+    → HasSeenMlTerm m before → IsPlaceAfter 0 place (before ++ e ∷ [])
+    → option_map box_of_sides sides ≡ least_box (stored_box m) (mlterm_box_of e) → AreNarrow sides
+    → HasSeenMlTerm (record {
+      place = place;
+      selected = next_selected m e;
+      coloured = next_coloured m.coloured e;
+      sides = sides;
+      has_left = next_left m e;
+      has_raster_below = next_raster_below m e;
+    }) (before ++ e ∷ [])
+seen_push m place sides before e s at sides_are narrow = record {
+  place_is = at;
+  selected_is =
+      ap (option_map_or mlterm_register (named_by e)) s.selected_is
+      ∙ map_or_or mlterm_register (named_by e) (latest named_by before) 0
+      ∙ ap (λ o. option_map_or mlterm_register o 0) (sym (latest_push named_by before e));
+  registers = length_marked (coloured_by e) m.coloured ∙ s.registers;
+  coloured_is = λ r lt. mark_is (coloured_by e) r m.coloured s.registers (coloured_below e)
+      ∙ ap (λ b. b || is_that r (coloured_by e)) (s.coloured_is r lt) ∙ sym (coloured_push before e r);
+  box_is =
+      sides_are ∙ ap (λ b. least_box b (mlterm_box_of e)) s.box_is ∙ sym (box_push before e);
+  narrow = narrow;
+  left_is =
+      ap₂ (λ a b. a || b) s.left_is (leaves_is e s) ∙ or_comm (has_left_mlterm before) (leaves_mlterm before e)
+      ∙ sym (left_push before e);
+  lowered_is =
+      ap₂ (λ a b. a || (is_some (raster_of e) && b)) s.lowered_is
+      (ap (nat_lt 0) s.place_is.band_is ∙ band_test (band before))
+      ∙ or_comm (has_raster_below before) (is_raster_below before e) ∙ sym (raster_below_push before e);
+}
+
+-- ---- what it makes of an event
+
+unsaid_capped : (b : Option Box) (left_before : Bool) (c l selected : ℕ) (coloured : Bool) (e : Event) → IsSmall b
+    → is_unsaid_data b left_before (min c most) (min l most) selected coloured e
+    ≡ is_unsaid_data b left_before c l selected coloured e
+unsaid_capped b left_before c l selected coloured e small =
+    let n = columns_of 0 e in
+    let past = column_test 32767 c n (omega arith) in
+    let deep = past_test l in
+    let far = column_test (width_of b + 512) c n (omega (arith, small.width)) in
+    let low = row_test (height_of b + 512) l 6 (omega (arith, small.height)) in
+    let right = column_test (width_of b) c n (omega (arith, small.width)) in
+    let below = top_test (height_of b) l small.height in
+    rw (past, deep, far, low, right, below) refl
+
+coloured_selected : {m : MlTerm} {before : List Event} → HasSeenMlTerm m before
+    → get_or m.coloured m.selected false ≡ is_coloured_mlterm before (mlterm_selected before)
+coloured_selected {m} {before} s =
+    ap (λ (r : ℕ). get_or m.coloured r false) s.selected_is
+    ∙ s.coloured_is (mlterm_selected before) (selected_below (latest named_by before))
+
+data_is : {m : MlTerm} {before : List Event} (command : Command) → HasSeenMlTerm m before
+    → data_in m command ≡ mlterm_data before command
+data_is {m} {before} command s =
+    rw (coloured_selected s, s.box_is, s.left_is, s.place_is.column_is, s.place_is.band_is, s.selected_is)
+    (ap (λ (b : Bool). if b then Unsaid else Draws command)
+    (unsaid_capped (mlterm_box before) (has_left_mlterm before) (column 0 before) (band before) (mlterm_selected before)
+    (is_coloured_mlterm before (mlterm_selected before)) (Step command) (seen_small s)))
+
+pub mlterm_is : {m : MlTerm} {before : List Event} (e : Event) (next : Option Event) → HasSeenMlTerm m before
+    → mlterm_in m e ≡ mlterm before e next
+mlterm_is (Start eight parameters) next s = refl
+mlterm_is {m} {before} (Step (Raster pan pad width height)) next s =
+    rw (s.place_is.band_is, s.lowered_is, band_test (band before)) refl
+mlterm_is (Step (Define register system x y z)) next s = refl
+mlterm_is (Step (Select register)) next s = refl
+mlterm_is (Step (Sixel bits)) next s = data_is (Sixel bits) s
+mlterm_is (Step (Repeat count bits)) next s = data_is (Repeat count bits) s
+mlterm_is (Step CarriageReturn) next s = refl
+mlterm_is (Step NextLine) next s = refl
+mlterm_is (Finish eight) next s = refl

@@ -1,0 +1,333 @@
+//! What konsole makes of the events of a string.
+
+ghost use Rattle.std.specs.Prelude.{◌≡◌, ◌==◌, ◌&&◌, ◌||◌, ◌++◌, ◌∷◌, [], List, Some, false, is_none, not, true};
+ghost use Rattle.std.specs.Option.{option_map};
+ghost use Rattle.sixel_grammar.specs.declared.command.Event.{Event as AnEvent};
+ghost use Rattle.sixel_grammar.specs.declared.command.Event.TheVariants.{Step as AStep};
+ghost use Rattle.sixel_models.specs.Konsole as rule;
+ghost use Rattle.sixel_models.specs.KonsoleSeen.{HasSeenKonsole, begun_in, counting_in, konsole_in, may_count_in};
+ghost use Rattle.sixel_models.specs.KonsoleSeen.{next_begun, next_declares, next_late, next_stuck, said};
+
+use crate::events::{is_finish, is_raster, is_return, named_by};
+use crate::reading::{Reading, Reads};
+use crate::words::{defining, is_data_command, nearest};
+use sixel_grammar::{Command, Event};
+use sixel_model::Colour;
+
+/// How many registers konsole has. It ignores a greater number.
+const REGISTERS: u16 = 256;
+
+/// What raster attributes say.
+#[derive(Clone, Copy, Debug, PartialEq, Eq)]
+pub(crate) struct Stated {
+    pub pan: u16,
+    pub pad: u16,
+    pub width: u16,
+    pub height: u16,
+}
+
+/// The reading of konsole: what its rule needs to know of the events so far.
+#[derive(Clone, Copy, Debug, PartialEq, Eq)]
+pub struct Konsole {
+    /// Whether all is dropped, up to the next return or new line.
+    stuck: bool,
+    /// Whether a select, a definition or a data command came.
+    has_late: bool,
+    /// Whether the picture has begun, whatever follows.
+    begun: bool,
+    /// Whether the last event is raster attributes that begin the picture, unless what follows drops them.
+    declares: bool,
+    /// The raster attributes that count, whatever follows.
+    counting: Option<Stated>,
+    /// The last event, if it is raster attributes that may count, unless what follows drops them.
+    waiting: Option<Stated>,
+}
+
+/// Whether the event goes to the left margin or ends the string.
+fn moves_or_ends(event: &Event) -> bool
+    ensures { result ≡ rule.moves_or_ends (Some event.now) }
+{
+    is_return(event) || is_finish(event)
+}
+
+/// Whether the event after drops a select, a definition or raster attributes.
+fn drops(next: Option<&Event>) -> bool
+    ensures { result ≡ rule.moves_or_ends (option_map (λ e. e.now) next.entry) }
+{
+    match next {
+        Some(event) => moves_or_ends(event),
+        None => false,
+    }
+}
+
+/// Whether it is a definition in a colour system but 1 and 2.
+fn has_unknown_system(event: &Event) -> bool
+    ensures { result ≡ rule.has_unknown_system event.now }
+{
+    match event {
+        Event::Step(Command::Define { system, .. }) => *system != 1 && *system != 2,
+        _ => false,
+    }
+}
+
+/// Whether it is a select, a definition or a data command.
+fn is_late(event: &Event) -> bool
+    ensures { result ≡ rule.is_late event.now }
+{
+    named_by(event).is_some() || is_data_command(event)
+}
+
+/// The definition of a register with this colour, if there is one, and its select.
+fn colour_and_select(register: u16, colour: Option<Colour>) -> Reads
+    ensures { result ≡ rule.colour_and_select register colour }
+{
+    match colour {
+        Some(colour) => Reads::DrawsTwo(defining(register, colour), Command::Select(register)),
+        None => Reads::Nothing,
+    }
+}
+
+/// What it makes of a definition.
+fn define(dropped: bool, register: u16, system: u16, x: u16, y: u16, z: u16) -> Reads
+    ensures { result ≡ rule.konsole_define dropped register system x y z }
+{
+    if dropped || register >= REGISTERS {
+        Reads::Nothing
+    } else if system == 2 && (x > 100 || y > 100 || z > 100) {
+        Reads::Unsaid
+    } else {
+        colour_and_select(register, nearest(system, x, y, z))
+    }
+}
+
+impl Stated {
+    /// Whether the ratio is a whole number, or one of its numbers is 0.
+    fn is_whole(&self) -> bool
+        ensures { result ≡ rule.is_whole (said self.now) }
+    {
+        self.pan == 0 || self.pad == 0 || self.pan % self.pad == 0
+    }
+
+    /// The height of a sixel pixel.
+    pub(crate) fn tall(&self) -> u16
+        ensures { result ≡ rule.ratio_of (said self.now) }
+    {
+        if self.pan == 0 || self.pad == 0 {
+            1
+        } else {
+            self.pan / self.pad
+        }
+    }
+}
+
+impl Konsole {
+    /// Before any event.
+    pub fn new() -> Konsole
+        ensures { HasSeenKonsole result [] }
+    {
+        Konsole {
+            stuck: false,
+            has_late: false,
+            begun: false,
+            declares: false,
+            counting: None,
+            waiting: None,
+        }
+    }
+
+    /// Whether the picture has begun, if the event after drops raster attributes or doesn't.
+    pub(crate) fn has_begun(&self, dropped: bool) -> bool
+        ensures { result ≡ begun_in self.now dropped }
+    {
+        self.begun || (self.declares && !dropped)
+    }
+
+    /// The raster attributes that count, if the event after drops raster attributes or doesn't.
+    pub(crate) fn counting(&self, dropped: bool) -> Option<Stated>
+        ensures { option_map said result ≡ counting_in self.now dropped }
+    {
+        match self.counting {
+            Some(stated) => Some(stated),
+            None if dropped => None,
+            None => self.waiting,
+        }
+    }
+
+    /// What raster attributes say that may count, unless the event after drops them.
+    fn may_count(&self, event: &Event) -> Option<Stated>
+        ensures { option_map said result ≡ may_count_in self.now event.now }
+    {
+        match event {
+            Event::Step(
+                Command::Raster {
+                    pan,
+                    pad,
+                    width,
+                    height,
+                },
+            ) if *width != 0 && !self.has_late => Some(Stated {
+                pan: *pan,
+                pad: *pad,
+                width: *width,
+                height: *height,
+            }),
+            _ => None,
+        }
+    }
+
+    /// What it makes of raster attributes.
+    fn raster(&self, dropped: bool, stated: Stated) -> Reads
+        ensures { result ≡ rule.konsole_raster self.now.stuck
+            (not ((stated.width == 0) || (dropped || self.now.has_late)) && is_none (counting_in self.now false))
+            (said stated) }
+    {
+        let counts = stated.width != 0
+            && !dropped
+            && !self.has_late
+            && self.counting(false).is_none();
+        if self.stuck {
+            Reads::Nothing
+        } else if stated.height == 0 || (counts && !stated.is_whole()) {
+            Reads::Unsaid
+        } else {
+            Reads::Nothing
+        }
+    }
+
+    /// What it makes of a sixel or a repeat.
+    fn data(&self, command: Command) -> Reads
+        ensures { result ≡ rule.konsole_data self.now.stuck command }
+    {
+        if self.stuck {
+            Reads::Nothing
+        } else {
+            Reads::Draws(command)
+        }
+    }
+
+    /// What it makes of a return or a new line.
+    fn go(&self, command: Command) -> Reads
+        ensures { result ≡ rule.konsole_move (begun_in self.now true) command }
+    {
+        if self.has_begun(true) {
+            Reads::Draws(command)
+        } else {
+            Reads::Nothing
+        }
+    }
+
+    /// What it makes of a command, if the event after drops or doesn't.
+    fn command(&self, dropped: bool, command: Command) -> Reads
+        ensures { result ≡ konsole_in self.now dropped (AStep command) }
+    {
+        match command {
+            Command::Sixel(_) => self.data(command),
+            Command::Repeat { count, bits } => self.data(Command::Repeat {
+                count: count.max(1),
+                bits,
+            }),
+            Command::Raster {
+                pan,
+                pad,
+                width,
+                height,
+            } => self.raster(
+                dropped,
+                Stated {
+                    pan,
+                    pad,
+                    width,
+                    height,
+                },
+            ),
+            Command::Select(register) => self.select(dropped, register),
+            Command::Define {
+                register,
+                system,
+                x,
+                y,
+                z,
+            } => define(dropped || self.stuck, register, system, x, y, z),
+            Command::CarriageReturn | Command::NextLine => self.go(command),
+        }
+    }
+
+    /// What it makes of a select.
+    fn select(&self, dropped: bool, register: u16) -> Reads
+        ensures { result ≡ rule.konsole_select (dropped || self.now.stuck) register }
+    {
+        if dropped || self.stuck || register >= REGISTERS {
+            Reads::Nothing
+        } else {
+            Reads::Draws(Command::Select(register))
+        }
+    }
+
+    /// What it makes of an event.
+    fn reads(&self, event: &Event, dropped: bool) -> Reads
+        ensures { result ≡ konsole_in self.now dropped event.now }
+    {
+        match event {
+            Event::Step(command) => self.command(dropped, *command),
+            _ => Reads::Nothing,
+        }
+    }
+
+    /// Notes one more event.
+    fn see(&mut self, event: &Event)
+        ensures { (before : List AnEvent) → HasSeenKonsole self.old before
+            → HasSeenKonsole self.new (before ++ event.now ∷ []) }
+    {
+        let dropped = moves_or_ends(event);
+        *self = Konsole {
+            stuck: self.gets_stuck(event),
+            has_late: self.gets_late(event),
+            begun: self.begins(event),
+            declares: self.declares(event),
+            counting: self.counting(dropped),
+            waiting: self.may_count(event),
+        };
+    }
+
+    /// Whether all is dropped after the event.
+    fn gets_stuck(&self, event: &Event) -> bool
+        ensures { result ≡ next_stuck self.now event.now }
+    {
+        !is_return(event) && (self.stuck || has_unknown_system(event))
+    }
+
+    /// Whether a select, a definition or a data command came, this event included.
+    fn gets_late(&self, event: &Event) -> bool
+        ensures { result ≡ next_late self.now event.now }
+    {
+        self.has_late || is_late(event)
+    }
+
+    /// Whether the picture has begun with the event, whatever follows.
+    fn begins(&self, event: &Event) -> bool
+        ensures { result ≡ next_begun self.now event.now }
+    {
+        self.has_begun(moves_or_ends(event))
+            || named_by(event).is_some()
+            || (is_data_command(event) && !self.stuck)
+    }
+
+    /// Whether it is raster attributes that begin the picture, unless what follows drops them.
+    fn declares(&self, event: &Event) -> bool
+        ensures { result ≡ next_declares self.now event.now }
+    {
+        is_raster(event) && !self.stuck
+    }
+}
+
+impl Reading for Konsole {
+    ghost model = { rule.konsole_model };
+
+    ghost has_seen = { HasSeenKonsole };
+
+    fn read(&mut self, event: &Event, next: Option<&Event>) -> Reads {
+        let reads = self.reads(event, drops(next));
+        self.see(event);
+        reads
+    }
+}

@@ -1,0 +1,155 @@
+//! The rectangle that konsole fills before it draws.
+
+ghost use Rattle.std.specs.Prelude.{◌≡◌, ◌++◌, ◌∷◌, [], List, None, Option, Some};
+ghost use Rattle.std.specs.Option.{option_map, option_to_list};
+ghost use Rattle.sixel_grammar.specs.declared.command.Event.{Event as AnEvent};
+ghost use Rattle.sixel_grammar.specs.declared.command.Event.TheVariants.{Step as AStep};
+ghost use Rattle.sixel_models.specs.Konsole as rule;
+ghost use Rattle.sixel_models.specs.KonsoleMeasured.{HasMeasured, IsReach, reached_columns, reached_rows, rectangle_in};
+ghost use Rattle.sixel_models.specs.Readings.{drawn_by};
+
+use crate::konsole::{Konsole, Stated};
+use crate::place::Place;
+use crate::reading::{Reading, Reads};
+use crate::words::is_data_command;
+use sixel_grammar::{Command, Event};
+use sixel_model::BAND_ROWS;
+
+/// How far the data commands of a drawing reach. Numbers stop at `u32::MAX`.
+#[derive(Clone, Copy, Debug, PartialEq, Eq)]
+pub(crate) struct Reach {
+    place: Place,
+    /// The greatest column where a data command ends.
+    columns: u32,
+    /// The greatest row where the band of one ends.
+    rows: u32,
+}
+
+/// Measures the rectangle that konsole fills, event by event.
+#[derive(Clone, Copy, Debug, PartialEq, Eq)]
+pub struct KonsoleMeasure {
+    reading: Konsole,
+    reach: Reach,
+}
+
+impl Reach {
+    /// Of no commands.
+    fn new() -> Reach
+        ensures { IsReach result [] }
+    {
+        Reach {
+            place: Place::new(),
+            columns: 0,
+            rows: 0,
+        }
+    }
+
+    /// The columns that are reached with one more event, if the next sixel stands in this column then.
+    fn reached_columns(self, event: &Event, column: u32) -> u32
+        ensures { result ≡ reached_columns self event.now column }
+    {
+        if is_data_command(event) {
+            self.columns.max(column)
+        } else {
+            self.columns
+        }
+    }
+
+    /// The rows that are reached with one more event.
+    fn reached_rows(self, event: &Event) -> u32
+        ensures { result ≡ reached_rows self event.now }
+    {
+        if is_data_command(event) {
+            let end = self
+                .place
+                .band
+                .saturating_mul(BAND_ROWS)
+                .saturating_add(BAND_ROWS);
+            self.rows.max(end)
+        } else {
+            self.rows
+        }
+    }
+
+    /// With one more command.
+    fn with(self, command: Command) -> Reach
+        ensures { (drawing : List AnEvent) → IsReach self drawing → IsReach result (drawing ++ AStep command ∷ []) }
+    {
+        let event = Event::Step(command);
+        let place = self.place.after(&event, 1);
+        Reach {
+            place,
+            columns: self.reached_columns(&event, place.column),
+            rows: self.reached_rows(&event),
+        }
+    }
+
+    /// With what is drawn of one more event.
+    fn with_drawn(self, reads: Reads) -> Reach
+        ensures { (drawing : List AnEvent) → IsReach self drawing → IsReach result (drawing ++ drawn_by reads) }
+    {
+        match reads {
+            Reads::Draws(command) => self.with(command),
+            Reads::DrawsTwo(first, second) => self.with(first).with(second),
+            Reads::Nothing | Reads::Stops | Reads::Unsaid => self,
+        }
+    }
+}
+
+impl KonsoleMeasure {
+    /// Of no events.
+    pub fn new() -> KonsoleMeasure
+        ensures { (next : Option AnEvent) → HasMeasured result [] next }
+    {
+        KonsoleMeasure {
+            reading: Konsole::new(),
+            reach: Reach::new(),
+        }
+    }
+
+    /// Measures one more event. `next` is the one after it, if there is one.
+    pub fn take(&mut self, event: &Event, next: Option<&Event>)
+        ensures { (before : List AnEvent) → HasMeasured self.old before (Some event.now)
+            → HasMeasured self.new (before ++ event.now ∷ []) (option_map (λ e. e.now) next.entry) }
+    {
+        let reads = self.reading.read(event, next);
+        self.reach = self.reach.with_drawn(reads);
+    }
+
+    /// The rectangle of the events of a whole string, as raster attributes; none if the picture hasn't begun.
+    pub fn opening(&self) -> Option<Command>
+        ensures { (events : List AnEvent) → HasMeasured self.now events None
+            → rule.konsole_opening events ≡ option_to_list (option_map AStep result) }
+    {
+        if self.reading.has_begun(false) {
+            Some(self.rectangle())
+        } else {
+            None
+        }
+    }
+
+    /// The rectangle of a picture that has begun.
+    fn rectangle(&self) -> Command
+        ensures { result ≡ rectangle_in self.now }
+    {
+        let (width, height, tall) = match self.reading.counting(false) {
+            Some(stated) => (stated.width, stated.height, stated.tall()),
+            None => (30, 6, 1),
+        };
+        let columns = self.reach.columns.max(u32::from(width));
+        let rows = self.reach.rows.max(u32::from(height));
+        Command::Raster {
+            pan: tall,
+            pad: 1,
+            width: side(u64::from(columns)),
+            height: side(u64::from(rows) * u64::from(tall)),
+        }
+    }
+}
+
+/// A side as raster attributes can say it.
+fn side(n: u64) -> u16
+    ensures { result ≡ rule.side n }
+{
+    n.min(65535) as u16
+}
