@@ -26,12 +26,13 @@ use Rattle.sixel_model.proofs.PositionLemmas.{any_at_push, latest_push}
 use Rattle.sixel_models.specs.declared.place.Place.{Place}
 use Rattle.sixel_models.specs.declared.mlterm.MlTerm.{MlTerm}
 use Rattle.sixel_models.specs.declared.mlterm.Sides.{Sides}
-use Rattle.sixel_models.specs.MlTerm.{Box, coloured_by, has_left_mlterm, has_raster_below, height_of}
+use Rattle.sixel_models.specs.MlTerm.{Box, coloured_by, has_data, has_left_mlterm, has_raster_below, height_of}
 use Rattle.sixel_models.specs.MlTerm.{is_coloured_mlterm, is_raster_below, is_unsaid_data, least_box}
 use Rattle.sixel_models.specs.MlTerm.{leaves_from, leaves_mlterm, mlterm, mlterm_box, mlterm_box_of, mlterm_data}
 use Rattle.sixel_models.specs.MlTerm.{mlterm_register, mlterm_selected, width_of}
 use Rattle.sixel_models.specs.MlTermSeen.{AreNarrow, HasSeenMlTerm, box_of_sides, data_in, mlterm_in}
-use Rattle.sixel_models.specs.MlTermSeen.{next_coloured, next_left, next_raster_below, next_selected, stored_box}
+use Rattle.sixel_models.specs.MlTermSeen.{next_coloured, next_data, next_left, next_raster_below, next_selected}
+use Rattle.sixel_models.specs.MlTermSeen.{stored_box}
 use Rattle.sixel_models.specs.declared.reading.Reads.TheVariants.{Draws, Unsaid}
 use Rattle.sixel_models.specs.Places.{IsPlaceAfter, most}
 use Rattle.sixel_models.specs.Words.{nearest}
@@ -45,6 +46,7 @@ pub seen_none : (place : Place) → IsPlaceAfter 0 place [] → HasSeenMlTerm (r
   sides = None;
   has_left = false;
   has_raster_below = false;
+  has_data = false;
 }) []
 unfolding latest is_coloured_mlterm mlterm_box has_left_mlterm has_raster_below any_at any_below
 seen_none place is = record {
@@ -56,6 +58,7 @@ seen_none place is = record {
   narrow = tt;
   left_is = refl;
   lowered_is = refl;
+  passed_is = refl;
 }
 
 -- ---- numbers that stop at the greatest one
@@ -193,6 +196,11 @@ pub raster_below_push : (before : List Event) (e : Event)
 unfolding has_raster_below
 raster_below_push before e = any_at_push is_raster_below before e
 
+data_push : (before : List Event) (e : Event)
+    → has_data (before ++ e ∷ []) ≡ (has_data before || is_data_command e)
+data_push before e =
+    list_any-append is_data_command before (e ∷ []) ∙ ap (λ b. has_data before || b) (or_false (is_data_command e))
+
 -- ---- one more event
 
 pub seen_push : (m : MlTerm) (place : Place) (sides : Option Sides) (before : List Event) (e : Event)
@@ -205,6 +213,7 @@ pub seen_push : (m : MlTerm) (place : Place) (sides : Option Sides) (before : Li
       sides = sides;
       has_left = next_left m e;
       has_raster_below = next_raster_below m e;
+      has_data = next_data m e;
     }) (before ++ e ∷ [])
 seen_push m place sides before e s at sides_are narrow = record {
   place_is = at;
@@ -225,6 +234,7 @@ seen_push m place sides before e s at sides_are narrow = record {
       ap₂ (λ a b. a || (is_some (raster_of e) && b)) s.lowered_is
       (ap (nat_lt 0) s.place_is.band_is ∙ band_test (band before))
       ∙ or_comm (has_raster_below before) (is_raster_below before e) ∙ sym (raster_below_push before e);
+  passed_is = ap (λ b. b || is_data_command e) s.passed_is ∙ sym (data_push before e);
 }
 
 -- ---- what it makes of an event
@@ -260,7 +270,7 @@ pub mlterm_is : {m : MlTerm} {before : List Event} (e : Event) (next : Option Ev
     → mlterm_in m e ≡ mlterm before e next
 mlterm_is (Start eight parameters) next s = refl
 mlterm_is {m} {before} (Step (Raster pan pad width height)) next s =
-    rw (s.place_is.band_is, s.lowered_is, band_test (band before)) refl
+    rw (s.place_is.band_is, s.lowered_is, s.passed_is, band_test (band before)) refl
 mlterm_is (Step (Define register system x y z)) next s = refl
 mlterm_is (Step (Select register)) next s = refl
 mlterm_is (Step (Sixel bits)) next s = data_is (Sixel bits) s

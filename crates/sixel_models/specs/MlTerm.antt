@@ -138,6 +138,15 @@ is_raster_below before e = is_some (raster_of e) && nat_lt 0 (band before)
 unfoldable pub has_raster_below : List Event → Bool
 has_raster_below before = any_at is_raster_below before
 
+-- a data command is among the events
+abbrev pub has_data : List Event → Bool
+has_data before = list_any is_data_command before
+
+-- the next sixel is below the first band, where raster attributes came before, and no data command did: if the next
+-- raster attributes are wider, mlterm ends
+abbrev pub is_fragile : List Event → Bool
+is_fragile before = nat_lt 0 (band before) && (has_raster_below before && not (has_data before))
+
 -- a definition of this register, with this colour if it gives one, selects it
 abbrev pub define_and_select : ℕ → Option Parts → Reads
 define_and_select register None = Draws (Select register)
@@ -146,14 +155,14 @@ define_and_select register (Some colour) = DrawsTwo (defining register colour) (
 -- What mlterm makes of an event. Unsaid are:
 -- - an introducer whose P2 is 5: mlterm mixes colours;
 -- - raster attributes of zeros only: if their numbers are missing, they swallow a byte;
--- - raster attributes below the first band, if others came there before: mlterm was seen to end at such;
+-- - raster attributes below the first band, if others came there before, and no data command: mlterm may end;
 -- - a definition in colour system 3;
 -- - the data commands above
 abbrev pub mlterm : Rule
 mlterm before (Start eight parameters) next = if slice_index_or parameters.items 1 0 == 5 then Unsaid else Nothing
 mlterm before (Step (Raster pan pad width height)) next =
     if ((pan == 0) && (pad == 0) && (width == 0) && (height == 0))
-    || (nat_lt 0 (band before) && has_raster_below before)
+    || is_fragile before
     then Unsaid
     else Nothing
 mlterm before (Step (Define register system x y z)) next =

@@ -1,5 +1,5 @@
 -- What the automaton of mlterm stores, and how an event changes it.
-use Rattle.std.specs.Prelude.{◌≡◌, ◌==◌, ◌<◌, ◌&&◌, ◌||◌, ◌^◌, ℕ, Bool, true, false, is_some, nat_lt}
+use Rattle.std.specs.Prelude.{◌≡◌, ◌==◌, ◌<◌, ◌&&◌, ◌||◌, ◌^◌, ℕ, Bool, true, false, not, is_some, nat_lt}
 use Rattle.std.specs.Prelude.{List, Option, Some, None, length, slice_index_or, slice_set, if◌then◌else◌}
 use Rattle.std.specs.Option.{option_map, option_map_or}
 use Rattle.sixel_grammar.specs.declared.command.Command.{Command}
@@ -7,14 +7,14 @@ use Rattle.sixel_grammar.specs.declared.command.Command.TheVariants.{Sixel, Repe
 use Rattle.sixel_grammar.specs.declared.command.Command.TheVariants.{CarriageReturn, NextLine}
 use Rattle.sixel_grammar.specs.declared.command.Event.{Event}
 use Rattle.sixel_grammar.specs.declared.command.Event.TheVariants.{Start, Step, Finish}
-use Rattle.sixel_model.specs.Events.{named_by, raster_of}
+use Rattle.sixel_model.specs.Events.{is_data_command, named_by, raster_of}
 use Rattle.sixel_models.specs.declared.reading.Reads.{Reads}
 use Rattle.sixel_models.specs.declared.reading.Reads.TheVariants.{Nothing, Draws, Unsaid}
 use Rattle.sixel_models.specs.Places.{IsPlaceAfter}
 use Rattle.sixel_models.specs.Words.{nearest}
 use Rattle.sixel_models.specs.declared.mlterm.MlTerm.{MlTerm}
 use Rattle.sixel_models.specs.declared.mlterm.Sides.{Sides}
-use Rattle.sixel_models.specs.MlTerm.{Box, coloured_by, define_and_select, has_left_mlterm, has_raster_below}
+use Rattle.sixel_models.specs.MlTerm.{Box, coloured_by, define_and_select, has_data, has_left_mlterm, has_raster_below}
 use Rattle.sixel_models.specs.MlTerm.{is_coloured_mlterm}
 use Rattle.sixel_models.specs.MlTerm.{is_unsaid_data, leaves_from, mlterm_box}
 use Rattle.sixel_models.specs.MlTerm.{mlterm_register, mlterm_selected}
@@ -40,6 +40,7 @@ pub record HasSeenMlTerm (m : MlTerm) (before : List Event) : Type 0 where
   pub narrow : AreNarrow m.sides
   pub left_is : m.has_left ≡ has_left_mlterm before
   pub lowered_is : m.has_raster_below ≡ has_raster_below before
+  pub passed_is : m.has_data ≡ has_data before
 
 -- ---- how an event changes it
 
@@ -55,6 +56,9 @@ next_left m e = m.has_left || leaves_from (stored_box m) m.place.column m.place.
 abbrev pub next_raster_below : MlTerm → Event → Bool
 next_raster_below m e = m.has_raster_below || (is_some (raster_of e) && nat_lt 0 m.place.band)
 
+abbrev pub next_data : MlTerm → Event → Bool
+next_data m e = m.has_data || is_data_command e
+
 -- ---- what it makes of an event
 
 abbrev pub data_in : MlTerm → Command → Reads
@@ -67,7 +71,8 @@ data_in m command =
 abbrev pub mlterm_in : MlTerm → Event → Reads
 mlterm_in m (Start eight parameters) = if slice_index_or parameters.items 1 0 == 5 then Unsaid else Nothing
 mlterm_in m (Step (Raster pan pad width height)) =
-    if ((pan == 0) && (pad == 0) && (width == 0) && (height == 0)) || (nat_lt 0 m.place.band && m.has_raster_below)
+    if ((pan == 0) && (pad == 0) && (width == 0) && (height == 0))
+    || (nat_lt 0 m.place.band && (m.has_raster_below && not m.has_data))
     then Unsaid
     else Nothing
 mlterm_in m (Step (Define register system x y z)) =

@@ -1,12 +1,12 @@
 //! What mlterm makes of the events of a string.
 
-ghost use Rattle.std.specs.Prelude.{◌≡◌, ◌<◌, ◌++◌, ◌∷◌, [], IfSome, List, false, slice_index_or};
+ghost use Rattle.std.specs.Prelude.{◌≡◌, ◌<◌, ◌&&◌, ◌++◌, ◌∷◌, [], IfSome, List, false, nat_lt, not, slice_index_or};
 ghost use Rattle.std.specs.Option.{option_map};
 ghost use Rattle.sixel_grammar.specs.declared.command.Event.{Event as AnEvent};
 ghost use Rattle.sixel_grammar.specs.declared.command.Event.TheVariants.{Step as AStep};
 ghost use Rattle.sixel_models.specs.MlTerm as rule;
 ghost use Rattle.sixel_models.specs.MlTermSeen.{AreNarrow, HasSeenMlTerm, box_of_sides, data_in, mlterm_in};
-ghost use Rattle.sixel_models.specs.MlTermSeen.{next_coloured, next_left, next_raster_below, next_selected};
+ghost use Rattle.sixel_models.specs.MlTermSeen.{next_coloured, next_data, next_left, next_raster_below, next_selected};
 ghost use Rattle.sixel_models.specs.MlTermSeen.{stored_box};
 
 use crate::events::{columns_of, is_raster, is_repeat_of_zero, named_by};
@@ -46,6 +46,8 @@ pub struct MlTerm {
     has_left: bool,
     /// Whether raster attributes came below the first band.
     has_raster_below: bool,
+    /// Whether a data command came.
+    has_data: bool,
 }
 
 /// The register that mlterm takes for a number.
@@ -123,6 +125,7 @@ impl MlTerm {
             sides: None,
             has_left: false,
             has_raster_below: false,
+            has_data: false,
         }
     }
 
@@ -168,6 +171,22 @@ impl MlTerm {
         if is_raster(event) && self.place.band > 0 {
             self.has_raster_below = true;
         }
+    }
+
+    /// Notes a data command.
+    fn pass(&mut self, event: &Event)
+        ensures { self.new ≡ record self.old { has_data = next_data self.old event.now } }
+    {
+        if is_data_command(event) {
+            self.has_data = true;
+        }
+    }
+
+    /// Whether raster attributes that come next may end mlterm.
+    fn is_fragile(&self) -> bool
+        ensures { result ≡ (nat_lt 0 self.now.place.band && (self.now.has_raster_below && not self.now.has_data)) }
+    {
+        self.place.band > 0 && self.has_raster_below && !self.has_data
     }
 
     /// Notes the register that the event names, and whether it gives that a colour.
@@ -221,7 +240,7 @@ impl MlTerm {
                 width: 0,
                 height: 0,
             } => Reads::Unsaid,
-            Command::Raster { .. } if self.place.band > 0 && self.has_raster_below => Reads::Unsaid,
+            Command::Raster { .. } if self.is_fragile() => Reads::Unsaid,
             Command::Raster { .. } => Reads::Nothing,
             Command::Select(number) => Reads::Draws(Command::Select(register_of(number))),
             Command::Define { system: 3, .. } => Reads::Unsaid,
@@ -255,6 +274,7 @@ impl MlTerm {
         self.leave(event);
         self.name(event);
         self.lower(event);
+        self.pass(event);
         self.sides = least(self.sides, box_of(event));
         self.place = self.place.after(event, 0);
     }
