@@ -1,5 +1,5 @@
 -- The terminal that shows a string.
-use Rattle.std.specs.Prelude.{ℕ, ◌%◌, [], ◌∷◌, true, false, List, map, slice_index_or}
+use Rattle.std.specs.Prelude.{ℕ, ◌%◌, true, false, List, map, slice_index_or}
 use Rattle.std.specs.List.{range_with_len}
 use Rattle.sixel_model.specs.declared.colour.Parts.{Parts}
 use Rattle.sixel_model.specs.declared.colour.Parts.TheVariants.{Rgb}
@@ -8,14 +8,8 @@ use Rattle.sixel_terminal.specs.declared.choices.Ground.{Ground}
 use Rattle.sixel_terminal.specs.declared.choices.Ground.TheVariants.{Kept}
 use Rattle.sixel_terminal.specs.Displays.{Display}
 use Rattle.sixel_terminal.specs.Limits.{display_of, plain_screen}
+use Rattle.sixel_terminal.specs.Starts.{vt340_colours}
 use Rattle.sixel_mend.specs.declared.mending.Mending.{Mending}
-
--- the colours with which the registers of a VT340 start, from register 0 on
-abbrev pub vt340_colours : List Parts
-vt340_colours =
-    Rgb 0 0 0 ∷ Rgb 20 20 80 ∷ Rgb 80 13 13 ∷ Rgb 20 80 20 ∷ Rgb 80 20 80 ∷ Rgb 20 80 80 ∷ Rgb 80 80 20 ∷ Rgb 53 53 53
-    ∷ Rgb 26 26 26 ∷ Rgb 33 33 60 ∷ Rgb 60 26 26 ∷ Rgb 33 60 33 ∷ Rgb 60 33 60 ∷ Rgb 33 60 60 ∷ Rgb 60 60 33
-    ∷ Rgb 80 80 80 ∷ []
 
 -- the colour with which a register starts: that of the register modulo 16 of a VT340
 abbrev pub starting_colour : ℕ → Parts

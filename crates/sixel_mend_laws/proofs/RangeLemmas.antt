@@ -17,7 +17,8 @@ use Rattle.sixel_terminal.specs.Drawing.{defined_on, given_on, inked_on, map_on,
 use Rattle.sixel_terminal.specs.Drawing.{stood_on, taken_on}
 use Rattle.sixel_judge.proofs.OptionLemmas.{or_each}
 use Rattle.sixel_mend.specs.declared.mending.Mending.{Mending}
-use Rattle.sixel_mend.specs.Screens.{mending_terminal, starting_colour, starting_colours, vt340_colours}
+use Rattle.sixel_mend.specs.Screens.{mending_terminal, starting_colour, starting_colours}
+use Rattle.sixel_terminal.specs.Starts.{vt340_colours}
 
 -- ---- what holds of each result
 

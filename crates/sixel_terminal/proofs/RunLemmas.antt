@@ -8,7 +8,7 @@ use Rattle.sixel_terminal.specs.declared.choices.Choices.{Choices}
 use Rattle.sixel_terminal.specs.declared.choices.Ground.{Ground}
 use Rattle.sixel_terminal.specs.declared.choices.Ground.TheVariants.{Kept, Filled}
 use Rattle.sixel_terminal.specs.Displays.{Display, IsGroundBelow, IsInClass, registers_of}
-use Rattle.sixel_terminal.specs.Limits.{display_of, is_ground_below, is_screen_side, terminal_fault, most_screen_side}
+use Rattle.sixel_terminal.specs.Limits.{display_of, is_ground_below, is_screen_side, most_registers, terminal_fault, most_screen_side}
 
 -- the terminal is in the class, and its screen isn't larger than a `Terminal` may have
 pub record Runs (t : Display) : Type 0 where
@@ -44,7 +44,7 @@ runs choices colours screen h =
     let tall = not_passed _ _ _ zero_is.1 in
     let pixels = passed _ _ _ tall.1 in
     let origin = passed _ _ _ pixels.1 in
-    let count = and_parts (nat_le 16 (length colours)) (nat_le (length colours) 256) registers.0 in
+    let count = and_parts (nat_le 16 (length colours)) (nat_le (length colours) most_registers) registers.0 in
     let sides = and_parts (is_screen_side choices.screen_width && is_screen_side choices.screen_height)
     (length screen == choices.screen_width * choices.screen_height) pixels.0 in
     let both = and_parts (is_screen_side choices.screen_width) (is_screen_side choices.screen_height) sides.0 in

@@ -10,3 +10,4 @@ pub mod Screens
 pub mod Stretches
 pub mod Drawings
 pub mod Laws
+pub mod Starts

@@ -36,10 +36,14 @@ is_screen choices screen =
 abbrev pub plain_screen : Choices → Parts → List Parts
 plain_screen choices colour = replicate (choices.screen_width * choices.screen_height) colour
 
+-- the greatest count of registers: that of a named terminal
+abbrev pub most_registers : ℕ
+most_registers = 1024
+
 -- the first reason why the parts don't make a terminal
 abbrev pub terminal_fault : Choices → List Parts → List Parts → Option TerminalReason
 terminal_fault choices colours screen =
-    if not (nat_le 16 (length colours) && nat_le (length colours) 256) then Some Registers
+    if not (nat_le 16 (length colours) && nat_le (length colours) most_registers) then Some Registers
     else if not (nat_lt choices.selected (length colours)) then Some Selected
     else if not (is_ground_below (length colours) choices.ground) then Some GroundReason
     else if not (nat_le choices.zero 1) then Some Zero

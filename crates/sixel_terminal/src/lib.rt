@@ -9,6 +9,7 @@ pub mod laws;
 mod pen;
 mod pixel;
 mod screen;
+mod starts;
 mod stretch;
 mod terminal;
 
@@ -16,4 +17,5 @@ pub use choices::{Choices, Ground};
 pub use drawing::Drawing;
 pub use pixel::{Ink, Pixel};
 pub use screen::Screen;
+pub use starts::vt340_colour;
 pub use terminal::{Terminal, TerminalFault, TerminalReason};

@@ -10,8 +10,11 @@ ghost use Rattle.sixel_terminal.specs.Displays.{HasRoom, IsInClass};
 ghost use Rattle.sixel_terminal.specs.Limits.{display_of, is_ground_below, plain_screen, terminal_fault};
 
 use crate::choices::{Choices, Ground};
-use sixel_model::{Colour, LEAST_REGISTERS, MOST_REGISTERS};
+use sixel_model::{Colour, LEAST_REGISTERS};
 use std::marker::Model;
+
+/// The greatest count of registers: that of a named terminal.
+const MOST_REGISTERS: usize = 1024;
 
 /// The greatest side of a screen, in pixels.
 const MOST_SCREEN_SIDE: u32 = 4096;
@@ -19,7 +22,7 @@ const MOST_SCREEN_SIDE: u32 = 4096;
 /// Why parts don't make a terminal. If several reasons apply, the first one in this order is reported.
 #[derive(Clone, Copy, Debug, PartialEq, Eq)]
 pub enum TerminalReason {
-    /// There are fewer than 16 colours or more than 256.
+    /// There are fewer than 16 colours or more than 1,024.
     Registers = 1,
     /// The register selected at the start isn't below the number of colours.
     Selected = 2,

@@ -49,7 +49,7 @@ fn terminals_name_the_first_reason(rt: HostRuntime) -> Result<(), Fail> {
     };
     for (choices, registers, pixels, expected) in [
         (selected, 15, 4, TerminalReason::Registers),
-        (plain, 257, 4, TerminalReason::Registers),
+        (plain, 1025, 4, TerminalReason::Registers),
         (selected_and_filled, 16, 4, TerminalReason::Selected),
         (filled_and_two, 16, 4, TerminalReason::Ground),
         (two_and_flat, 16, 4, TerminalReason::Zero),
@@ -88,7 +88,7 @@ fn terminals_are_made_up_to_their_limits(rt: HostRuntime) -> Result<(), Fail> {
         origin_y: 4095,
         ..plain_choices(1, 4096)
     };
-    for (choices, registers) in [(plain, 256), (last, 16), (origin, 16), (below, 16)] {
+    for (choices, registers) in [(plain, 1024), (last, 16), (origin, 16), (below, 16)] {
         let terminal = terminal(rt.alloc(), choices, registers)?;
         assert!(rt; terminal.has_room(1, 1), "{choices:?}");
     }
