@@ -6,7 +6,7 @@ use Rattle.std.specs.Option.{option_and_then, option_or}
 use Rattle.std.proofs.lemmas.Bool.{eqb-false, eqb-true}
 use Rattle.std.proofs.lemmas.List.{length-set, length-replicate}
 use Rattle.sixel_grammar.specs.declared.command.Command.{Command}
-use Rattle.sixel_grammar.specs.declared.command.Command.TheVariants.{Define}
+use Rattle.sixel_grammar.specs.declared.command.Command.TheVariants.{Define, Sixel}
 use Rattle.sixel_grammar.specs.declared.command.Event.{Event}
 use Rattle.sixel_grammar.specs.declared.command.Event.TheVariants.{Step}
 use Rattle.sixel_model.specs.declared.colour.Parts.{Parts}
@@ -18,6 +18,8 @@ use Rattle.sixel_models.specs.declared.foot.colours.Colours.{Colours}
 use Rattle.sixel_models.specs.Foot.{foot_colour, foot_gives, foot_register}
 use Rattle.sixel_models.specs.FootSeen.{HasColours}
 use Rattle.sixel_models.specs.Words.{nearest}
+use Rattle.sixel_terminal.specs.Stretches.{sixels_of}
+use Rattle.sixel_models.proofs.PlainLemmas.{same_over}
 
 -- ---- a list of optional colours
 
@@ -115,3 +117,12 @@ colours_none c is = record {
 pub only_none : {A : Type 0} (P : Option A → Type 0) → ((a : A) → P (Some a) → ⊥) → (o : Option A) → P o → o ≡ None
 only_none P no_some None h = refl
 only_none P no_some (Some a) h = absurd (no_some a h)
+
+pub colours_over : {c : Colours} (before : List Event) (bytes : List ℕ) → HasColours c before
+    → HasColours c (before ++ sixels_of bytes)
+colours_over {c} before bytes s = record {
+  whole = s.whole;
+  each = λ register lt. s.each register lt
+      ∙ sym (same_over (λ es. foot_colour es register)
+      (λ es bits. latest_push (foot_gives register) es (Step (Sixel bits))) before bytes);
+}

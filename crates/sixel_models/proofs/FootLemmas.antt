@@ -1,5 +1,6 @@
 -- What a `Foot` keeps, with one more event.
-use Rattle.std.proofs.Common.{◌≡◌, ◌≢◌, ◌==◌, ℕ, ◌+◌, ◌-◌, ◌*◌, ◌<◌, ◌≤◌, Bool, true, false, cond, min, max, List}
+use Rattle.std.proofs.Common.{ap₂, suc, length, ◌≡◌, ◌≢◌, ◌==◌, ℕ, ◌+◌, ◌-◌, ◌*◌, ◌<◌, ◌≤◌, Bool, true, false, cond}
+use Rattle.std.proofs.Common.{min, max, List}
 use Rattle.std.proofs.Common.{[], ◌∷◌, ◌++◌, refl, sym, ap, subst, ◌∙◌, append_assoc, append-nil, arith}
 use Rattle.std.specs.Prelude.{is_some, nat_le, if◌then◌else◌}
 use Rattle.std.specs.List.{list_any}
@@ -9,15 +10,19 @@ use Rattle.sixel_grammar.specs.declared.command.Command.TheVariants.{CarriageRet
 use Rattle.sixel_grammar.specs.declared.command.Event.{Event}
 use Rattle.sixel_grammar.specs.declared.command.Event.TheVariants.{Start, Step, Finish}
 use Rattle.sixel_model.specs.Events.{is_data_command, is_next_line, raster_of}
-use Rattle.sixel_model.specs.Geometry.{band, column}
+use Rattle.sixel_model.specs.Geometry.{band, band_rows, column}
 use Rattle.sixel_model.proofs.StepLemmas.{band_push, column_push}
 use Rattle.sixel_models.specs.declared.place.Place.{Place}
 use Rattle.sixel_models.specs.declared.foot.size.Growing.{Growing}
-use Rattle.sixel_models.specs.Foot.{Size, counts_on_foot, foot_grows, foot_size, foot_start}
+use Rattle.sixel_terminal.specs.Stretches.{sixels_of}
+use Rattle.sixel_models.specs.declared.reading.Reads.TheVariants.{Draws}
+use Rattle.sixel_models.specs.Readings.{ArePlain}
+use Rattle.sixel_models.specs.Foot.{Size, counts_on_foot, foot, foot_grows, foot_rows, foot_size, foot_start}
 use Rattle.sixel_models.specs.FootSeen.{HasGrown, grows_not}
 use Rattle.sixel_models.specs.Places.{IsPlaceAfter, most}
 use Rattle.sixel_models.specs.Words.{after_each, after_first}
 use Rattle.sixel_models.proofs.WordLemmas.{each_push}
+use Rattle.sixel_models.proofs.PlainLemmas.{band_over, column_over, first_before, kept_whole, same_over}
 
 -- ---- the size
 
@@ -183,3 +188,48 @@ bands_are_the_height pre (e ∷ es) h none =
 pub first_height : (foot_size []).height ≡ 6 * band [] + 6
 unfolding after_each after_first band
 first_height = refl
+
+-- ---- sixels
+
+height_over : (before : List Event) (bytes : List ℕ)
+    → (foot_size (before ++ sixels_of bytes)).height ≡ (foot_size before).height
+height_over before bytes =
+    same_over (λ es. (foot_size es).height) (λ es bits. ap (λ (t : Size). t.height) (size_push es (Step (Sixel bits))))
+    before bytes
+
+rows_over : (before : List Event) (bytes : List ℕ) → foot_rows (before ++ sixels_of bytes) ≡ foot_rows before
+rows_over before bytes = rw (height_over before bytes, band_over before bytes) refl
+
+width_over : (before : List Event) (b : ℕ) (bs : List ℕ)
+    → (foot_size (before ++ sixels_of (b ∷ bs))).width
+    ≡ max (foot_size before).width (column 1 before + suc (length bs))
+width_over before b [] = ap (λ (t : Size). t.width) (size_push before (Step (Sixel (b - 63))))
+width_over before b (d ∷ ds) =
+    let e : Event = Step (Sixel (b - 63)) in
+    let more : max (max (foot_size before).width (column 1 before + 1)) (column 1 before + 1 + suc (length ds))
+    ≡ max (foot_size before).width (column 1 before + suc (suc (length ds))) = omega arith in
+    ap (λ (es : List Event). (foot_size es).width) (first_before before b (d ∷ ds))
+    ∙ (width_over (before ++ e ∷ []) d ds
+    ∙ (ap₂ (λ (w c : ℕ). max w (c + suc (length ds))) (ap (λ (t : Size). t.width) (size_push before e))
+    (column_push 1 before e) ∙ more))
+
+pub grown_over : {g : Growing} (p : Place) (before : List Event) (bytes : List ℕ) → 0 < length bytes
+    → HasGrown g before → IsPlaceAfter 1 p (before ++ sixels_of bytes)
+    → HasGrown (record g { place = p; width = max g.width p.column }) (before ++ sixels_of bytes)
+grown_over p before [] some s place = absurd (omega (arith, some))
+grown_over {g} p before (b ∷ bs) some s place =
+    let here : p.column ≡ min (column 1 before + suc (length bs)) most =
+    place.column_is ∙ ap (λ (n : ℕ). min n most) (column_over 1 before (b ∷ bs)) in
+    record {
+      place = place;
+      width_is =
+          wider g.width p.column _ _ s.width_is here
+          ∙ ap (λ (n : ℕ). min n most) (sym (width_over before b bs));
+      height_is = s.height_is ∙ ap (λ (n : ℕ). min n most) (sym (height_over before (b ∷ bs)));
+      rows_is = s.rows_is ∙ sym (rows_over before (b ∷ bs));
+    }
+
+pub foot_plain : (before : List Event) (n : ℕ) → band_rows ≤ foot_rows before → ArePlain foot before n
+foot_plain before n down = λ earlier lt bits next.
+    let high : band_rows ≤ foot_rows (before ++ sixels_of earlier) = rw (rows_over before earlier) down in
+    ap Draws (kept_whole 1 (foot_rows (before ++ sixels_of earlier)) (Sixel bits) 1 bits (omega arith) high)

@@ -1,6 +1,6 @@
 -- The automaton of konsole, event by event.
 use Rattle.std.proofs.Common.{◌≡◌, ◌==◌, ◌&&◌, ◌||◌, ℕ, Bool, true, false, cond, not, Option, Some, None, List, []}
-use Rattle.std.proofs.Common.{◌∷◌, ◌++◌, refl, sym, ap, ap₂, ◌∙◌, arith}
+use Rattle.std.proofs.Common.{◌∷◌, ◌++◌, refl, sym, ap, ap₂, ◌∙◌, arith, ◌-◌, ◌<◌, length, subst, append-nil}
 use Rattle.std.specs.Prelude.{is_none, is_some, if◌then◌else◌}
 use Rattle.std.specs.List.{list_any}
 use Rattle.std.specs.Option.{option_map, option_or}
@@ -14,7 +14,11 @@ use Rattle.sixel_model.specs.Positions.{any_below, since}
 use Rattle.sixel_model.proofs.PositionLemmas.{since_push}
 use Rattle.sixel_models.specs.declared.konsole.Konsole.{Konsole}
 use Rattle.sixel_models.specs.Konsole.{any_followed, begins, counting, first_below, first_followed, has_begun}
-use Rattle.sixel_models.specs.Konsole.{has_late, has_unknown_system, is_late, is_stuck, konsole, konsole_move}
+use Rattle.sixel_models.specs.Konsole.{has_late, has_unknown_system, is_late, is_stuck, konsole, konsole_data}
+use Rattle.sixel_models.specs.Konsole.{konsole_move}
+use Rattle.sixel_terminal.specs.Stretches.{sixels_of}
+use Rattle.sixel_models.specs.Readings.{ArePlain}
+use Rattle.sixel_models.proofs.PlainLemmas.{first_before, same_over}
 use Rattle.sixel_models.specs.Konsole.{may_count, moves_or_ends}
 use Rattle.sixel_models.specs.KonsoleSeen.{HasSeenKonsole, begun_in, counting_in, konsole_in, may_count_in, next_begun}
 use Rattle.sixel_models.specs.KonsoleSeen.{next_declares, next_late, next_stuck, said}
@@ -148,3 +152,67 @@ konsole_is (Step CarriageReturn) next s =
     ap (λ b. konsole_move b CarriageReturn) (sym (s.begun_is (Some (Step CarriageReturn))))
 konsole_is (Step NextLine) next s = ap (λ b. konsole_move b NextLine) (sym (s.begun_is (Some (Step NextLine))))
 konsole_is (Finish eight) next s = refl
+
+-- ---- sixels
+
+or_true : (b : Bool) → true ≡ (b || true)
+or_true true = refl
+or_true false = refl
+
+begun_stays : (y n : Bool) → (y || n) ≡ (((y || n) || (false && true)) || n)
+begun_stays true n = refl
+begun_stays false true = refl
+begun_stays false false = refl
+
+none_more : {A : Type 0} (o : Option A) → o ≡ option_or o None
+none_more None = refl
+none_more (Some a) = refl
+
+-- what is noted of one sixel or more
+pub record IsPast (k l : Konsole) : Type 0 where
+  pub stuck_is : l.stuck ≡ k.stuck
+  pub late_is : l.has_late ≡ true
+  pub begun_is : l.begun ≡ (begun_in k false || not k.stuck)
+  pub declares_is : l.declares ≡ false
+  pub counting_is : option_map said l.counting ≡ counting_in k false
+  pub waiting_is : l.waiting ≡ None
+
+one_over : {k l : Konsole} {before : List Event} (bits : ℕ) → IsPast k l → HasSeenKonsole k before
+    → HasSeenKonsole l (before ++ Step (Sixel bits) ∷ [])
+one_over {k} {l} bits past s =
+    seen_push l (Step (Sixel bits)) s (past.stuck_is ∙ sym (or_false k.stuck)) (past.late_is ∙ or_true k.has_late)
+    past.begun_is past.declares_is past.counting_is (ap (option_map said) past.waiting_is)
+
+past_itself : {k l : Konsole} → IsPast k l → IsPast l l
+past_itself {k} {l} past = record {
+  stuck_is = refl;
+  late_is = past.late_is;
+  begun_is =
+      past.begun_is ∙ begun_stays (begun_in k false) (not k.stuck)
+      ∙ rw (past.declares_is, past.begun_is, past.stuck_is) refl;
+  declares_is = past.declares_is;
+  counting_is = none_more (option_map said l.counting) ∙ rw past.waiting_is refl;
+  waiting_is = past.waiting_is;
+}
+
+all_over : {l : Konsole} (before : List Event) (bytes : List ℕ) → IsPast l l → HasSeenKonsole l before
+    → HasSeenKonsole l (before ++ sixels_of bytes)
+all_over {l} before [] past s = subst (HasSeenKonsole l) (sym (append-nil before)) s
+all_over {l} before (b ∷ bs) past s =
+    subst (HasSeenKonsole l) (sym (first_before before b bs))
+    (all_over (before ++ Step (Sixel (b - 63)) ∷ []) bs past (one_over (b - 63) past s))
+
+pub konsole_over : {k l : Konsole} (before : List Event) (bytes : List ℕ) → 0 < length bytes → IsPast k l
+    → HasSeenKonsole k before → HasSeenKonsole l (before ++ sixels_of bytes)
+konsole_over before [] some past s = absurd (omega (arith, some))
+konsole_over {k} {l} before (b ∷ bs) some past s =
+    subst (HasSeenKonsole l) (sym (first_before before b bs))
+    (all_over (before ++ Step (Sixel (b - 63)) ∷ []) bs (past_itself past) (one_over (b - 63) past s))
+
+pub stuck_over : (before : List Event) (bytes : List ℕ) → is_stuck (before ++ sixels_of bytes) ≡ is_stuck before
+stuck_over before bytes =
+    same_over is_stuck (λ es bits. stuck_push es (Step (Sixel bits)) ∙ or_false (is_stuck es)) before bytes
+
+pub konsole_plain : (before : List Event) (n : ℕ) → is_stuck before ≡ false → ArePlain konsole before n
+konsole_plain before n free = λ earlier lt bits next.
+    ap (λ (b : Bool). konsole_data b (Sixel bits)) (stuck_over before earlier ∙ free)

@@ -1,8 +1,8 @@
 -- The measure of konsole's rectangle, event by event.
-use Rattle.std.proofs.Common.{◌≡◌, ◌<◌, ◌≤◌, ◌+◌, ◌*◌, ℕ, zero, suc, Bool, true, false, cond, Option, Some, None}
+use Rattle.std.proofs.Common.{◌≡◌, ◌<◌, ◌≤◌, ◌+◌, ◌-◌, ◌*◌, ℕ, zero, suc, Bool, true, false, cond, Option, Some, None}
 use Rattle.std.proofs.Common.{List, [], ◌∷◌, ◌++◌, length, map, take, max, min, refl, sym, ap, ap₂, subst, ◌∙◌}
 use Rattle.std.proofs.Common.{add-one, append-nil, arith, inl, inr}
-use Rattle.std.specs.Prelude.{slice_get, if◌then◌else◌}
+use Rattle.std.specs.Prelude.{slice_get, slice_index, if◌then◌else◌}
 use Rattle.std.specs.List.{flat_map, range_with_len}
 use Rattle.std.specs.Option.{option_map_or}
 use Rattle.std.proofs.Math.Seq.{take-append_seam}
@@ -12,7 +12,7 @@ use Rattle.std.proofs.lemmas.Grind.{flat_map-append}
 use Rattle.std.proofs.lemmas.List.{take-append-le}
 use Rattle.std.proofs.lemmas.List.Folds.{flat_map-map}
 use Rattle.std.proofs.lemmas.List.FromFn.{map-range_with_len_more}
-use Rattle.sixel_grammar.specs.declared.command.Command.TheVariants.{CarriageReturn, NextLine, Raster}
+use Rattle.sixel_grammar.specs.declared.command.Command.TheVariants.{CarriageReturn, NextLine, Raster, Sixel}
 use Rattle.sixel_grammar.specs.declared.command.Event.{Event}
 use Rattle.sixel_grammar.specs.declared.command.Event.TheVariants.{Step}
 use Rattle.sixel_model.specs.Events.{Attributes, columns_of, is_data_command, is_return}
@@ -21,15 +21,20 @@ use Rattle.sixel_model.proofs.PositionLemmas.{get_before, get_end}
 use Rattle.sixel_model.proofs.StepLemmas.{column_push}
 use Rattle.sixel_models.specs.declared.rectangle.KonsoleMeasure.{KonsoleMeasure}
 use Rattle.sixel_models.specs.declared.rectangle.Reach.{Reach}
-use Rattle.sixel_models.specs.Konsole.{column_after, event_after, greatest_at, greatest_below, konsole}
+use Rattle.sixel_terminal.specs.Stretches.{sixels_of}
+use Rattle.sixel_models.specs.Konsole.{column_after, event_after, greatest_at, greatest_below, is_stuck, konsole}
+use Rattle.sixel_models.specs.Konsole.{konsole_data}
 use Rattle.sixel_models.specs.Konsole.{konsole_drawing, counting, has_begun, konsole_opening, konsole_tall}
 use Rattle.sixel_models.specs.Konsole.{rectangle_of, row_after}
-use Rattle.sixel_models.specs.KonsoleMeasured.{HasMeasured, IsReach, reached_columns, reached_rows, rectangle_by}
+use Rattle.sixel_models.specs.KonsoleMeasured.{HasMeasured, IsReach, drawn_sixels, reached_columns, reached_rows}
+use Rattle.sixel_models.specs.KonsoleMeasured.{rectangle_by}
 use Rattle.sixel_models.specs.KonsoleMeasured.{rectangle_in}
 use Rattle.sixel_models.specs.KonsoleSeen.{HasSeenKonsole, begun_in, counting_in}
 use Rattle.sixel_models.specs.Places.{IsPlaceAfter, most}
 use Rattle.sixel_models.specs.Readings.{drawn_by}
 use Rattle.sixel_models.proofs.FollowedLemmas.{after_before, after_end, length_push}
+use Rattle.sixel_models.proofs.KonsoleLemmas.{stuck_over}
+use Rattle.sixel_models.proofs.PlainLemmas.{band_over, column_over, first_before}
 
 -- ---- what is drawn of one more event
 
@@ -196,3 +201,98 @@ pub opening_none : {m : KonsoleMeasure} (events : List Event) → HasMeasured m 
     → begun_in m.reading false ≡ false → konsole_opening events ≡ []
 opening_none {m} events s begun =
     let is : has_begun events None ≡ false = s.seen.begun_is None ∙ begun in rw is refl
+
+-- ---- sixels
+
+pub columns_over : (drawing : List Event) (b : ℕ) (bs : List ℕ)
+    → greatest_at column_after (drawing ++ sixels_of (b ∷ bs))
+    ≡ max (greatest_at column_after drawing) (column 1 drawing + suc (length bs))
+columns_over drawing b [] = greatest_push column_after drawing (Step (Sixel (b - 63)))
+columns_over drawing b (d ∷ ds) =
+    let e : Event = Step (Sixel (b - 63)) in
+    let more : max (max (greatest_at column_after drawing) (column 1 drawing + 1))
+    (column 1 drawing + 1 + suc (length ds))
+    ≡ max (greatest_at column_after drawing) (column 1 drawing + suc (suc (length ds))) = omega arith in
+    ap (greatest_at column_after) (first_before drawing b (d ∷ ds))
+    ∙ (columns_over (drawing ++ e ∷ []) d ds
+    ∙ (ap₂ (λ (g c : ℕ). max g (c + suc (length ds))) (greatest_push column_after drawing e) (column_push 1 drawing e)
+    ∙ more))
+
+pub rows_over : (drawing : List Event) (b : ℕ) (bs : List ℕ)
+    → greatest_at row_after (drawing ++ sixels_of (b ∷ bs)) ≡ max (greatest_at row_after drawing) (6 * band drawing + 6)
+rows_over drawing b [] = greatest_push row_after drawing (Step (Sixel (b - 63)))
+rows_over drawing b (d ∷ ds) =
+    let e : Event = Step (Sixel (b - 63)) in
+    let more : max (max (greatest_at row_after drawing) (6 * band drawing + 6)) (6 * band drawing + 6)
+    ≡ max (greatest_at row_after drawing) (6 * band drawing + 6) = omega arith in
+    ap (greatest_at row_after) (first_before drawing b (d ∷ ds))
+    ∙ (rows_over (drawing ++ e ∷ []) d ds
+    ∙ (ap₂ (λ (g k : ℕ). max g (6 * k + 6)) (greatest_push row_after drawing e) (band_over drawing (b ∷ [])) ∙ more))
+
+reached : (g r p c n : ℕ) → r ≡ min g most → p ≡ min (c + n) most → max r p ≡ min (max g (c + n)) most
+reached g r p c n is at = omega (arith, is, at)
+
+lower : (g h r b : ℕ) → r ≡ min g most → b ≡ min h most
+    → max r (min (6 * b + 6) most) ≡ min (max g (6 * h + 6)) most
+lower g h r b is at = omega (arith, is, at)
+
+pub reach_over : {r : Reach} (q : Reach) (drawing : List Event) (bytes : List ℕ) → 0 < length bytes → IsReach r drawing
+    → IsPlaceAfter 1 q.place (drawing ++ sixels_of bytes) → q.columns ≡ max r.columns q.place.column
+    → q.rows ≡ max r.rows (min (6 * r.place.band + 6) most) → IsReach q (drawing ++ sixels_of bytes)
+reach_over q drawing [] some s at columns rows = absurd (omega (arith, some))
+reach_over {r} q drawing (b ∷ bs) some s at columns rows =
+    let here : q.place.column ≡ min (column 1 drawing + suc (length bs)) most =
+    at.column_is ∙ ap (λ (n : ℕ). min n most) (column_over 1 drawing (b ∷ bs)) in
+    record {
+      place_is = at;
+      columns_are =
+          columns
+          ∙ (reached (greatest_at column_after drawing) r.columns q.place.column (column 1 drawing) (suc (length bs))
+          s.columns_are here
+          ∙ ap (λ (n : ℕ). min n most) (sym (columns_over drawing b bs)));
+      rows_are =
+          rows
+          ∙ (lower (greatest_at row_after drawing) (band drawing) r.rows r.place.band s.rows_are s.place_is.band_is
+          ∙ ap (λ (n : ℕ). min n most) (sym (rows_over drawing b bs)));
+    }
+
+one_drawn : (stuck : Bool) (drawing : List Event) (b : ℕ)
+    → drawing ++ drawn_by (konsole_data stuck (Sixel (b - 63))) ≡ drawing ++ drawn_sixels stuck (b ∷ [])
+one_drawn true drawing b = refl
+one_drawn false drawing b = refl
+
+more_drawn : (stuck : Bool) (drawing : List Event) (b d : ℕ) (ds : List ℕ)
+    → (drawing ++ drawn_by (konsole_data stuck (Sixel (b - 63)))) ++ drawn_sixels stuck (d ∷ ds)
+    ≡ drawing ++ drawn_sixels stuck (b ∷ d ∷ ds)
+more_drawn true drawing b d ds = append-nil (drawing ++ [])
+more_drawn false drawing b d ds = sym (first_before drawing b (d ∷ ds))
+
+pub drawing_over : (before : List Event) (b : ℕ) (bs : List ℕ) (last : ℕ)
+    → konsole_drawing (before ++ sixels_of (b ∷ bs)) (Some (Step (Sixel last)))
+    ≡ konsole_drawing before (Some (Step (Sixel (b - 63)))) ++ drawn_sixels (is_stuck before) (b ∷ bs)
+drawing_over before b [] last =
+    drawing_push before (Step (Sixel (b - 63))) (Some (Step (Sixel last)))
+    ∙ one_drawn (is_stuck before) (konsole_drawing before (Some (Step (Sixel (b - 63))))) b
+drawing_over before b (d ∷ ds) last =
+    let e : Event = Step (Sixel (b - 63)) in
+    ap (λ (es : List Event). konsole_drawing es (Some (Step (Sixel last)))) (first_before before b (d ∷ ds))
+    ∙ (drawing_over (before ++ e ∷ []) d ds last
+    ∙ (ap₂ (λ (es : List Event) (s : Bool). es ++ drawn_sixels s (d ∷ ds))
+    (drawing_push before e (Some (Step (Sixel (d - 63))))) (stuck_over before (b ∷ []))
+    ∙ more_drawn (is_stuck before) (konsole_drawing before (Some e)) b d ds))
+
+pub measured_over : {m : KonsoleMeasure} (n : KonsoleMeasure) (before : List Event) (bytes : List ℕ) (last : ℕ)
+    → 0 < length bytes → HasMeasured m before (Some (Step (Sixel (slice_index bytes 0 - 63))))
+    → HasSeenKonsole n.reading (before ++ sixels_of bytes)
+    → ((drawing : List Event) → IsReach m.reach drawing
+    → IsReach n.reach (drawing ++ drawn_sixels m.reading.stuck bytes))
+    → HasMeasured n (before ++ sixels_of bytes) (Some (Step (Sixel last)))
+measured_over n before [] last some s seen reach = absurd (omega (arith, some))
+measured_over {m} n before (b ∷ bs) last some s seen reach = record {
+  seen = seen;
+  reach = subst (IsReach n.reach)
+      (ap (λ (x : Bool). konsole_drawing before (Some (Step (Sixel (b - 63)))) ++ drawn_sixels x (b ∷ bs))
+      s.seen.stuck_is
+      ∙ sym (drawing_over before b bs last))
+      (reach _ s.reach);
+}

@@ -3,8 +3,8 @@ pub mod KonsoleLemmas
 pub mod KonsoleMeasureLemmas
 pub mod KonsoleReadLemmas
 pub mod MlTermLemmas
-pub mod OtherSettingLemmas
 pub mod PlaceLemmas
+pub mod PlainLemmas
 pub mod WordLemmas
 pub mod XTermLemmas
 pub mod FootLemmas
@@ -12,3 +12,7 @@ pub mod FootColourLemmas
 pub mod SettingLemmas
 pub mod PositionLemmas
 pub mod CourseLemmas
+pub mod ProgressLemmas
+pub mod ModelledLemmas
+pub mod NamedLemmas
+pub mod ShowingLemmas

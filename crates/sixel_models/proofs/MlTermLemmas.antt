@@ -1,7 +1,7 @@
 -- The automaton of mlterm, event by event.
 use Rattle.std.proofs.Common.{◌≡◌, ◌==◌, ◌<◌, ◌+◌, ◌*◌, ◌^◌, ◌&&◌, ◌||◌, ℕ, Bool, true, false, Option, Some, None}
 use Rattle.std.proofs.Common.{List, [], ◌∷◌, ◌++◌, length, get_or, set, replicate, min, refl, sym, ap, ap₂, ◌∙◌}
-use Rattle.std.proofs.Common.{subst, arith}
+use Rattle.std.proofs.Common.{subst, arith, zero, suc, not, ◌-◌, ◌≤◌, append-nil}
 use Rattle.std.specs.Prelude.{IfSome, is_some, nat_lt, nat_le, if◌then◌else◌}
 use Rattle.std.specs.List.{list_any}
 use Rattle.sixel_model.specs.declared.colour.Parts.{Parts}
@@ -9,7 +9,7 @@ use Rattle.sixel_model.specs.Rules.{is_that}
 use Rattle.std.specs.Option.{option_map, option_map_or, option_or}
 use Rattle.std.proofs.lemmas.List.{get_or-replicate}
 use Rattle.std.proofs.Math.Bool.{or_comm}
-use Rattle.std.proofs.lemmas.Bool.{eqb-false, eqb-true}
+use Rattle.std.proofs.lemmas.Bool.{eqb-false, eqb-true, lt-ltb, or_parts}
 use Rattle.std.proofs.lemmas.Bool.Decides.{nat_tests}
 use Rattle.std.proofs.lemmas.List.Folds.{list_any-append}
 use Rattle.std.proofs.lemmas.List.{get_or-set_other, get_or-set_same, length-set}
@@ -18,19 +18,22 @@ use Rattle.sixel_grammar.specs.declared.command.Command.TheVariants.{Sixel, Repe
 use Rattle.sixel_grammar.specs.declared.command.Command.TheVariants.{CarriageReturn, NextLine}
 use Rattle.sixel_grammar.specs.declared.command.Event.{Event}
 use Rattle.sixel_grammar.specs.declared.command.Event.TheVariants.{Start, Step, Finish}
-use Rattle.sixel_model.specs.Events.{columns_of, is_data_command, named_by}
+use Rattle.sixel_model.specs.Events.{columns_of, is_data_command, is_painting, named_by}
 use Rattle.sixel_model.specs.Events.{raster_of}
 use Rattle.sixel_model.specs.Geometry.{band, column}
 use Rattle.sixel_model.specs.Positions.{any_at, any_below, latest}
 use Rattle.sixel_model.proofs.PositionLemmas.{any_at_push, latest_push}
+use Rattle.sixel_model.proofs.StepLemmas.{column_push}
+use Rattle.sixel_terminal.specs.Stretches.{sixels_of}
+use Rattle.sixel_models.proofs.PlainLemmas.{band_over, data_over, first_before, place_over, same_over}
 use Rattle.sixel_models.specs.declared.place.Place.{Place}
 use Rattle.sixel_models.specs.declared.mlterm.MlTerm.{MlTerm}
 use Rattle.sixel_models.specs.declared.mlterm.Sides.{Sides}
 use Rattle.sixel_models.specs.MlTerm.{Box, coloured_by, has_data, has_left_mlterm, has_raster_below, height_of}
-use Rattle.sixel_models.specs.MlTerm.{is_coloured_mlterm, is_raster_below, is_unsaid_data, least_box}
+use Rattle.sixel_models.specs.MlTerm.{is_below, is_coloured_mlterm, is_raster_below, is_unsaid_data, least_box}
 use Rattle.sixel_models.specs.MlTerm.{leaves_from, leaves_mlterm, mlterm, mlterm_box, mlterm_box_of, mlterm_data}
 use Rattle.sixel_models.specs.MlTerm.{mlterm_register, mlterm_selected, width_of}
-use Rattle.sixel_models.specs.MlTermSeen.{AreNarrow, HasSeenMlTerm, box_of_sides, data_in, mlterm_in}
+use Rattle.sixel_models.specs.MlTermSeen.{AreNarrow, HasSeenMlTerm, box_of_sides, columns_said, data_in, mlterm_in}
 use Rattle.sixel_models.specs.MlTermSeen.{next_coloured, next_data, next_left, next_raster_below, next_selected}
 use Rattle.sixel_models.specs.MlTermSeen.{stored_box}
 use Rattle.sixel_models.specs.declared.reading.Reads.TheVariants.{Draws, Unsaid}
@@ -278,3 +281,207 @@ mlterm_is (Step (Repeat count bits)) next s = data_is (Repeat count bits) s
 mlterm_is (Step CarriageReturn) next s = refl
 mlterm_is (Step NextLine) next s = refl
 mlterm_is (Finish eight) next s = refl
+
+-- ---- sixels
+
+box_over : (before : List Event) (bytes : List ℕ) → mlterm_box (before ++ sixels_of bytes) ≡ mlterm_box before
+box_over before bytes =
+    same_over mlterm_box (λ es bits. box_push es (Step (Sixel bits)) ∙ least_none (mlterm_box es)) before bytes
+
+selected_over : (before : List Event) (bytes : List ℕ)
+    → mlterm_selected (before ++ sixels_of bytes) ≡ mlterm_selected before
+selected_over before bytes =
+    same_over mlterm_selected
+    (λ es bits. ap (λ (o : Option ℕ). option_map_or mlterm_register o 0) (latest_push named_by es (Step (Sixel bits))))
+    before bytes
+
+coloured_over : (before : List Event) (bytes : List ℕ) (r : ℕ)
+    → is_coloured_mlterm (before ++ sixels_of bytes) r ≡ is_coloured_mlterm before r
+coloured_over before bytes r =
+    same_over (λ es. is_coloured_mlterm es r)
+    (λ es bits. coloured_push es (Step (Sixel bits)) r ∙ or_false (is_coloured_mlterm es r)) before bytes
+
+lowered_over : (before : List Event) (bytes : List ℕ)
+    → has_raster_below (before ++ sixels_of bytes) ≡ has_raster_below before
+lowered_over before bytes =
+    same_over has_raster_below (λ es bits. raster_below_push es (Step (Sixel bits))) before bytes
+
+-- some of so many sixels leaves the box: they stand below it, or end right of it
+abbrev leave : Option Box → ℕ → ℕ → ℕ → Bool
+leave b left line n = is_below b line || nat_lt (width_of b) (left + n)
+
+one_leaves : (left right below : Bool) → ((right || below) || left) ≡ (left || (below || right))
+one_leaves true true true = refl
+one_leaves true true false = refl
+one_leaves true false true = refl
+one_leaves true false false = refl
+one_leaves false true true = refl
+one_leaves false true false = refl
+one_leaves false false true = refl
+one_leaves false false false = refl
+
+more_leave : (left right below further : Bool) → (right ≡ true → further ≡ true)
+    → (((right || below) || left) || (below || further)) ≡ (left || (below || further))
+more_leave true right true further h = more_true right
+  where
+    more_true : (b : Bool) → (((b || true) || true) || (true || further)) ≡ true
+    more_true true = refl
+    more_true false = refl
+more_leave true true false further h = refl
+more_leave true false false further h = refl
+more_leave false true true further h = refl
+more_leave false false true further h = refl
+more_leave false true false further h = sym (h refl)
+more_leave false false false further h = refl
+
+further_right : (w c n : ℕ) → nat_lt w (c + 1) ≡ true → nat_lt w (c + suc (suc n)) ≡ true
+further_right w c n h = grind (arith, nat_tests)
+
+left_over : (before : List Event) (b : ℕ) (bs : List ℕ)
+    → has_left_mlterm (before ++ sixels_of (b ∷ bs))
+    ≡ (has_left_mlterm before || leave (mlterm_box before) (column 0 before) (band before) (suc (length bs)))
+left_over before b [] =
+    left_push before (Step (Sixel (b - 63)))
+    ∙ one_leaves (has_left_mlterm before) (nat_lt (width_of (mlterm_box before)) (column 0 before + 1))
+    (is_below (mlterm_box before) (band before))
+left_over before b (d ∷ ds) =
+    let e : Event = Step (Sixel (b - 63)) in
+    let box : mlterm_box (before ++ e ∷ []) ≡ mlterm_box before = box_over before (b ∷ []) in
+    let across : column 0 (before ++ e ∷ []) + suc (length ds) ≡ column 0 before + suc (suc (length ds)) =
+    ap (λ (n : ℕ). n + suc (length ds)) (column_push 0 before e) ∙ omega arith in
+    let down : band (before ++ e ∷ []) ≡ band before = band_over before (b ∷ []) in
+    ap has_left_mlterm (first_before before b (d ∷ ds))
+    ∙ (left_over (before ++ e ∷ []) d ds
+    ∙ (rw (box, across, down, left_push before e)
+    (more_leave (has_left_mlterm before) (nat_lt (width_of (mlterm_box before)) (column 0 before + 1))
+    (is_below (mlterm_box before) (band before))
+    (nat_lt (width_of (mlterm_box before)) (column 0 before + suc (suc (length ds))))
+    (further_right (width_of (mlterm_box before)) (column 0 before) (length ds)))))
+
+leave_capped : (b : Option Box) (c l n : ℕ) → IsSmall b → leave b (min c most) (min l most) n ≡ leave b c l n
+leave_capped b c l n small =
+    ap₂ (λ x y. x || y) (top_test (height_of b) l small.height)
+    (column_test (width_of b) c n (omega (arith, small.width)))
+
+data_seen : (before : List Event) (bytes : List ℕ) → 0 < length bytes → true ≡ has_data (before ++ sixels_of bytes)
+data_seen before bytes some =
+    let one : nat_lt 0 (length bytes) ≡ true = lt-ltb 0 (length bytes) some in
+    or_end (list_any is_data_command before) ∙ sym (data_over before bytes
+    ∙ ap (λ (b : Bool). list_any is_data_command before || b) one)
+  where
+    or_end : (b : Bool) → true ≡ (b || true)
+    or_end true = refl
+    or_end false = refl
+
+pub mlterm_over : {m : MlTerm} (p : Place) (before : List Event) (bytes : List ℕ) → 0 < length bytes
+    → HasSeenMlTerm m before → IsPlaceAfter 0 p (before ++ sixels_of bytes)
+    → HasSeenMlTerm (record m {
+      place = p;
+      has_left = m.has_left || leave (stored_box m) m.place.column m.place.band (length bytes);
+      has_data = true;
+    }) (before ++ sixels_of bytes)
+mlterm_over p before [] some s moved = absurd (omega (arith, some))
+mlterm_over {m} p before (b ∷ bs) some s moved = record {
+  place_is = moved;
+  selected_is = s.selected_is ∙ sym (selected_over before (b ∷ bs));
+  registers = s.registers;
+  coloured_is = λ r lt. s.coloured_is r lt ∙ sym (coloured_over before (b ∷ bs) r);
+  box_is = s.box_is ∙ sym (box_over before (b ∷ bs));
+  narrow = s.narrow;
+  left_is = rw (s.left_is, s.box_is, s.place_is.column_is, s.place_is.band_is)
+      (ap (λ (x : Bool). has_left_mlterm before || x)
+      (leave_capped (mlterm_box before) (column 0 before) (band before) (suc (length bs)) (seen_small s))
+      ∙ sym (left_over before b bs));
+  lowered_is = s.lowered_is ∙ sym (lowered_over before (b ∷ bs));
+  passed_is = data_seen before (b ∷ bs) some;
+}
+
+-- ---- what is said of them
+
+not_past : (c j : ℕ) (deep : Bool) → c + j + 1 ≤ 32767 → deep ≡ false → (nat_lt 32767 (c + j + 1) || deep) ≡ false
+not_past c j deep le none = rw none (grind (arith, nat_tests))
+
+not_far : (paints : Bool) (w c j : ℕ) (deep : Bool) → c + j + 1 ≤ w + 512 → deep ≡ false
+    → (paints && (nat_lt (w + 512) (c + j + 1) || deep)) ≡ false
+not_far paints w c j deep le none = rw none (grind (arith, nat_tests))
+
+and_false : (a b : Bool) → b ≡ false → (a && b) ≡ false
+and_false true b h = h
+and_false false b h = refl
+
+-- the corner is at the first of them, or not at all
+no_corner : (b : Option Box) (left : Bool) (c l j : ℕ)
+    → (is_some b && (not left && (nat_lt (width_of b) (c + 1) && is_below b l))) ≡ false
+    → (is_some b && (not (left || (nat_lt 0 j && leave b c l j)) && (nat_lt (width_of b) (c + j + 1) && is_below b l)))
+    ≡ false
+no_corner b left c l zero h =
+    rw (or_false left) (subst
+    (λ (n : ℕ). (is_some b && (not left && (nat_lt (width_of b) n && is_below b l))) ≡ false) (omega arith) h)
+no_corner b left c l (suc j) h = passed (is_some b) left (is_below b l)
+    (nat_lt (width_of b) (c + suc j)) (nat_lt (width_of b) (c + suc j + 1))
+  where
+    passed : (s a below far further : Bool)
+        → (s && (not (a || (nat_lt 0 (suc j) && (below || far))) && (further && below))) ≡ false
+    passed s a below far further = grind (arith, nat_tests)
+
+-- a sixel further right is said, if one here is
+said_on : (b : Option Box) (left : Bool) (c l selected : ℕ) (coloured : Bool) (j bits : ℕ) (later : Bool)
+    → is_unsaid_data b left c l selected coloured (Step (Sixel 63)) ≡ false → j < columns_said b c
+    → later ≡ (left || (nat_lt 0 j && leave b c l j))
+    → is_unsaid_data b later (c + j) l selected coloured (Step (Sixel bits)) ≡ false
+said_on b left c l selected coloured j bits later first lt is =
+    let past = or_parts (nat_lt 32767 (c + 1) || nat_lt 32767 (6 * l)) _ first in
+    let far = or_parts (nat_lt (width_of b + 512) (c + 1) || nat_lt (height_of b + 512) (6 * l + 6)) _ past.1 in
+    let chance = or_parts (nat_lt 255 selected && not coloured) _ far.1 in
+    let deep = (or_parts (nat_lt 32767 (c + 1)) (nat_lt 32767 (6 * l)) past.0).1 in
+    let low = (or_parts (nat_lt (width_of b + 512) (c + 1)) (nat_lt (height_of b + 512) (6 * l + 6)) far.0).1 in
+    rw (
+      is,
+      not_past c j (nat_lt 32767 (6 * l)) (omega (arith, lt)) deep,
+      not_far (is_painting (Step (Sixel bits))) (width_of b) c j (nat_lt (height_of b + 512) (6 * l + 6))
+          (omega (arith, lt)) low,
+      and_false (is_painting (Step (Sixel bits))) (nat_lt 255 selected && not coloured) chance.0,
+      no_corner b left c l j chance.1,
+    ) refl
+
+draws_if_said : (u : Bool) (command : Command) → u ≡ false → (if u then Unsaid else Draws command) ≡ Draws command
+draws_if_said true command is = cc
+draws_if_said false command is = refl
+
+some_more : (n : ℕ) → nat_lt 0 (suc n) ≡ true
+some_more n = grind (arith, nat_tests)
+
+pub said_after : {m : MlTerm} (before : List Event) (earlier : List ℕ) (bits : ℕ) → HasSeenMlTerm m before
+    → is_unsaid_data (stored_box m) m.has_left m.place.column m.place.band m.selected
+    (get_or m.coloured m.selected false) (Step (Sixel 63)) ≡ false
+    → length earlier < columns_said (stored_box m) m.place.column
+    → mlterm_data (before ++ sixels_of earlier) (Sixel bits) ≡ Draws (Sixel bits)
+said_after {m} before [] bits s first lt =
+    let here : m.place.column + 0 ≡ m.place.column = omega arith in
+    let said : is_unsaid_data (stored_box m) m.has_left (m.place.column + 0) m.place.band m.selected
+    (get_or m.coloured m.selected false) (Step (Sixel bits)) ≡ false =
+    said_on (stored_box m) m.has_left m.place.column m.place.band m.selected (get_or m.coloured m.selected false) 0 bits
+    m.has_left first lt (sym (or_false m.has_left)) in
+    ap (λ (es : List Event). mlterm_data es (Sixel bits)) (append-nil before)
+    ∙ (sym (data_is (Sixel bits) s)
+    ∙ draws_if_said _ (Sixel bits)
+    (subst (λ (n : ℕ). is_unsaid_data (stored_box m) m.has_left n m.place.band m.selected
+    (get_or m.coloured m.selected false) (Step (Sixel bits)) ≡ false) here said))
+said_after {m} before (b ∷ bs) bits s first lt =
+    let n : ℕ = suc (length bs) in
+    let left : Bool = m.has_left || leave (stored_box m) m.place.column m.place.band n in
+    let p : Place = record { column = min (m.place.column + n) most; band = m.place.band } in
+    let later : HasSeenMlTerm (record m { place = p; has_left = left; has_data = true })
+    (before ++ sixels_of (b ∷ bs)) =
+    mlterm_over p before (b ∷ bs) (omega arith) s (place_over 0 m.place p (b ∷ bs) s.place_is refl refl) in
+    let at : m.place.column + n ≡ min (m.place.column + n) most = omega (arith, lt) in
+    let said : is_unsaid_data (stored_box m) left (m.place.column + n) m.place.band m.selected
+    (get_or m.coloured m.selected false) (Step (Sixel bits)) ≡ false =
+    said_on (stored_box m) m.has_left m.place.column m.place.band m.selected (get_or m.coloured m.selected false) n bits
+    left first lt
+    (ap (λ (x : Bool). m.has_left || (x && leave (stored_box m) m.place.column m.place.band n))
+    (sym (some_more (length bs)))) in
+    sym (data_is (Sixel bits) later)
+    ∙ draws_if_said _ (Sixel bits)
+    (subst (λ (k : ℕ). is_unsaid_data (stored_box m) left k m.place.band m.selected
+    (get_or m.coloured m.selected false) (Step (Sixel bits)) ≡ false) at said)

@@ -1,16 +1,60 @@
 -- The plain terminals are terminals.
-use Rattle.std.proofs.Common.{◌≡◌, ◌==◌, ◌&&◌, ◌*◌, ℕ, true, length, None, replicate, arith, eq-eqb, refl}
+use Rattle.std.proofs.Common.{◌≡◌, ◌<◌, ◌==◌, ◌&&◌, ◌*◌, ℕ, true, false, length, None, replicate}
+use Rattle.std.proofs.Common.{arith, eq-eqb, refl}
 use Rattle.std.specs.Prelude.{nat_lt}
 use Rattle.std.proofs.lemmas.Bool.Decides.{nat_tests}
 use Rattle.std.proofs.lemmas.List.{length-replicate}
+use Rattle.std.proofs.lemmas.List.FromFn.{length-map-range_with_len}
 use Rattle.sixel_model.specs.declared.colour.Parts.{Parts}
 use Rattle.sixel_terminal.specs.Limits.{is_screen_side, plain_screen, terminal_fault}
-use Rattle.sixel_models.specs.Settings.{foot_choices, foot_colours}
+use Rattle.sixel_models.specs.Settings.{foot_choices, foot_colours, konsole_choices, konsole_colours, konsole_start}
+use Rattle.sixel_models.specs.Settings.{mlterm_choices, mlterm_colours, mlterm_start, xterm_choices, xterm_colours}
+use Rattle.sixel_models.specs.Settings.{xterm_start}
 
-pub foot_without_fault : (background : Parts) (second w h : ℕ) → (is_screen_side w && is_screen_side h) ≡ true
-    → terminal_fault (foot_choices w h) (foot_colours background second) (plain_screen (foot_choices w h) background)
+-- ---- how many registers
+
+xterm_count : length xterm_colours ≡ 1024
+unfolding xterm_colours
+xterm_count = length-map-range_with_len xterm_start 0 1024
+
+mlterm_count : (background : Parts) → length (mlterm_colours background) ≡ 1024
+unfolding mlterm_colours
+mlterm_count background = length-map-range_with_len (mlterm_start background) 0 1024
+
+konsole_count : length konsole_colours ≡ 256
+unfolding konsole_colours
+konsole_count = length-map-range_with_len konsole_start 0 256
+
+-- ---- no fault
+
+pub xterm_without_fault : (background : Parts) (w h : ℕ) → (is_screen_side w && is_screen_side h) ≡ true
+    → terminal_fault (xterm_choices w h) xterm_colours (plain_screen (xterm_choices w h) background) ≡ None
+xterm_without_fault background w h sides =
+    let count = xterm_count in
+    let screen : (length (replicate (w * h) background) == w * h) ≡ true =
+    eq-eqb (length (replicate (w * h) background)) (w * h) (length-replicate (w * h) background) in
+    let across : is_screen_side w ≡ true = grind (arith, nat_tests) in
+    let down : is_screen_side h ≡ true = grind (arith, nat_tests) in
+    let left : nat_lt 0 w ≡ true = grind (arith, nat_tests) in
+    let top : nat_lt 0 h ≡ true = grind (arith, nat_tests) in
+    rw (count, screen, across, down, left, top) refl
+
+pub mlterm_without_fault : (background : Parts) (w h : ℕ) → (is_screen_side w && is_screen_side h) ≡ true
+    → terminal_fault (mlterm_choices w h) (mlterm_colours background) (plain_screen (mlterm_choices w h) background)
     ≡ None
-foot_without_fault background second w h sides =
+mlterm_without_fault background w h sides =
+    let count = mlterm_count background in
+    let screen : (length (replicate (w * h) background) == w * h) ≡ true =
+    eq-eqb (length (replicate (w * h) background)) (w * h) (length-replicate (w * h) background) in
+    let across : is_screen_side w ≡ true = grind (arith, nat_tests) in
+    let down : is_screen_side h ≡ true = grind (arith, nat_tests) in
+    let left : nat_lt 0 w ≡ true = grind (arith, nat_tests) in
+    let top : nat_lt 0 h ≡ true = grind (arith, nat_tests) in
+    rw (count, screen, across, down, left, top) refl
+
+pub foot_without_fault : (background : Parts) (w h : ℕ) → (is_screen_side w && is_screen_side h) ≡ true
+    → terminal_fault (foot_choices w h) (foot_colours background) (plain_screen (foot_choices w h) background) ≡ None
+foot_without_fault background w h sides =
     let screen : (length (replicate (w * h) background) == w * h) ≡ true =
     eq-eqb (length (replicate (w * h) background)) (w * h) (length-replicate (w * h) background) in
     let across : is_screen_side w ≡ true = grind (arith, nat_tests) in
@@ -18,3 +62,18 @@ foot_without_fault background second w h sides =
     let left : nat_lt 0 w ≡ true = grind (arith, nat_tests) in
     let top : nat_lt 0 h ≡ true = grind (arith, nat_tests) in
     rw (screen, across, down, left, top) refl
+
+pub konsole_without_fault : (background : Parts) (tall w h : ℕ) → 0 < tall
+    → (is_screen_side w && is_screen_side h) ≡ true
+    → terminal_fault (konsole_choices tall w h) konsole_colours (plain_screen (konsole_choices tall w h) background)
+    ≡ None
+konsole_without_fault background tall w h some sides =
+    let count = konsole_count in
+    let screen : (length (replicate (w * h) background) == w * h) ≡ true =
+    eq-eqb (length (replicate (w * h) background)) (w * h) (length-replicate (w * h) background) in
+    let high : (tall == 0) ≡ false = grind (arith, nat_tests) in
+    let across : is_screen_side w ≡ true = grind (arith, nat_tests) in
+    let down : is_screen_side h ≡ true = grind (arith, nat_tests) in
+    let left : nat_lt 0 w ≡ true = grind (arith, nat_tests) in
+    let top : nat_lt 0 h ≡ true = grind (arith, nat_tests) in
+    rw (count, high, screen, across, down, left, top) refl

@@ -1,6 +1,8 @@
 -- How far a model has come in a string.
-use Rattle.std.specs.Prelude.{◌≡◌, ◌<◌, ℕ, Bool, true, List, Some, slice_get, if◌then◌else◌}
+use Rattle.std.specs.Prelude.{◌≡◌, ◌<◌, ◌-◌, ℕ, suc, Bool, true, List, [], ◌∷◌, Some, slice_get, if◌then◌else◌, ⊤}
+use Rattle.sixel_grammar.specs.declared.command.Command.TheVariants.{Sixel}
 use Rattle.sixel_grammar.specs.declared.command.Event.{Event}
+use Rattle.sixel_grammar.specs.declared.command.Event.TheVariants.{Step}
 use Rattle.sixel_models.specs.declared.course.Course.{Course}
 use Rattle.sixel_models.specs.declared.course.Course.TheVariants.{Goes, Stopped, Ended}
 use Rattle.sixel_models.specs.declared.reading.Reads.{Reads}
@@ -36,6 +38,12 @@ IsCourse m events n Ended = HasEnded m events n
 pub record IsAt (m : Model) (events : List Event) (n : ℕ) (e : Event) (reads : Reads) : Type 0 where
   pub here : slice_get events n ≡ Some e
   pub reads_are : reads ≡ read_at m events n
+
+-- the terminal draws these sixels as they are, at the positions from n on
+abbrev pub AreDrawn : Model → List Event → ℕ → List ℕ → Type 0
+AreDrawn m events n [] = ⊤
+AreDrawn m events n (byte ∷ bytes) =
+    IsAt m events n (Step (Sixel (byte - 63))) (Draws (Sixel (byte - 63))) × AreDrawn m events (suc n) bytes
 
 -- ---- the course with one more event. Only the contract of a private function cites these
 

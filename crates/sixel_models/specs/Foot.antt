@@ -2,9 +2,10 @@
 -- filled with the background, which on a screen of one colour is kept. The picture has a size, and of the band in which
 -- it ends, what is painted below it is lost.
 use Rattle.std.specs.Prelude.{◌==◌, ◌&&◌, ◌||◌, ℕ, ◌+◌, ◌-◌, ◌*◌, Bool, true, false, List, Option}
-use Rattle.std.specs.Prelude.{max, min, nat_le, nat_lt, if◌then◌else◌}
+use Rattle.std.specs.Prelude.{max, min, nat_le, nat_lt, slice_index_or, if◌then◌else◌}
 use Rattle.std.specs.List.{list_any}
 use Rattle.std.specs.Option.{option_and_then, option_map_or}
+use Rattle.sixel_grammar.specs.declared.command.Command.{Command}
 use Rattle.sixel_grammar.specs.declared.command.Command.TheVariants.{Sixel, Repeat, Raster, Select, Define}
 use Rattle.sixel_grammar.specs.declared.command.Command.TheVariants.{CarriageReturn, NextLine}
 use Rattle.sixel_grammar.specs.declared.command.Event.{Event}
@@ -16,7 +17,7 @@ use Rattle.sixel_model.specs.Positions.{latest}
 use Rattle.sixel_models.specs.declared.reading.Reads.{Reads}
 use Rattle.sixel_models.specs.declared.reading.Reads.TheVariants.{Nothing, Draws, DrawsTwo, Unsaid}
 use Rattle.sixel_models.specs.Readings.{Model, Rule, no_opening}
-use Rattle.sixel_models.specs.Words.{after_each, defining, nearest, upper}
+use Rattle.sixel_models.specs.Words.{after_each, defining, kept, nearest}
 
 -- ---- colours
 
@@ -40,6 +41,10 @@ foot_pen = 0
 
 abbrev pub foot_undefined : ℕ
 foot_undefined = 1
+
+-- by the introducer: what was never defined paints the background if P2 is 1, otherwise black
+abbrev pub foot_introducer : ℕ → Reads
+foot_introducer second = if second == 1 then Nothing else Draws (Define foot_undefined 2 0 0 0)
 
 -- the pen takes the colour that the register has by now
 abbrev pub foot_select : List Event → ℕ → Reads
@@ -109,19 +114,20 @@ foot_raster before width height next =
 abbrev pub foot_rows : List Event → ℕ
 foot_rows before = (foot_size before).height - band_rows * band before
 
--- a repeat of 0 has one column
-abbrev pub foot_data : List Event → ℕ → ℕ → Reads
-foot_data before count bits = Draws (Repeat (max 1 count) (upper (foot_rows before) bits))
+-- what a data command of so many columns with these bits paints
+abbrev pub foot_data : List Event → Command → ℕ → ℕ → Reads
+foot_data before command count bits = Draws (kept count (foot_rows before) command count bits)
 
 -- ---- all events
 
+-- a repeat of 0 has one column
 abbrev pub foot : Rule
-foot before (Start eight parameters) next = Nothing
+foot before (Start eight parameters) next = foot_introducer (slice_index_or parameters.items 1 0)
 foot before (Step (Raster pan pad width height)) next = foot_raster before width height next
 foot before (Step (Define register system x y z)) next = Nothing
 foot before (Step (Select register)) next = foot_select before register
-foot before (Step (Sixel bits)) next = foot_data before 1 bits
-foot before (Step (Repeat count bits)) next = foot_data before count bits
+foot before (Step (Sixel bits)) next = foot_data before (Sixel bits) 1 bits
+foot before (Step (Repeat count bits)) next = foot_data before (Repeat (max 1 count) bits) (max 1 count) bits
 foot before (Step CarriageReturn) next = Draws CarriageReturn
 foot before (Step NextLine) next = Draws NextLine
 foot before (Finish eight) next = Nothing

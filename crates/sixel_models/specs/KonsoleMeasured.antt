@@ -1,11 +1,12 @@
 -- What a measure of konsole's rectangle stores.
-use Rattle.std.specs.Prelude.{◌≡◌, ◌+◌, ◌*◌, ℕ, false, List, Option, max, min, if◌then◌else◌}
+use Rattle.std.specs.Prelude.{◌≡◌, ◌+◌, ◌*◌, ℕ, Bool, false, List, [], Option, max, min, if◌then◌else◌}
 use Rattle.std.specs.Option.{option_map_or}
 use Rattle.sixel_grammar.specs.declared.command.Command.{Command}
 use Rattle.sixel_grammar.specs.declared.command.Command.TheVariants.{Raster}
 use Rattle.sixel_grammar.specs.declared.command.Event.{Event}
 use Rattle.sixel_model.specs.Events.{Attributes, is_data_command}
 use Rattle.sixel_model.specs.Geometry.{band_rows}
+use Rattle.sixel_terminal.specs.Stretches.{sixels_of}
 use Rattle.sixel_models.specs.declared.rectangle.KonsoleMeasure.{KonsoleMeasure}
 use Rattle.sixel_models.specs.declared.rectangle.Reach.{Reach}
 use Rattle.sixel_models.specs.Konsole.{column_after, greatest_at, konsole_drawing, konsole_tall, row_after, side}
@@ -24,6 +25,10 @@ reached_columns r e column = if is_data_command e then max r.columns column else
 
 abbrev pub reached_rows : Reach → Event → ℕ
 reached_rows r e = if is_data_command e then max r.rows (min (band_rows * r.place.band + band_rows) most) else r.rows
+
+-- what is drawn of sixels: nothing while all is dropped
+abbrev pub drawn_sixels : Bool → List ℕ → List Event
+drawn_sixels stuck bytes = if stuck then [] else sixels_of bytes
 
 -- the measure is that of these events; `next` is the event after them
 pub record HasMeasured (m : KonsoleMeasure) (events : List Event) (next : Option Event) : Type 0 where

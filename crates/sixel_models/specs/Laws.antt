@@ -1,18 +1,25 @@
--- Strings that were shown on the real terminals, between ESC P and ESC \, and what the rules make of an event of each.
+-- Strings that were shown on the real terminals, between ESC P and ESC \, and what the rules make of each; and laws
+-- about any string.
 use Rattle.std.specs.Prelude.{◌≡◌, ℕ, ◌+◌, ◌*◌, ◌++◌, false, List, [], ◌∷◌, Option, Some, None, flat_map, is_some}
-use Rattle.std.specs.Prelude.{length}
+use Rattle.std.specs.Prelude.{◌⊎◌, length}
 use Rattle.std.specs.List.{list_any, range_with_len}
-use Rattle.sixel_grammar.specs.declared.command.Command.TheVariants.{Sixel, Repeat, Raster, Select, Define}
+use Rattle.sixel_grammar.specs.declared.command.Command.TheVariants.{Sixel, Repeat, Raster, Select, Define, NextLine}
 use Rattle.sixel_grammar.specs.declared.command.Event.{Event}
-use Rattle.sixel_grammar.specs.declared.command.Event.TheVariants.{Step}
+use Rattle.sixel_grammar.specs.declared.command.Event.TheVariants.{Step, Finish}
 use Rattle.sixel_models.specs.declared.reading.Reads.{Reads}
 use Rattle.sixel_models.specs.declared.reading.Reads.TheVariants.{Nothing, Draws, DrawsTwo, Stops, Unsaid}
 use Rattle.sixel_models.specs.declared.course.Course.TheVariants.{Goes, Stopped, Ended}
 use Rattle.sixel_models.specs.Readings.{EndsAt, IsReading, IsSaid, Model, Rule, drawn_by, read_at}
 use Rattle.sixel_models.specs.Courses.{IsCourse}
+use Rattle.sixel_model.specs.declared.colour.Parts.{Parts}
 use Rattle.sixel_model.specs.Events.{raster_of}
 use Rattle.sixel_model.specs.Geometry.{band, band_rows}
+use Rattle.sixel_terminal.specs.Screens.{Shown}
+use Rattle.sixel_models.specs.declared.named.Named.{Named}
+use Rattle.sixel_models.specs.Named.{IsScreenOn, model_of}
 use Rattle.sixel_models.specs.Foot.{foot, foot_size}
+use Rattle.sixel_models.specs.Konsole.{konsole_drawing, konsole_model, konsole_opening}
+use Rattle.sixel_models.specs.MlTerm.{mlterm}
 use Rattle.sixel_models.specs.XTerm.{xterm}
 
 -- whatever comes next
@@ -32,11 +39,11 @@ NoWidthStops = ReadsAs xterm (Step (Select 1) ∷ Step (Sixel 1) ∷ []) (Step (
 -- q"1;1;29;1"1;1;6;18#1@ fills 29 by 18
 abbrev pub GreatestSidesFill : Type 0
 GreatestSidesFill = ReadsAs xterm (Step (Raster 1 1 29 1) ∷ Step (Raster 1 1 6 18) ∷ Step (Select 1) ∷ [])
-    (Step (Sixel 1)) (DrawsTwo (Raster 1 1 29 18) (Repeat 1 1))
+    (Step (Sixel 1)) (DrawsTwo (Raster 1 1 29 18) (Sixel 1))
 
 -- q?"1;1;12;12@ fills nothing
 abbrev pub BlankSixelIsFirst : Type 0
-BlankSixelIsFirst = ReadsAs xterm (Step (Sixel 0) ∷ Step (Raster 1 1 12 12) ∷ []) (Step (Sixel 1)) (Draws (Repeat 1 1))
+BlankSixelIsFirst = ReadsAs xterm (Step (Sixel 0) ∷ Step (Raster 1 1 12 12) ∷ []) (Step (Sixel 1)) (Draws (Sixel 1))
 
 -- q#1!65535~ paints the first 1,000 columns
 abbrev pub FarColumnsAreLost : Type 0
@@ -47,7 +54,7 @@ FarColumnsAreLost =
 
 -- q"1;1;5;3~ has six rows
 abbrev pub NarrowBoxDoesNotCount : Type 0
-NarrowBoxDoesNotCount = ReadsAs foot (Step (Raster 1 1 5 3) ∷ []) (Step (Sixel 63)) (Draws (Repeat 1 63))
+NarrowBoxDoesNotCount = ReadsAs foot (Step (Raster 1 1 5 3) ∷ []) (Step (Sixel 63)) (Draws (Sixel 63))
 
 -- q"1;1;6;3~ has three
 abbrev pub WideBoxCuts : Type 0
@@ -70,6 +77,59 @@ abbrev pub PenKeepsItsColour : Type 0
 PenKeepsItsColour =
     ReadsAs foot (Step (Raster 1 1 1 1) ∷ []) (Step (Select 1)) (Draws (Select 1))
     × ReadsAs foot (Step (Raster 1 1 1 1) ∷ Step (Select 1) ∷ []) (Step (Define 1 2 100 0 0)) Nothing
+
+-- ---- mlterm
+
+-- q#1022n has a colour of chance
+abbrev pub ChanceIsUnsaid : Type 0
+ChanceIsUnsaid = ReadsAs mlterm (Step (Select 1022) ∷ []) (Step (Sixel 47)) Unsaid
+
+-- q"1;1;8;6-!31@: the repeat is right of the box and below it
+abbrev pub CornerIsUnsaid : Type 0
+CornerIsUnsaid = ReadsAs mlterm (Step (Raster 1 1 8 6) ∷ Step NextLine ∷ []) (Step (Repeat 31 1)) Unsaid
+
+-- q"1;1;1;1#0@!32767? ends the terminal
+abbrev pub FarBlankIsUnsaid : Type 0
+FarBlankIsUnsaid =
+    ReadsAs mlterm (Step (Raster 1 1 1 1) ∷ Step (Select 0) ∷ Step (Sixel 1) ∷ []) (Step (Repeat 32767 0)) Unsaid
+
+-- q-"3;2;12;8-"2;2;13;5 ends it
+abbrev pub TwoBoxesBelowAreUnsaid : Type 0
+TwoBoxesBelowAreUnsaid =
+    ReadsAs mlterm (Step NextLine ∷ Step (Raster 3 2 12 8) ∷ Step NextLine ∷ []) (Step (Raster 2 2 13 5)) Unsaid
+
+-- q#2~: a register that was never defined paints
+abbrev pub UndefinedIsDrawn : Type 0
+UndefinedIsDrawn = ReadsAs mlterm (Step (Select 2) ∷ []) (Step (Sixel 63)) (Draws (Sixel 63))
+
+-- ---- konsole
+
+-- q#1 fills 30 by 6, though the select is dropped
+abbrev pub DroppedSelectOpens : Type 0
+DroppedSelectOpens = konsole_opening (Step (Select 1) ∷ Finish false ∷ []) ≡ Step (Raster 1 1 30 6) ∷ []
+
+-- q#256"1;1;6;6~ fills 30 by 6, too: the raster attributes are late
+abbrev pub LateRasterDoesNotCount : Type 0
+LateRasterDoesNotCount =
+    konsole_opening (Step (Select 256) ∷ Step (Raster 1 1 6 6) ∷ Step (Sixel 63) ∷ Finish false ∷ [])
+    ≡ Step (Raster 1 1 30 6) ∷ []
+
+-- q"1;1;12;12 shows nothing
+abbrev pub DroppedRasterOpensNothing : Type 0
+DroppedRasterOpensNothing = konsole_opening (Step (Raster 1 1 12 12) ∷ Finish false ∷ []) ≡ []
+
+-- q"2;1;12;13#1~ has 26 rows
+abbrev pub RatioIsTall : Type 0
+RatioIsTall =
+    konsole_opening (Step (Raster 2 1 12 13) ∷ Step (Select 1) ∷ Step (Sixel 63) ∷ Finish false ∷ [])
+    ≡ Step (Raster 2 1 12 26) ∷ []
+
+-- q#1;3;100;0;0~#2~-!40~: all is dropped up to the new line
+abbrev pub UnknownSystemSticks : Type 0
+UnknownSystemSticks =
+    konsole_opening (Step (Define 1 3 100 0 0) ∷ Step (Sixel 63) ∷ Step (Select 2) ∷ Step (Sixel 63) ∷ Step NextLine
+    ∷ Step (Repeat 40 63) ∷ Finish false ∷ [])
+    ≡ Step (Raster 1 1 40 12) ∷ []
 
 -- ---- any model
 
@@ -110,3 +170,32 @@ StopsAtAnEvent = (m : Model) (events : List Event) → IsCourse m events (length
 abbrev pub EndsAtAnEvent : Type 0
 EndsAtAnEvent = (m : Model) (events : List Event) → IsCourse m events (length events) Ended
     → (i : ℕ) × EndsAt m events i
+
+-- ---- any string on konsole
+
+-- the reading is the rectangle, and then what each event gives
+abbrev pub KonsoleIsRead : Type 0
+KonsoleIsRead = (events : List Event)
+    → IsReading konsole_model events (konsole_opening events ++ konsole_drawing events None)
+
+-- ---- named terminals
+
+-- a screen that a named terminal shows of the events is the only one
+abbrev pub ShowsOneScreen : Type 0
+ShowsOneScreen = (named : Named) (background : Parts) (sides : ℕ × ℕ) (events : List Event) (a b : Shown)
+    → IsScreenOn named background sides events a → IsScreenOn named background sides events b → a ≡ b
+
+-- a model ends at no other position
+abbrev pub EndsAtOnePosition : Type 0
+EndsAtOnePosition = (m : Model) (events : List Event) (i j : ℕ) → EndsAt m events i → EndsAt m events j → i ≡ j
+
+-- where a screen is shown the model doesn't end
+abbrev pub ShownDoesNotEnd : Type 0
+ShownDoesNotEnd = (named : Named) (background : Parts) (sides : ℕ × ℕ) (events : List Event) (screen : Shown) (i : ℕ)
+    → IsScreenOn named background sides events screen → ¬ EndsAt (model_of named) events i
+
+-- each named terminal shows a screen of any events, or its model ends
+abbrev pub ShowsOrEnds : Type 0
+ShowsOrEnds = (named : Named) (background : Parts) (sides : ℕ × ℕ) (events : List Event)
+    → ((i : ℕ) × EndsAt (model_of named) events i)
+    ⊎ ((screen : Shown) × IsScreenOn named background sides events screen)

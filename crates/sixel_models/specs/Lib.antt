@@ -13,5 +13,6 @@ pub mod FootSeen
 pub mod Settings
 pub mod Laws
 pub mod Courses
-pub mod OtherSettings
-pub mod OtherLaws
+pub mod Modelled
+pub mod Measuring
+pub mod Named

@@ -1,5 +1,6 @@
 -- What the automaton of mlterm stores, and how an event changes it.
-use Rattle.std.specs.Prelude.{◌≡◌, ◌==◌, ◌<◌, ◌&&◌, ◌||◌, ◌^◌, ℕ, Bool, true, false, not, is_some, nat_lt}
+use Rattle.std.specs.Prelude.{◌≡◌, ◌==◌, ◌<◌, ◌&&◌, ◌||◌, ◌^◌, ℕ, ◌+◌, ◌-◌, Bool, true, false, not, is_some, min}
+use Rattle.std.specs.Prelude.{nat_lt}
 use Rattle.std.specs.Prelude.{List, Option, Some, None, length, slice_index_or, slice_set, if◌then◌else◌}
 use Rattle.std.specs.Option.{option_map, option_map_or}
 use Rattle.sixel_grammar.specs.declared.command.Command.{Command}
@@ -17,7 +18,7 @@ use Rattle.sixel_models.specs.declared.mlterm.Sides.{Sides}
 use Rattle.sixel_models.specs.MlTerm.{Box, coloured_by, define_and_select, has_data, has_left_mlterm, has_raster_below}
 use Rattle.sixel_models.specs.MlTerm.{is_coloured_mlterm}
 use Rattle.sixel_models.specs.MlTerm.{is_unsaid_data, leaves_from, mlterm_box}
-use Rattle.sixel_models.specs.MlTerm.{mlterm_register, mlterm_selected}
+use Rattle.sixel_models.specs.MlTerm.{mlterm_register, mlterm_selected, width_of}
 
 abbrev pub box_of_sides : Sides → Box
 box_of_sides s = record { width = s.width; height = s.height }
@@ -83,3 +84,9 @@ mlterm_in m (Step (Repeat count bits)) = data_in m (Repeat count bits)
 mlterm_in m (Step CarriageReturn) = Draws CarriageReturn
 mlterm_in m (Step NextLine) = Draws NextLine
 mlterm_in m (Finish eight) = Nothing
+
+-- ---- sixels one after the other
+
+-- from this column on, how many columns there are up to the last one of which the model speaks
+abbrev pub columns_said : Option Box → ℕ → ℕ
+columns_said box left = min 32767 (width_of box + 512) - left

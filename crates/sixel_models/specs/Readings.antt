@@ -3,8 +3,10 @@ use Rattle.std.specs.Prelude.{◌≡◌, ◌≤◌, ◌<◌, ◌+◌, ◌&&◌, 
 use Rattle.std.specs.Prelude.{flat_map, length, slice_get, take}
 use Rattle.std.specs.List.{range_with_len}
 use Rattle.std.specs.Option.{option_map_or}
+use Rattle.sixel_grammar.specs.declared.command.Command.TheVariants.{Sixel}
 use Rattle.sixel_grammar.specs.declared.command.Event.{Event}
 use Rattle.sixel_grammar.specs.declared.command.Event.TheVariants.{Start, Step, Finish}
+use Rattle.sixel_terminal.specs.Stretches.{sixels_of}
 use Rattle.sixel_models.specs.declared.reading.Reads.{Reads}
 use Rattle.sixel_models.specs.declared.reading.Reads.TheVariants.{Nothing, Draws, DrawsTwo, Stops, Unsaid}
 
@@ -48,6 +50,12 @@ read_at m events i =
 -- it stops at no position below n
 abbrev pub StopsNowhereBelow : Model → List Event → ℕ → Type 0
 StopsNowhereBelow m events n = (k : ℕ) → k < n → is_stop (read_at m events k) ≡ false
+
+-- it draws the next n sixels as they are, if another comes after each: so one after fewer than n sixels more
+abbrev pub ArePlain : Rule → List Event → ℕ → Type 0
+ArePlain rule before n =
+    (earlier : List ℕ) → length earlier < n → (bits next : ℕ)
+    → rule (before ++ sixels_of earlier) (Step (Sixel bits)) (Some (Step (Sixel next))) ≡ Draws (Sixel bits)
 
 -- what a plain terminal draws in place of the events: what comes before the first event, then what each gives, up to
 -- the first that stops, if there is one

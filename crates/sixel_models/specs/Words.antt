@@ -1,9 +1,9 @@
 -- What the rules of several terminals ask of events.
-use Rattle.std.specs.Prelude.{ℕ, zero, suc, ◌%◌, ◌^◌, List, [], ◌∷◌, Option, Some, None, length, max, min}
-use Rattle.std.specs.Prelude.{slice_get, slice_index_or, take, unwrap_or}
+use Rattle.std.specs.Prelude.{ℕ, zero, suc, ◌&&◌, ◌%◌, ◌^◌, List, [], ◌∷◌, Option, Some, None, length, max, min}
+use Rattle.std.specs.Prelude.{nat_le, slice_get, slice_index_or, take, unwrap_or, if◌then◌else◌}
 use Rattle.std.specs.Option.{option_map, option_map_or}
 use Rattle.sixel_grammar.specs.declared.command.Command.{Command}
-use Rattle.sixel_grammar.specs.declared.command.Command.TheVariants.{Define}
+use Rattle.sixel_grammar.specs.declared.command.Command.TheVariants.{Define, Repeat}
 use Rattle.sixel_grammar.specs.declared.command.Event.{Event}
 use Rattle.sixel_grammar.specs.declared.command.Event.TheVariants.{Start, Step, Finish}
 use Rattle.sixel_model.specs.declared.colour.Parts.{Parts}
@@ -34,6 +34,12 @@ defining register (Hls hue lightness saturation) = Define register 1 hue lightne
 -- the upper rows of a sixel: so many of its bits, from bit 0 on
 abbrev pub upper : ℕ → ℕ → ℕ
 upper rows bits = bits % 2 ^ min band_rows rows
+
+-- what is kept of a data command of so many columns with these bits where so many columns and rows are left: the
+-- command itself, if nothing is cut off
+abbrev pub kept : ℕ → ℕ → Command → ℕ → ℕ → Command
+kept columns rows command count bits =
+    if nat_le count columns && nat_le band_rows rows then command else Repeat (min count columns) (upper rows bits)
 
 -- the greatest value that f has for one of the events; 0 if there is none
 unfoldable pub greatest : (Event → ℕ) → List Event → ℕ

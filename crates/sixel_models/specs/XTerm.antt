@@ -1,6 +1,6 @@
 -- xterm 379, run as a VT340. A definition doesn't select, and a pixel has the colour that its register has at the end.
 -- The first data command fills a box with register 0. What xterm can't read ends the string: what is drawn stays.
-use Rattle.std.specs.Prelude.{◌==◌, ◌&&◌, ◌||◌, ℕ, ◌-◌, ◌*◌, ◌/◌, ◌%◌, Bool, true, false, not, List, min, nat_lt}
+use Rattle.std.specs.Prelude.{◌==◌, ◌&&◌, ◌||◌, ℕ, ◌-◌, ◌*◌, ◌/◌, ◌%◌, Bool, true, false, not, List, nat_lt}
 use Rattle.std.specs.Prelude.{if◌then◌else◌}
 use Rattle.std.specs.List.{list_any}
 use Rattle.std.specs.Option.{option_map_or}
@@ -15,7 +15,7 @@ use Rattle.sixel_model.specs.Geometry.{band, band_rows, column}
 use Rattle.sixel_models.specs.declared.reading.Reads.{Reads}
 use Rattle.sixel_models.specs.declared.reading.Reads.TheVariants.{Nothing, Draws, DrawsTwo, Stops, Unsaid}
 use Rattle.sixel_models.specs.Readings.{Model, Rule, no_opening}
-use Rattle.sixel_models.specs.Words.{greatest, second_parameter, upper}
+use Rattle.sixel_models.specs.Words.{greatest, kept, second_parameter}
 
 -- how many registers there are; a greater number is taken modulo this
 abbrev pub xterm_registers : ℕ
@@ -84,22 +84,23 @@ xterm_box before = Raster 1 1 (greatest width_of before) (greatest height_of bef
 abbrev pub fills_xterm : List Event → Bool
 fills_xterm before = not (list_any is_data_command before) && not (second_parameter before == 1)
 
--- the columns of a data command that are painted, and the bits
-abbrev pub xterm_columns : List Event → ℕ → ℕ
-xterm_columns before count = min count (xterm_side - column 0 before)
+-- the columns and the rows that are left for a data command
+abbrev pub xterm_columns : List Event → ℕ
+xterm_columns before = xterm_side - column 0 before
 
-abbrev pub xterm_bits : List Event → ℕ → ℕ
-xterm_bits before bits = upper (xterm_side - band_rows * band before) bits
+abbrev pub xterm_rows : List Event → ℕ
+xterm_rows before = xterm_side - band_rows * band before
 
-abbrev pub xterm_painting : List Event → ℕ → ℕ → Command
-xterm_painting before count bits = Repeat (xterm_columns before count) (xterm_bits before bits)
+-- what a data command of so many columns with these bits paints
+abbrev pub xterm_painting : List Event → Command → ℕ → ℕ → Command
+xterm_painting before command count bits = kept (xterm_columns before) (xterm_rows before) command count bits
 
 -- a repeat of 0 and one without a number are the same event, and xterm reads them in different ways
-abbrev pub xterm_data : List Event → ℕ → ℕ → Reads
-xterm_data before count bits =
+abbrev pub xterm_data : List Event → Command → ℕ → ℕ → Reads
+xterm_data before command count bits =
     if count == 0 then Unsaid
-    else if fills_xterm before then DrawsTwo (xterm_box before) (xterm_painting before count bits)
-    else Draws (xterm_painting before count bits)
+    else if fills_xterm before then DrawsTwo (xterm_box before) (xterm_painting before command count bits)
+    else Draws (xterm_painting before command count bits)
 
 -- ---- all events
 
@@ -110,8 +111,8 @@ xterm before (Step (Raster pan pad width height)) next =
 xterm before (Step (Define register system x y z)) next =
     xterm_define register (record { system = system; x = x; y = y; z = z })
 xterm before (Step (Select register)) next = xterm_select register
-xterm before (Step (Sixel bits)) next = xterm_data before 1 bits
-xterm before (Step (Repeat count bits)) next = xterm_data before count bits
+xterm before (Step (Sixel bits)) next = xterm_data before (Sixel bits) 1 bits
+xterm before (Step (Repeat count bits)) next = xterm_data before (Repeat count bits) count bits
 xterm before (Step CarriageReturn) next = Draws CarriageReturn
 xterm before (Step NextLine) next = Draws NextLine
 xterm before (Finish eight) next = Nothing

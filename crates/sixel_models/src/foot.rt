@@ -6,15 +6,16 @@ mod size;
 ghost use Rattle.std.specs.Prelude.{◌≡◌, ◌++◌, ◌∷◌, [], IfOk, List, Option};
 ghost use Rattle.std.specs.Option.{option_map};
 ghost use Rattle.sixel_grammar.specs.declared.command.Event.{Event as AnEvent};
-ghost use Rattle.sixel_models.specs.Foot.{foot, foot_data, foot_model, foot_raster, foot_select, has_begun_on_foot};
-ghost use Rattle.sixel_models.specs.Foot.{is_last, spoils_on_foot};
+ghost use Rattle.sixel_models.specs.Foot.{foot, foot_data, foot_introducer, foot_model, foot_raster, foot_select};
+ghost use Rattle.sixel_models.specs.Foot.{has_begun_on_foot, is_last, spoils_on_foot};
 ghost use Rattle.sixel_models.specs.FootSeen.{HasSeenFoot};
 
 use crate::foot::colours::Colours;
 use crate::foot::size::Growing;
 use crate::reading::{Reading, Reads};
-use crate::words::{defining, is_painting, upper};
+use crate::words::{defining, has_painting, is_painting, kept};
 use sixel_grammar::{Command, Event};
+use sixel_model::BAND_ROWS;
 use std::alloc::{AllocError, Global};
 
 /// The register of the pen, and the one that stands for what was never defined.
@@ -36,6 +37,23 @@ fn is_last(next: Option<&Event>) -> bool
     ensures { result ≡ is_last (option_map (λ e. e.now) next.entry) }
 {
     matches!(next, Some(Event::Finish { .. }))
+}
+
+/// What the introducer draws. `second` is its second parameter.
+fn read_introducer(second: u16) -> Reads
+    ensures { result ≡ foot_introducer second }
+{
+    if second == 1 {
+        Reads::Nothing
+    } else {
+        Reads::Draws(Command::Define {
+            register: UNDEFINED,
+            system: 2,
+            x: 0,
+            y: 0,
+            z: 0,
+        })
+    }
 }
 
 impl Foot {
@@ -87,13 +105,11 @@ impl Foot {
         }
     }
 
-    fn read_data(&self, count: u16, bits: u8) -> Reads
-        ensures { (before : List AnEvent) → HasSeenFoot self.now before → result ≡ foot_data before count bits }
+    fn read_data(&self, command: Command, count: u16, bits: u8) -> Reads
+        ensures { (before : List AnEvent) → HasSeenFoot self.now before
+            → result ≡ foot_data before command count bits }
     {
-        Reads::Draws(Command::Repeat {
-            count: count.max(1),
-            bits: upper(self.size.rows, bits),
-        })
+        Reads::Draws(kept(count, self.size.rows, command, count, bits))
     }
 
     /// What it makes of the event.
@@ -102,8 +118,12 @@ impl Foot {
             → result ≡ foot before event.now (option_map (λ e. e.now) next.entry) }
     {
         match event {
-            Event::Step(Command::Sixel(bits)) => self.read_data(1, *bits),
-            Event::Step(Command::Repeat { count, bits }) => self.read_data(*count, *bits),
+            Event::Step(Command::Sixel(bits)) => self.read_data(Command::Sixel(*bits), 1, *bits),
+            Event::Step(Command::Repeat { count, bits }) => {
+                let count = (*count).max(1);
+                let command = Command::Repeat { count, bits: *bits };
+                self.read_data(command, count, *bits)
+            }
             Event::Step(Command::Raster { width, height, .. }) => {
                 self.read_raster(*width, *height, next)
             }
@@ -111,7 +131,10 @@ impl Foot {
             Event::Step(Command::CarriageReturn) => Reads::Draws(Command::CarriageReturn),
             Event::Step(Command::NextLine) => Reads::Draws(Command::NextLine),
             Event::Step(Command::Define { .. }) => Reads::Nothing,
-            Event::Start { .. } | Event::Finish { .. } => Reads::Nothing,
+            Event::Start { parameters, .. } => {
+                read_introducer(parameters.get(1).copied().unwrap_or(0))
+            }
+            Event::Finish { .. } => Reads::Nothing,
         }
     }
 
@@ -135,5 +158,18 @@ impl Reading for Foot {
         let reads = self.read_event(event, next);
         self.note(event);
         reads
+    }
+
+    fn plain_sixels(&self) -> usize {
+        if self.size.rows < BAND_ROWS {
+            0
+        } else {
+            usize::MAX
+        }
+    }
+
+    fn note_sixels(&mut self, bytes: &[u8]) {
+        self.size = self.size.after_sixels(bytes.len());
+        self.has_painted |= has_painting(bytes);
     }
 }

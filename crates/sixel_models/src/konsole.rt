@@ -1,16 +1,17 @@
 //! What konsole makes of the events of a string.
 
-ghost use Rattle.std.specs.Prelude.{◌≡◌, ◌==◌, ◌&&◌, ◌||◌, ◌++◌, ◌∷◌, [], List, Some, false, is_none, not, true};
+ghost use Rattle.std.specs.Prelude.{◌≡◌, ◌==◌, ◌<◌, ◌&&◌, ◌||◌, ◌++◌, ◌∷◌, [], ℕ, List, Some, false, is_none, length};
+ghost use Rattle.std.specs.Prelude.{not, true};
 ghost use Rattle.std.specs.Option.{option_map};
 ghost use Rattle.sixel_grammar.specs.declared.command.Event.{Event as AnEvent};
 ghost use Rattle.sixel_grammar.specs.declared.command.Event.TheVariants.{Step as AStep};
+ghost use Rattle.sixel_terminal.specs.Stretches.{sixels_of};
 ghost use Rattle.sixel_models.specs.Konsole as rule;
 ghost use Rattle.sixel_models.specs.KonsoleSeen.{HasSeenKonsole, begun_in, counting_in, konsole_in, may_count_in};
 ghost use Rattle.sixel_models.specs.KonsoleSeen.{next_begun, next_declares, next_late, next_stuck, said};
 
-use crate::events::{is_finish, is_raster, is_return, named_by};
 use crate::reading::{Reading, Reads};
-use crate::words::{defining, is_data_command, nearest};
+use crate::words::{defining, is_data_command, is_finish, is_raster, is_return, named_by, nearest};
 use sixel_grammar::{Command, Event};
 use sixel_model::Colour;
 
@@ -30,7 +31,7 @@ pub(crate) struct Stated {
 #[derive(Clone, Copy, Debug, PartialEq, Eq)]
 pub struct Konsole {
     /// Whether all is dropped, up to the next return or new line.
-    stuck: bool,
+    pub(crate) stuck: bool,
     /// Whether a select, a definition or a data command came.
     has_late: bool,
     /// Whether the picture has begun, whatever follows.
@@ -289,6 +290,21 @@ impl Konsole {
         };
     }
 
+    /// What it notes of one sixel or more.
+    fn after_sixels(&self) -> Konsole
+        ensures { (before : List AnEvent) (bytes : List ℕ) → 0 < length bytes → HasSeenKonsole self.now before
+            → HasSeenKonsole result (before ++ sixels_of bytes) }
+    {
+        Konsole {
+            stuck: self.stuck,
+            has_late: true,
+            begun: self.has_begun(false) | !self.stuck,
+            declares: false,
+            counting: self.counting(false),
+            waiting: None,
+        }
+    }
+
     /// Whether all is dropped after the event.
     fn gets_stuck(&self, event: &Event) -> bool
         ensures { result ≡ next_stuck self.now event.now }
@@ -329,5 +345,15 @@ impl Reading for Konsole {
         let reads = self.reads(event, drops(next));
         self.see(event);
         reads
+    }
+
+    fn plain_sixels(&self) -> usize {
+        if self.stuck { 0 } else { usize::MAX }
+    }
+
+    fn note_sixels(&mut self, bytes: &[u8]) {
+        if !bytes.is_empty() {
+            *self = self.after_sixels();
+        }
     }
 }

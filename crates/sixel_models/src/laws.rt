@@ -1,10 +1,13 @@
 //! Laws about the rules. Each function's contract is the law.
 
-ghost use Rattle.sixel_models.specs.Laws.{BandsAreTheHeight, BlankSixelIsFirst, DataPastTheWidthIsCut};
-ghost use Rattle.sixel_models.specs.Laws.{EndsAtAnEvent, FarColumnsAreLost, GoesToTheEnd, StopsAtAnEvent};
-ghost use Rattle.sixel_models.specs.Laws.{GreatestSidesFill, LargeSideStops, LastPositionIsRead, LateBoxIsUnsaid};
+ghost use Rattle.sixel_models.specs.Laws.{BandsAreTheHeight, BlankSixelIsFirst, ChanceIsUnsaid, CornerIsUnsaid};
+ghost use Rattle.sixel_models.specs.Laws.{DataPastTheWidthIsCut, DroppedRasterOpensNothing, DroppedSelectOpens};
+ghost use Rattle.sixel_models.specs.Laws.{EndsAtAnEvent, EndsAtOnePosition, FarBlankIsUnsaid, FarColumnsAreLost};
+ghost use Rattle.sixel_models.specs.Laws.{GoesToTheEnd, GreatestSidesFill, KonsoleIsRead, LargeSideStops};
+ghost use Rattle.sixel_models.specs.Laws.{LastPositionIsRead, LateBoxIsUnsaid, LateRasterDoesNotCount};
 ghost use Rattle.sixel_models.specs.Laws.{NarrowBoxDoesNotCount, NoWidthStops, PenKeepsItsColour, PositionsAreRead};
-ghost use Rattle.sixel_models.specs.Laws.{WideBoxCuts};
+ghost use Rattle.sixel_models.specs.Laws.{RatioIsTall, ShownDoesNotEnd, ShowsOneScreen, ShowsOrEnds, StopsAtAnEvent};
+ghost use Rattle.sixel_models.specs.Laws.{TwoBoxesBelowAreUnsaid, UndefinedIsDrawn, UnknownSystemSticks, WideBoxCuts};
 
 /// What xterm makes of strings that were shown on it.
 pub fn xterm_on_strings()
@@ -22,6 +25,24 @@ pub fn foot_on_strings()
     ensures past_the_width { DataPastTheWidthIsCut }
     ensures late_box { LateBoxIsUnsaid }
     ensures pen { PenKeepsItsColour }
+{}
+
+/// What mlterm makes of strings that were shown on it.
+pub fn mlterm_on_strings()
+    ensures chance { ChanceIsUnsaid }
+    ensures corner { CornerIsUnsaid }
+    ensures far_blank { FarBlankIsUnsaid }
+    ensures two_boxes { TwoBoxesBelowAreUnsaid }
+    ensures undefined { UndefinedIsDrawn }
+{}
+
+/// The rectangles that konsole fills for strings that were shown on it.
+pub fn konsole_on_strings()
+    ensures dropped_select { DroppedSelectOpens }
+    ensures late_raster { LateRasterDoesNotCount }
+    ensures dropped_raster { DroppedRasterOpensNothing }
+    ensures tall { RatioIsTall }
+    ensures unknown_system { UnknownSystemSticks }
 {}
 
 /// What a reading makes of an event, with the events before it and the one after, is what its model makes of the event
@@ -45,4 +66,17 @@ pub fn courses_end()
     ensures goes { GoesToTheEnd }
     ensures stopped { StopsAtAnEvent }
     ensures ended { EndsAtAnEvent }
+{}
+
+/// The reading of konsole is the rectangle, and then what each event gives: konsole never stops.
+pub fn konsole_is_read()
+    ensures { KonsoleIsRead }
+{}
+
+/// Each named terminal shows one screen of a string, or its model ends at one event.
+pub fn named_terminals_show()
+    ensures one_screen { ShowsOneScreen }
+    ensures one_position { EndsAtOnePosition }
+    ensures not_both { ShownDoesNotEnd }
+    ensures either { ShowsOrEnds }
 {}

@@ -1,29 +1,40 @@
 //! Models of named terminals: what each makes of the events of a string.
 #![tactic(auto)]
 
+mod at_once;
+mod begun;
 mod course;
-mod events;
+mod documents;
 mod foot;
 mod konsole;
 pub mod laws;
+mod measuring;
 mod mlterm;
-pub mod other_laws;
-mod other_settings;
+mod modelled;
+mod named;
 mod place;
+mod progress;
 mod reading;
 mod rectangle;
 mod settings;
+mod showing;
 mod waiting;
 mod words;
 mod xterm;
 
+pub use at_once::show_at_once;
+pub use begun::{as_foot, as_konsole, as_mlterm, as_xterm};
 pub use course::Course;
+pub use documents::{draw, measure_konsole};
 pub use foot::Foot;
 pub use konsole::Konsole;
+pub use measuring::Measuring;
 pub use mlterm::MlTerm;
-pub use other_settings::{konsole_terminal, mlterm_choices};
+pub use modelled::{Modelled, UnsaidControls};
+pub use named::Named;
 pub use reading::{Reading, Reads};
 pub use rectangle::KonsoleMeasure;
-pub use settings::{foot_terminal, xterm_choices};
+pub use settings::{foot_terminal, konsole_terminal, mlterm_terminal, xterm_terminal};
+pub use showing::{ShowFault, show_on};
 pub use waiting::Waiting;
 pub use xterm::XTerm;

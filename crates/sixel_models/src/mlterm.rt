@@ -1,18 +1,23 @@
 //! What mlterm makes of the events of a string.
 
-ghost use Rattle.std.specs.Prelude.{◌≡◌, ◌<◌, ◌&&◌, ◌++◌, ◌∷◌, [], IfSome, List, false, nat_lt, not, slice_index_or};
+ghost use Rattle.std.specs.Prelude.{◌≡◌, ◌<◌, ◌+◌, ◌&&◌, ◌++◌, ◌∷◌, [], ℕ, IfSome, List, false, length, nat_lt, not};
+ghost use Rattle.std.specs.Prelude.{slice_index_or};
 ghost use Rattle.std.specs.Option.{option_map};
 ghost use Rattle.sixel_grammar.specs.declared.command.Event.{Event as AnEvent};
 ghost use Rattle.sixel_grammar.specs.declared.command.Event.TheVariants.{Step as AStep};
+ghost use Rattle.sixel_terminal.specs.Stretches.{sixels_of};
 ghost use Rattle.sixel_models.specs.MlTerm as rule;
-ghost use Rattle.sixel_models.specs.MlTermSeen.{AreNarrow, HasSeenMlTerm, box_of_sides, data_in, mlterm_in};
+ghost use Rattle.sixel_models.specs.MlTermSeen.{AreNarrow, HasSeenMlTerm, box_of_sides, columns_said, data_in};
+ghost use Rattle.sixel_models.specs.MlTermSeen.{mlterm_in};
 ghost use Rattle.sixel_models.specs.MlTermSeen.{next_coloured, next_data, next_left, next_raster_below, next_selected};
 ghost use Rattle.sixel_models.specs.MlTermSeen.{stored_box};
 
-use crate::events::{columns_of, is_raster, is_repeat_of_zero, named_by};
 use crate::place::Place;
 use crate::reading::{Reading, Reads};
-use crate::words::{defining, is_data_command, is_painting, nearest, second_of};
+use crate::words::{
+    columns_of, defining, is_data_command, is_painting, is_raster, is_repeat_of_zero, named_by,
+    nearest, second_of,
+};
 use sixel_grammar::{Command, Event};
 use sixel_model::{BAND_ROWS, Colour};
 
@@ -279,6 +284,35 @@ impl MlTerm {
         self.place = self.place.after(event, 0);
     }
 
+    /// Up to how many columns further right it is said what it paints, if a sixel here is said.
+    fn columns_said(&self) -> usize
+        ensures { result ≡ columns_said (stored_box self.now) self.now.place.column }
+    {
+        let (width, _) = self.box_sides();
+        let end = MOST.min(u64::from(width) + MARGIN);
+        end.saturating_sub(u64::from(self.place.column)) as usize
+    }
+
+    /// Notes so many sixels.
+    fn see_sixels(&mut self, count: usize)
+        ensures { (before : List AnEvent) (bytes : List ℕ) → length bytes ≡ count → HasSeenMlTerm self.old before
+            → HasSeenMlTerm self.new (before ++ sixels_of bytes) }
+    {
+        if count > 0 {
+            self.has_left |= self.is_below() | self.is_right_after(count);
+            self.has_data = true;
+            self.place = self.place.after_sixels(count);
+        }
+    }
+
+    /// Whether so many sixels end right of the box.
+    fn is_right_after(&self, count: usize) -> bool
+        ensures { result ≡ nat_lt (rule.width_of (stored_box self.now)) (self.now.place.column + count) }
+    {
+        let (width, _) = self.box_sides();
+        (width as usize) < (self.place.column as usize).saturating_add(count)
+    }
+
     /// Whether a data command is past column or row 32,767.
     fn is_past_all(&self, event: &Event) -> bool
         ensures { result ≡ rule.is_past_all self.now.place.column self.now.place.band event.now }
@@ -334,6 +368,18 @@ impl Reading for MlTerm {
         let reads = self.reads(event);
         self.see(event);
         reads
+    }
+
+    fn plain_sixels(&self) -> usize {
+        if self.is_unsaid_data(&Event::Step(Command::Sixel(63))) {
+            0
+        } else {
+            self.columns_said()
+        }
+    }
+
+    fn note_sixels(&mut self, bytes: &[u8]) {
+        self.see_sixels(bytes.len());
     }
 }
 

@@ -1,7 +1,8 @@
 //! Where the next sixel stands.
 
-ghost use Rattle.std.specs.Prelude.{◌≡◌, ◌==◌, ◌++◌, ◌∷◌, ℕ, [], List, if◌then◌else◌};
+ghost use Rattle.std.specs.Prelude.{◌≡◌, ◌==◌, ◌++◌, ◌∷◌, ℕ, [], List, length, if◌then◌else◌};
 ghost use Rattle.sixel_grammar.specs.declared.command.Event.{Event as AnEvent};
+ghost use Rattle.sixel_terminal.specs.Stretches.{sixels_of};
 ghost use Rattle.sixel_models.specs.Places.{IsPlaceAfter, moved, next_band, next_column};
 
 use sixel_grammar::{Command, Event};
@@ -34,6 +35,19 @@ impl Place {
     {
         Place {
             column: self.column.saturating_add(u32::from(columns)),
+            ..self
+        }
+    }
+
+    /// The place after so many sixels.
+    pub(crate) fn after_sixels(self, count: usize) -> Place
+        ensures { (zero_columns : ℕ) (before : List AnEvent) (bytes : List ℕ) → length bytes ≡ count
+            → IsPlaceAfter zero_columns self before
+            → IsPlaceAfter zero_columns result (before ++ sixels_of bytes) }
+    {
+        let column = (self.column as usize).saturating_add(count);
+        Place {
+            column: column.min(u32::MAX as usize) as u32,
             ..self
         }
     }

@@ -1,9 +1,11 @@
 //! What a named terminal makes of the events of a string, one by one.
 
-ghost use Rattle.std.specs.Prelude.{◌≡◌, ◌++◌, ◌∷◌, [], List};
+ghost use Rattle.std.specs.Prelude.{◌≡◌, ◌<◌, ◌++◌, ◌∷◌, [], ℕ, IsTrue, List, length, slice_index};
 ghost use Rattle.std.specs.Option.{option_map};
+ghost use Rattle.sixel_grammar.specs.Bytes.{is_data};
 ghost use Rattle.sixel_grammar.specs.declared.command.Event.{Event as AnEvent};
-ghost use Rattle.sixel_models.specs.Readings.{Model as AModel};
+ghost use Rattle.sixel_terminal.specs.Stretches.{sixels_of};
+ghost use Rattle.sixel_models.specs.Readings.{ArePlain, Model as AModel};
 
 use sixel_grammar::{Command, Event};
 
@@ -36,4 +38,14 @@ pub trait Reading {
             → result ≡ model.rule before event.now (option_map (λ e. e.now) next.entry) }
         ensures seen { (before : List AnEvent) → has_seen self.old before
             → has_seen self.new (before ++ event.now ∷ []) };
+
+    /// How many sixels that come next it draws as they are, if another one comes after each.
+    fn plain_sixels(&self) -> usize
+        ensures { (before : List AnEvent) → has_seen self.now before → ArePlain model.rule before result };
+
+    /// Reads the sixels of these data bytes.
+    fn note_sixels(&mut self, bytes: &[u8])
+        requires { (k : ℕ) → k < length bytes.now → IsTrue (is_data (slice_index bytes.now k)) }
+        ensures { (before : List AnEvent) → has_seen self.old before
+            → has_seen self.new (before ++ sixels_of bytes.now) };
 }

@@ -1,11 +1,18 @@
 //! The rectangle that konsole fills before it draws.
 
-ghost use Rattle.std.specs.Prelude.{◌≡◌, ◌++◌, ◌∷◌, [], List, None, Option, Some};
+ghost use Rattle.std.specs.Prelude.{◌≡◌, ◌<◌, ◌+◌, ◌-◌, ◌*◌, ◌++◌, ◌∷◌, [], ℕ, IsTrue, List, None, Option, Some};
+ghost use Rattle.std.specs.Prelude.{length, min};
+ghost use Rattle.std.specs.Prelude.{slice_index};
 ghost use Rattle.std.specs.Option.{option_map, option_to_list};
+ghost use Rattle.sixel_grammar.specs.Bytes.{is_data};
+ghost use Rattle.sixel_grammar.specs.declared.command.Command.TheVariants.{Sixel};
 ghost use Rattle.sixel_grammar.specs.declared.command.Event.{Event as AnEvent};
 ghost use Rattle.sixel_grammar.specs.declared.command.Event.TheVariants.{Step as AStep};
+ghost use Rattle.sixel_terminal.specs.Stretches.{sixels_of};
 ghost use Rattle.sixel_models.specs.Konsole as rule;
-ghost use Rattle.sixel_models.specs.KonsoleMeasured.{HasMeasured, IsReach, reached_columns, reached_rows, rectangle_in};
+ghost use Rattle.sixel_models.specs.KonsoleMeasured.{HasMeasured, IsReach, drawn_sixels, reached_columns, reached_rows};
+ghost use Rattle.sixel_models.specs.KonsoleMeasured.{rectangle_in};
+ghost use Rattle.sixel_models.specs.Places.{most};
 ghost use Rattle.sixel_models.specs.Readings.{drawn_by};
 
 use crate::konsole::{Konsole, Stated};
@@ -55,19 +62,38 @@ impl Reach {
         }
     }
 
+    /// The row where the band ends.
+    fn band_end(self) -> u32
+        ensures { result ≡ min (6 * self.place.band + 6) most }
+    {
+        self.place
+            .band
+            .saturating_mul(BAND_ROWS)
+            .saturating_add(BAND_ROWS)
+    }
+
     /// The rows that are reached with one more event.
     fn reached_rows(self, event: &Event) -> u32
         ensures { result ≡ reached_rows self event.now }
     {
         if is_data_command(event) {
-            let end = self
-                .place
-                .band
-                .saturating_mul(BAND_ROWS)
-                .saturating_add(BAND_ROWS);
-            self.rows.max(end)
+            self.rows.max(self.band_end())
         } else {
             self.rows
+        }
+    }
+
+    /// With so many sixels more, at least one.
+    fn with_sixels(self, count: usize) -> Reach
+        requires { 0 < count }
+        ensures { (drawing : List AnEvent) (bytes : List ℕ) → length bytes ≡ count → IsReach self drawing
+            → IsReach result (drawing ++ sixels_of bytes) }
+    {
+        let place = self.place.after_sixels(count);
+        Reach {
+            place,
+            columns: self.columns.max(place.column),
+            rows: self.rows.max(self.band_end()),
         }
     }
 
@@ -114,6 +140,31 @@ impl KonsoleMeasure {
     {
         let reads = self.reading.read(event, next);
         self.reach = self.reach.with_drawn(reads);
+    }
+
+    /// Measures the sixels of these data bytes, at least one. Another sixel comes after them.
+    pub fn take_sixels(&mut self, bytes: &[u8])
+        requires sixels { (k : ℕ) → k < length bytes.now → IsTrue (is_data (slice_index bytes.now k)) }
+        requires some { 0 < length bytes.now }
+        ensures { (before : List AnEvent) (last : ℕ)
+            → HasMeasured self.old before (Some (AStep (Sixel (slice_index bytes.now 0 - 63))))
+            → HasMeasured self.new (before ++ sixels_of bytes.now) (Some (AStep (Sixel last))) }
+    {
+        self.reach = self.reach_after(bytes.len());
+        self.reading.note_sixels(bytes);
+    }
+
+    /// How far so many sixels more reach, at least one.
+    fn reach_after(&self, count: usize) -> Reach
+        requires { 0 < count }
+        ensures { (drawing : List AnEvent) (bytes : List ℕ) → length bytes ≡ count → IsReach self.now.reach drawing
+            → IsReach result (drawing ++ drawn_sixels self.now.reading.stuck bytes) }
+    {
+        if self.reading.stuck {
+            self.reach
+        } else {
+            self.reach.with_sixels(count)
+        }
     }
 
     /// The rectangle of the events of a whole string, as raster attributes; none if the picture hasn't begun.

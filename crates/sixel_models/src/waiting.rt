@@ -1,8 +1,10 @@
 //! Reads events once the one after them is known.
 
-ghost use Rattle.std.specs.Prelude.{◌≡◌, ◌++◌, None, Some, List};
+ghost use Rattle.std.specs.Prelude.{◌≡◌, ◌<◌, ◌++◌, ℕ, IsTrue, None, Some, List, length, slice_index};
 ghost use Rattle.std.specs.Option.{option_map, option_to_list};
+ghost use Rattle.sixel_grammar.specs.Bytes.{is_data};
 ghost use Rattle.sixel_grammar.specs.declared.command.Event.{Event as AnEvent};
+ghost use Rattle.sixel_terminal.specs.Stretches.{sixels_of};
 
 use crate::reading::{Reading, Reads};
 use sixel_grammar::Event;
@@ -40,6 +42,17 @@ impl<R: Reading> Waiting<R> {
         };
         self.pending = Some(event);
         reads
+    }
+
+    /// Reads the sixels of these data bytes, in place of the event that waits. `event` waits then.
+    pub fn pass(&mut self, bytes: &[u8], event: Event)
+        requires { (k : ℕ) → k < length bytes.now → IsTrue (is_data (slice_index bytes.now k)) }
+        ensures seen { (before : List AnEvent) → R.has_seen self.old.reading before
+            → R.has_seen self.new.reading (before ++ sixels_of bytes.now) }
+        ensures pending { self.new.pending ≡ Some event }
+    {
+        self.reading.note_sixels(bytes);
+        self.pending = Some(event);
     }
 
     /// Gives what the terminal makes of the last event, if there is one.

@@ -1,8 +1,12 @@
 //! What several terminals ask of events.
 
-ghost use Rattle.std.specs.Prelude.{◌≡◌};
-ghost use Rattle.sixel_model.specs.Events.{is_data_command, is_painting};
-ghost use Rattle.sixel_models.specs.Words.{defining as defining_command, nearest, second_of, upper};
+ghost use Rattle.std.specs.Prelude.{◌≡◌, ◌<◌, ℕ, IsTrue, is_some, length, slice_index};
+ghost use Rattle.std.specs.List.{list_any};
+ghost use Rattle.sixel_grammar.specs.Bytes.{is_data};
+ghost use Rattle.sixel_model.specs.Events as said;
+ghost use Rattle.sixel_terminal.specs.Stretches.{sixels_of};
+ghost use Rattle.sixel_models.specs.Words.{defining as defining_command, kept as kept_command, nearest, second_of};
+ghost use Rattle.sixel_models.specs.Words.{upper};
 
 use sixel_grammar::{Command, Event};
 use sixel_model::{BAND_ROWS, Colour, Parts};
@@ -53,9 +57,24 @@ pub(crate) fn upper(rows: u32, bits: u8) -> u8
     bits % (1 << rows.min(BAND_ROWS))
 }
 
+/// What is kept of a data command of so many columns with these bits where so many columns and rows are left: the
+/// command itself, if nothing is cut off.
+pub(crate) fn kept(columns: u16, rows: u32, command: Command, count: u16, bits: u8) -> Command
+    ensures { result ≡ kept_command columns rows command count bits }
+{
+    if count <= columns && rows >= BAND_ROWS {
+        command
+    } else {
+        Command::Repeat {
+            count: count.min(columns),
+            bits: upper(rows, bits),
+        }
+    }
+}
+
 /// Whether it is a sixel or a repeat.
 pub(crate) fn is_data_command(event: &Event) -> bool
-    ensures { result ≡ is_data_command event.now }
+    ensures { result ≡ said.is_data_command event.now }
 {
     matches!(
         event,
@@ -65,10 +84,76 @@ pub(crate) fn is_data_command(event: &Event) -> bool
 
 /// Whether it is a sixel or a repeat with at least one of the six bits set.
 pub(crate) fn is_painting(event: &Event) -> bool
-    ensures { result ≡ is_painting event.now }
+    ensures { result ≡ said.is_painting event.now }
 {
     match event {
         Event::Step(Command::Sixel(bits) | Command::Repeat { bits, .. }) => *bits % 64 != 0,
         _ => false,
     }
+}
+
+/// How many columns a data command has; 0 for any other event.
+pub(crate) fn columns_of(event: &Event) -> u16
+    ensures { result ≡ said.columns_of 0 event.now }
+{
+    match event {
+        Event::Step(Command::Sixel(_)) => 1,
+        Event::Step(Command::Repeat { count, .. }) => *count,
+        _ => 0,
+    }
+}
+
+/// Whether it is raster attributes.
+pub(crate) fn is_raster(event: &Event) -> bool
+    ensures { result ≡ is_some (said.raster_of event.now) }
+{
+    matches!(event, Event::Step(Command::Raster { .. }))
+}
+
+/// The register that a select or a definition names.
+pub(crate) fn named_by(event: &Event) -> Option<u16>
+    ensures { result ≡ said.named_by event.now }
+{
+    match event {
+        Event::Step(Command::Select(register)) => Some(*register),
+        Event::Step(Command::Define { register, .. }) => Some(*register),
+        _ => None,
+    }
+}
+
+/// Whether it is a repeat whose count is 0.
+pub(crate) fn is_repeat_of_zero(event: &Event) -> bool
+    ensures { result ≡ said.is_repeat_of_zero event.now }
+{
+    matches!(event, Event::Step(Command::Repeat { count: 0, .. }))
+}
+
+/// Whether it goes to the left margin, in the same band or the next.
+pub(crate) fn is_return(event: &Event) -> bool
+    ensures { result ≡ said.is_return event.now }
+{
+    matches!(
+        event,
+        Event::Step(Command::CarriageReturn | Command::NextLine)
+    )
+}
+
+/// Whether it is the terminator.
+pub(crate) fn is_finish(event: &Event) -> bool
+    ensures { result ≡ said.is_finish event.now }
+{
+    matches!(event, Event::Finish { .. })
+}
+
+/// Whether one of the sixels of these data bytes has a set bit.
+pub(crate) fn has_painting(bytes: &[u8]) -> bool
+    requires { (k : ℕ) → k < length bytes.now → IsTrue (is_data (slice_index bytes.now k)) }
+    ensures { result ≡ list_any said.is_painting (sixels_of bytes.now) }
+{
+    for byte in bytes {
+        if *byte != b'?' {
+            return true;
+        }
+    }
+    false
 }

@@ -1,17 +1,19 @@
 //! What xterm makes of events.
 
-ghost use Rattle.std.specs.Prelude.{◌≡◌, ◌++◌, ◌∷◌, [], List, Option};
+ghost use Rattle.std.specs.Prelude.{◌≡◌, ◌++◌, ◌∷◌, [], ℕ, List, Option, length};
 ghost use Rattle.sixel_grammar.specs.declared.command.Event.{Event as AnEvent};
 ghost use Rattle.sixel_model.specs.Geometry.{band_rows};
+ghost use Rattle.sixel_terminal.specs.Stretches.{sixels_of};
 ghost use Rattle.sixel_models.specs.Words.{upper};
 ghost use Rattle.sixel_models.specs.XTerm.{ends_xterm, fills_xterm, height_of, is_beyond_xterm, is_xterm_colour};
-ghost use Rattle.sixel_models.specs.XTerm.{width_of, xterm, xterm_box, xterm_data, xterm_define, xterm_model};
-ghost use Rattle.sixel_models.specs.XTerm.{xterm_painting, xterm_raster, xterm_select, xterm_x};
+ghost use Rattle.sixel_models.specs.XTerm.{width_of, xterm, xterm_box, xterm_columns, xterm_data, xterm_define};
+ghost use Rattle.sixel_models.specs.XTerm.{xterm_model};
+ghost use Rattle.sixel_models.specs.XTerm.{xterm_painting, xterm_raster, xterm_rows, xterm_select, xterm_x};
 ghost use Rattle.sixel_models.specs.XTermSeen.{HasSeenXTerm};
 
 use crate::place::Place;
 use crate::reading::{Reading, Reads};
-use crate::words::{is_data_command, second_of, upper};
+use crate::words::{is_data_command, kept, second_of};
 use sixel_grammar::{Command, Event};
 use sixel_model::BAND_ROWS;
 
@@ -169,29 +171,38 @@ impl XTerm {
         }
     }
 
-    /// What a data command paints: what of it is in the first columns and rows.
-    fn painting(&self, count: u16, bits: u8) -> Command
-        ensures { (before : List AnEvent) → HasSeenXTerm self.now before
-            → result ≡ xterm_painting before count bits }
+    /// How many columns are left for a data command.
+    fn columns_left(&self) -> u16
+        ensures { (before : List AnEvent) → HasSeenXTerm self.now before → result ≡ xterm_columns before }
     {
-        let side = u32::from(SIDE);
-        let columns = side.saturating_sub(self.place.column) as u16;
-        let rows = side.saturating_sub(self.place.band.saturating_mul(BAND_ROWS));
-        Command::Repeat {
-            count: count.min(columns),
-            bits: upper(rows, bits),
-        }
+        u32::from(SIDE).saturating_sub(self.place.column) as u16
     }
 
-    fn read_data(&self, count: u16, bits: u8) -> Reads
-        ensures { (before : List AnEvent) → HasSeenXTerm self.now before → result ≡ xterm_data before count bits }
+    /// How many rows are left.
+    fn rows_left(&self) -> u32
+        ensures { (before : List AnEvent) → HasSeenXTerm self.now before → result ≡ xterm_rows before }
+    {
+        u32::from(SIDE).saturating_sub(self.place.band.saturating_mul(BAND_ROWS))
+    }
+
+    /// What a data command paints: what of it is in the first columns and rows.
+    fn painting(&self, command: Command, count: u16, bits: u8) -> Command
+        ensures { (before : List AnEvent) → HasSeenXTerm self.now before
+            → result ≡ xterm_painting before command count bits }
+    {
+        kept(self.columns_left(), self.rows_left(), command, count, bits)
+    }
+
+    fn read_data(&self, command: Command, count: u16, bits: u8) -> Reads
+        ensures { (before : List AnEvent) → HasSeenXTerm self.now before
+            → result ≡ xterm_data before command count bits }
     {
         if count == 0 {
             Reads::Unsaid
         } else if self.fills() {
-            Reads::DrawsTwo(self.declared(), self.painting(count, bits))
+            Reads::DrawsTwo(self.declared(), self.painting(command, count, bits))
         } else {
-            Reads::Draws(self.painting(count, bits))
+            Reads::Draws(self.painting(command, count, bits))
         }
     }
 
@@ -201,8 +212,14 @@ impl XTerm {
             → result ≡ xterm before event.now next }
     {
         match event {
-            Event::Step(Command::Sixel(bits)) => self.read_data(1, *bits),
-            Event::Step(Command::Repeat { count, bits }) => self.read_data(*count, *bits),
+            Event::Step(Command::Sixel(bits)) => self.read_data(Command::Sixel(*bits), 1, *bits),
+            Event::Step(Command::Repeat { count, bits }) => {
+                let command = Command::Repeat {
+                    count: *count,
+                    bits: *bits,
+                };
+                self.read_data(command, *count, *bits)
+            }
             Event::Step(
                 Command::Raster {
                     pan,
@@ -241,6 +258,20 @@ impl XTerm {
     }
 }
 
+impl XTerm {
+    /// With so many sixels read.
+    fn after_sixels(self, count: usize) -> XTerm
+        ensures { (before : List AnEvent) (bytes : List ℕ) → length bytes ≡ count → HasSeenXTerm self before
+            → HasSeenXTerm result (before ++ sixels_of bytes) }
+    {
+        XTerm {
+            place: self.place.after_sixels(count),
+            has_data: self.has_data | (count > 0),
+            ..self
+        }
+    }
+}
+
 impl Reading for XTerm {
     ghost model = { xterm_model };
 
@@ -250,5 +281,19 @@ impl Reading for XTerm {
         let reads = self.read_event(event);
         *self = self.after(event);
         reads
+    }
+
+    fn plain_sixels(&self) -> usize {
+        if self.fills() {
+            0
+        } else if self.rows_left() < BAND_ROWS {
+            0
+        } else {
+            usize::from(self.columns_left())
+        }
+    }
+
+    fn note_sixels(&mut self, bytes: &[u8]) {
+        *self = self.after_sixels(bytes.len());
     }
 }

@@ -1,10 +1,11 @@
 //! The size of foot's picture, and where the next sixel stands in it.
 
-ghost use Rattle.std.specs.Prelude.{◌≡◌, ◌++◌, ◌∷◌, ℕ, [], List, true};
+ghost use Rattle.std.specs.Prelude.{◌≡◌, ◌++◌, ◌∷◌, ℕ, [], List, length, max, true};
 ghost use Rattle.sixel_grammar.specs.declared.command.Command.TheVariants.{Raster, NextLine};
 ghost use Rattle.sixel_grammar.specs.declared.command.Event.{Event as AnEvent};
 ghost use Rattle.sixel_grammar.specs.declared.command.Event.TheVariants.{Step};
 ghost use Rattle.sixel_model.specs.Events.{is_data_command};
+ghost use Rattle.sixel_terminal.specs.Stretches.{sixels_of};
 ghost use Rattle.sixel_models.specs.Foot.{counts_on_foot, cuts_on_foot, foot_size};
 ghost use Rattle.sixel_models.specs.FootSeen.{HasGrown, grows_not};
 ghost use Rattle.sixel_models.specs.Places.{IsPlaceAfter};
@@ -75,11 +76,29 @@ impl Growing {
         ensures { (before : List AnEvent) (e : AnEvent) → is_data_command e ≡ true → HasGrown self before
             → IsPlaceAfter 1 place (before ++ e ∷ []) → HasGrown result (before ++ e ∷ []) }
     {
+        self.widened_to(place)
+    }
+
+    /// As wide as the place.
+    fn widened_to(self, place: Place) -> Growing
+        ensures { result ≡ record self { place = place; width = max self.width place.column } }
+    {
         Growing {
             place,
             width: self.width.max(place.column),
             ..self
         }
+    }
+
+    /// With so many sixels.
+    pub(crate) fn after_sixels(self, count: usize) -> Growing
+        ensures { (before : List AnEvent) (bytes : List ℕ) → length bytes ≡ count → HasGrown self before
+            → HasGrown result (before ++ sixels_of bytes) }
+    {
+        if count == 0 {
+            return self;
+        }
+        self.widened_to(self.place.after_sixels(count))
     }
 
     /// With a new line. `place` is the one after it.

@@ -1,0 +1,331 @@
+-- What was followed, with one more event.
+use Rattle.std.proofs.Common.{length, ◌≡◌, ℕ, zero, suc, ◌+◌, ◌-◌, ◌<◌, List, [], ◌∷◌, ◌++◌, Some, None, Option}
+use Rattle.std.proofs.Common.{refl, sym, ap₂, ◌≤◌}
+use Rattle.std.proofs.Common.{ap, subst, ◌∙◌, arith, append_assoc, drop, take, add-one, length-append}
+use Rattle.std.specs.Prelude.{slice_get, slice_index}
+use Rattle.std.specs.Option.{option_map, option_to_list}
+use Rattle.std.proofs.lemmas.List.{append-nil, append_cancel_right, length-map, length-take-le, map-append}
+use Rattle.sixel_grammar.specs.declared.command.Command.TheVariants.{Sixel}
+use Rattle.sixel_grammar.specs.declared.command.Event.{Event}
+use Rattle.sixel_grammar.specs.declared.command.Event.TheVariants.{Step}
+use Rattle.sixel_grammar.specs.declared.command.Placed.{Placed}
+use Rattle.sixel_grammar.specs.Document.{events_of}
+use Rattle.sixel_grammar.specs.Stretches.{sixels_from}
+use Rattle.sixel_models.specs.declared.modelled.Modelled.{Modelled}
+use Rattle.sixel_models.specs.declared.progress.Progress.{Progress}
+use Rattle.sixel_models.specs.declared.reading.Reads.{Reads}
+use Rattle.sixel_models.specs.declared.reading.Reads.TheVariants.{Draws}
+use Rattle.sixel_terminal.specs.Stretches.{sixels_of}
+use Rattle.sixel_models.specs.declared.waiting.Waiting.{Waiting}
+use Rattle.sixel_models.specs.Courses.{AreDrawn, IsAt}
+use Rattle.sixel_models.specs.Modelled.{AreUnsaidBy, HasCome, HasFollowed, HasPlace, placed_at, waiting_in}
+use Rattle.sixel_models.specs.Readings.{ArePlain, Model, Rule}
+use Rattle.sixel_models.proofs.PlainLemmas.{first_before}
+use Rattle.sixel_models.proofs.PositionLemmas.{read_there}
+
+-- ---- the event at a position
+
+get_there : {A : Type 0} (before rest : List A) (x : A) → slice_get (before ++ x ∷ rest) (length before) ≡ Some x
+get_there [] rest x = refl
+get_there (b ∷ bs) rest x = get_there bs rest x
+
+events_then : (seen more : List Placed) → events_of (seen ++ more) ≡ events_of seen ++ events_of more
+events_then seen more = map-append (λ (p : Placed). p.event) seen more
+
+same_length : (placed : List Placed) → length (events_of placed) ≡ length placed
+same_length placed = length-map placed (λ (p : Placed). p.event)
+
+is_at : (m : Model) (before rest : List Placed) (q : Placed) (reads : Reads)
+    → reads ≡ m.rule (events_of before) q.event (slice_get (events_of rest) 0)
+    → IsAt m (events_of (before ++ q ∷ rest)) (length before) q.event reads
+is_at m before rest q reads is =
+    let es : List Event = events_of before ++ q.event ∷ events_of rest in
+    let there : IsAt m es (length (events_of before)) q.event reads = record {
+      here = get_there (events_of before) (events_of rest) q.event;
+      reads_are = is ∙ sym (read_there m (events_of before) (events_of rest) q.event);
+    } in
+    let placed : IsAt m es (length before) q.event reads =
+    subst (λ (n : ℕ). IsAt m es n q.event reads) (same_length before) there in
+    subst (λ (all : List Event). IsAt m all (length before) q.event reads) (sym (events_then before (q ∷ rest))) placed
+
+has_place : (before rest : List Placed) (q : Placed) → HasPlace (before ++ q ∷ rest) (length before) q.place
+has_place before rest q = ap (option_map (λ (p : Placed). p.place)) (get_there before rest q)
+
+-- ---- one more event
+
+abbrev waits_for : ℕ → Option Event → List Placed
+waits_for place o = option_to_list (option_map (placed_at place) o)
+
+-- what reading the event that waits does to how far it has come
+abbrev pub ReadsWaiting : {R : Type 0} → Model → (R → List Event → Type 0) → Modelled R → Option Event → Progress
+    → Type 0
+ReadsWaiting m has_seen w next p =
+    (e : Event) → w.waiting.pending ≡ Some e → (before : List Event) → has_seen w.waiting.reading before
+    → AreUnsaidBy m w.controls → (opening : List Event) (placed : List Placed) (n : ℕ)
+    → IsAt m (events_of placed) n e (m.rule before e next) → HasPlace placed n w.place
+    → HasCome m opening placed n w.progress → HasCome m opening placed (suc n) p
+
+-- all events that were taken are read now
+read_all : {R : Type 0} (m : Model) (has_seen : R → List Event → Type 0) (w : Modelled R) (opening : List Event)
+    (placed more : List Placed) (next : Option Event) (p : Progress) → HasFollowed m has_seen w opening placed
+    → slice_get (events_of more) 0 ≡ next → (w.waiting.pending ≡ None → p ≡ w.progress)
+    → ReadsWaiting m has_seen w next p → HasCome m opening (placed ++ more) (length placed) p
+read_all m has_seen w opening placed more next p h first none some = at_pending w.waiting.pending refl
+  where
+    nothing : w.waiting.pending ≡ None → HasCome m opening (placed ++ more) (length placed) p
+    nothing is =
+        let same : length placed ≡ length h.read = ap length (h.are ∙ (ap (λ o. h.read ++ waits_for w.place o) is
+        ∙ append-nil h.read)) in
+        subst (λ (n : ℕ). HasCome m opening (placed ++ more) n p) (sym same)
+        (subst (λ (q : Progress). HasCome m opening (placed ++ more) (length h.read) q) (sym (none is)) (h.come more))
+
+    waits : (e : Event) → w.waiting.pending ≡ Some e → HasCome m opening (placed ++ more) (length placed) p
+    waits e is =
+        let q : Placed = placed_at w.place e in
+        let are : placed ≡ h.read ++ q ∷ [] = h.are ∙ ap (λ o. h.read ++ waits_for w.place o) is in
+        let all : placed ++ more ≡ h.read ++ q ∷ more =
+        ap (λ (ps : List Placed). ps ++ more) are ∙ append_assoc h.read (q ∷ []) more in
+        let lengths : length placed ≡ suc (length h.read) =
+        ap length are ∙ (length-append h.read (q ∷ []) ∙ omega arith) in
+        let come : HasCome m opening (h.read ++ q ∷ more) (suc (length h.read)) p =
+        some e is (events_of h.read) h.seen h.controls opening (h.read ++ q ∷ more) (length h.read)
+        (is_at m h.read more q _ (ap (m.rule (events_of h.read) e) (sym first))) (has_place h.read more q)
+        (subst (λ (ps : List Placed). HasCome m opening ps (length h.read) w.progress) all (h.come more)) in
+        subst (λ (n : ℕ). HasCome m opening (placed ++ more) n p) (sym lengths)
+        (subst (λ (ps : List Placed). HasCome m opening ps (suc (length h.read)) p) (sym all) come)
+
+    at_pending : (o : Option Event) → w.waiting.pending ≡ o → HasCome m opening (placed ++ more) (length placed) p
+    at_pending None is = nothing is
+    at_pending (Some e) is = waits e is
+
+events_waiting : (place : ℕ) (o : Option Event) → events_of (waits_for place o) ≡ option_to_list o
+events_waiting place None = refl
+events_waiting place (Some e) = refl
+
+pub follows_more : {R : Type 0} (m : Model) (has_seen : R → List Event → Type 0) (w : Modelled R) (opening : List Event)
+    (placed : List Placed) (place : ℕ) (event : Event) (waiting : Waiting R) (p : Progress)
+    → ((before : List Event) → has_seen w.waiting.reading before
+    → has_seen waiting.reading (before ++ option_to_list w.waiting.pending))
+    → waiting.pending ≡ Some event → (w.waiting.pending ≡ None → p ≡ w.progress)
+    → ReadsWaiting m has_seen w (Some event) p → HasFollowed m has_seen w opening placed
+    → HasFollowed m has_seen (record { waiting = waiting; place = place; progress = p; controls = w.controls }) opening
+    (placed ++ placed_at place event ∷ [])
+follows_more m has_seen w opening placed place event waiting p reads pending none some h =
+    let q : Placed = placed_at place event in
+    let read : events_of h.read ++ option_to_list w.waiting.pending ≡ events_of placed =
+    ap (λ (es : List Event). events_of h.read ++ es) (sym (events_waiting w.place w.waiting.pending))
+    ∙ (sym (events_then h.read (waiting_in w)) ∙ ap events_of (sym h.are)) in
+    record {
+      controls = h.controls;
+      read = placed;
+      are = ap (λ o. placed ++ waits_for place o) (sym pending);
+      seen = subst (has_seen waiting.reading) read (reads (events_of h.read) h.seen);
+      come = λ later.
+          subst (λ (ps : List Placed). HasCome m opening ps (length placed) p)
+          (sym (append_assoc placed (q ∷ []) later))
+          (read_all m has_seen w opening placed (q ∷ later) (Some event) p h refl none some);
+    }
+
+-- ---- at the end
+
+pub all_read : {R : Type 0} (m : Model) (has_seen : R → List Event → Type 0) (w : Modelled R) (opening : List Event)
+    (placed : List Placed) (p : Progress) → (w.waiting.pending ≡ None → p ≡ w.progress)
+    → ReadsWaiting m has_seen w None p → HasFollowed m has_seen w opening placed
+    → HasCome m opening placed (length placed) p
+all_read m has_seen w opening placed p none some h =
+    subst (λ (ps : List Placed). HasCome m opening ps (length placed) p) (append-nil placed)
+    (read_all m has_seen w opening placed [] None p h refl none some)
+
+-- ---- sixels
+
+sixels_push : (place : ℕ) (bytes : List ℕ) (i : ℕ) → i < length bytes
+    → sixels_from place (take (suc i) bytes)
+    ≡ sixels_from place (take i bytes) ++ placed_at (place + i) (Step (Sixel (slice_index bytes i - 63))) ∷ []
+sixels_push place [] i lt = absurd (omega (arith, lt))
+sixels_push place (b ∷ bs) zero lt =
+    let same : place ≡ place + 0 = omega arith in
+    ap (λ (k : ℕ). placed_at k (Step (Sixel (b - 63))) ∷ []) same
+sixels_push place (b ∷ bs) (suc i) lt =
+    let same : place + 1 + i ≡ place + suc i = omega arith in
+    let less : i < length bs = omega (arith, lt) in
+    ap (λ (ps : List Placed). placed_at place (Step (Sixel (b - 63))) ∷ ps)
+    (sixels_push (place + 1) bs i less
+    ∙ ap (λ (k : ℕ). sixels_from (place + 1) (take i bs) ++ placed_at k (Step (Sixel (slice_index bs i - 63))) ∷ [])
+    same)
+
+pub one_sixel_more : (before : List Placed) (place : ℕ) (bytes : List ℕ) (i : ℕ) → i < length bytes
+    → (before ++ sixels_from place (take i bytes))
+    ++ placed_at (place + i) (Step (Sixel (slice_index bytes i - 63))) ∷ []
+    ≡ before ++ sixels_from place (take (i + 1) bytes)
+one_sixel_more before place bytes i lt =
+    append_assoc before (sixels_from place (take i bytes))
+    (placed_at (place + i) (Step (Sixel (slice_index bytes i - 63))) ∷ [])
+    ∙ ap (λ (ps : List Placed). before ++ ps)
+    (sym (sixels_push place bytes i lt) ∙ ap (λ n. sixels_from place (take n bytes)) (sym (add-one i)))
+
+-- ---- sixels that are drawn as they are
+
+plain_first : (rule : Rule) (before : List Event) (n bits next : ℕ) → ArePlain rule before (suc n)
+    → rule before (Step (Sixel bits)) (Some (Step (Sixel next))) ≡ Draws (Sixel bits)
+plain_first rule before n bits next plain =
+    subst (λ (es : List Event). rule es (Step (Sixel bits)) (Some (Step (Sixel next))) ≡ Draws (Sixel bits))
+    (append-nil before) (plain [] (omega arith) bits next)
+
+plain_next : (rule : Rule) (before : List Event) (n b : ℕ) → ArePlain rule before (suc n)
+    → ArePlain rule (before ++ Step (Sixel (b - 63)) ∷ []) n
+plain_next rule before n b plain = λ earlier lt bits next.
+    subst (λ (es : List Event). rule es (Step (Sixel bits)) (Some (Step (Sixel next))) ≡ Draws (Sixel bits))
+    (first_before before b earlier) (plain (b ∷ earlier) (omega (arith, lt)) bits next)
+
+-- those before `last`, which has the next offset
+plain_drawn : (m : Model) (read : List Placed) (place : ℕ) (bytes : List ℕ) (last at : ℕ) (later : List Placed)
+    → ArePlain m.rule (events_of read) (length bytes)
+    → AreDrawn m (events_of (read ++ (sixels_from place bytes ++ placed_at at (Step (Sixel last)) ∷ later)))
+    (length read) bytes
+plain_drawn m read place [] last at later plain = tt
+plain_drawn m read place (b ∷ bs) last at later plain =
+    let q : Placed = placed_at place (Step (Sixel (b - 63))) in
+    let rest : List Placed = sixels_from (place + 1) bs ++ placed_at at (Step (Sixel last)) ∷ later in
+    let long : length (read ++ q ∷ []) ≡ suc (length read) = length-append read (q ∷ []) ∙ omega arith in
+    let all : (read ++ q ∷ []) ++ rest ≡ read ++ q ∷ rest = append_assoc read (q ∷ []) rest in
+    let known : ArePlain m.rule (events_of (read ++ q ∷ [])) (length bs) =
+    subst (λ (es : List Event). ArePlain m.rule es (length bs)) (sym (events_then read (q ∷ [])))
+    (plain_next m.rule (events_of read) (length bs) b plain) in (
+      is_at m read rest q (Draws (Sixel (b - 63))) (first_is bs plain),
+      subst (λ (n : ℕ). AreDrawn m (events_of (read ++ q ∷ rest)) n bs) long
+          (subst (λ (ps : List Placed). AreDrawn m (events_of ps) (length (read ++ q ∷ [])) bs) all
+          (plain_drawn m (read ++ q ∷ []) (place + 1) bs last at later known)),
+    )
+  where
+    first_is : (ds : List ℕ) → ArePlain m.rule (events_of read) (suc (length ds))
+        → Draws (Sixel (b - 63))
+        ≡ m.rule (events_of read) (Step (Sixel (b - 63)))
+        (slice_get (events_of (sixels_from (place + 1) ds ++ placed_at at (Step (Sixel last)) ∷ later)) 0)
+    first_is [] known = sym (plain_first m.rule (events_of read) 0 (b - 63) last known)
+    first_is (d ∷ ds) known = sym (plain_first m.rule (events_of read) (suc (length ds)) (b - 63) (d - 63) known)
+
+fewer : (rule : Rule) (before : List Event) (n k : ℕ) → k ≤ n → ArePlain rule before n → ArePlain rule before k
+fewer rule before n k le plain = λ earlier lt. plain earlier (omega (arith, le, lt))
+
+sixels_events : (place : ℕ) (bytes : List ℕ) → events_of (sixels_from place bytes) ≡ sixels_of bytes
+sixels_events place [] = refl
+sixels_events place (b ∷ bs) = ap (λ (es : List Event). Step (Sixel (b - 63)) ∷ es) (sixels_events (place + 1) bs)
+
+sixels_length : (place : ℕ) (bytes : List ℕ) → length (sixels_from place bytes) ≡ length bytes
+sixels_length place [] = refl
+sixels_length place (b ∷ bs) = ap suc (sixels_length (place + 1) bs)
+
+-- the first of these sixels waits; they are read, and `last` waits
+pub follows_plain : {R : Type 0} (m : Model) (has_seen : R → List Event → Type 0) (w : Modelled R)
+    (opening : List Event) (before : List Placed) (place b : ℕ) (bs : List ℕ) (last n : ℕ) (waiting : Waiting R) (p : Progress)
+    → w.waiting.pending ≡ Some (Step (Sixel (b - 63))) → w.place ≡ place
+    → ((es : List Event) → has_seen w.waiting.reading es → ArePlain m.rule es n) → suc (length bs) ≤ n
+    → ((es : List Event) → has_seen w.waiting.reading es → has_seen waiting.reading (es ++ sixels_of (b ∷ bs)))
+    → waiting.pending ≡ Some (Step (Sixel last))
+    → ((first : List Event) (placed : List Placed) (k : ℕ) → AreDrawn m (events_of placed) k (b ∷ bs)
+    → HasCome m first placed k w.progress → HasCome m first placed (k + length (b ∷ bs)) p)
+    → HasFollowed m has_seen w opening (before ++ placed_at place (Step (Sixel (b - 63))) ∷ [])
+    → HasFollowed m has_seen
+    (record { waiting = waiting; place = place + length (b ∷ bs); progress = p; controls = w.controls }) opening
+    ((before ++ sixels_from place (b ∷ bs)) ++ placed_at (place + length (b ∷ bs)) (Step (Sixel last)) ∷ [])
+follows_plain m has_seen w opening before place b bs last n waiting p waits here plain enough reads pending draws h =
+    let q : Placed = placed_at place (Step (Sixel (b - 63))) in
+    let l : Placed = placed_at (place + length (b ∷ bs)) (Step (Sixel last)) in
+    let waited : waiting_in w ≡ q ∷ [] =
+    ap₂ (λ (o : Option Event) (k : ℕ). waits_for k o) waits here in
+    let read : h.read ≡ before =
+    append_cancel_right h.read before (q ∷ [])
+    (ap (λ (ps : List Placed). h.read ++ ps) (sym waited) ∙ sym h.are) in
+    let seen : has_seen w.waiting.reading (events_of before) =
+    subst (λ (ps : List Placed). has_seen w.waiting.reading (events_of ps)) read h.seen in
+    let events : events_of (before ++ sixels_from place (b ∷ bs)) ≡ events_of before ++ sixels_of (b ∷ bs) =
+    events_then before (sixels_from place (b ∷ bs))
+    ∙ ap (λ (es : List Event). events_of before ++ es) (sixels_events place (b ∷ bs)) in
+    record {
+      controls = h.controls;
+      read = before ++ sixels_from place (b ∷ bs);
+      are = ap (λ (o : Option Event). (before ++ sixels_from place (b ∷ bs))
+          ++ waits_for (place + length (b ∷ bs)) o) (sym pending);
+      seen = subst (has_seen waiting.reading) (sym events) (reads (events_of before) seen);
+      come = λ later.
+          let rest : List Placed = sixels_from (place + 1) bs ++ l ∷ later in
+          let after : ((before ++ sixels_from place (b ∷ bs)) ++ l ∷ []) ++ later ≡ before ++ q ∷ rest =
+          append_assoc (before ++ sixels_from place (b ∷ bs)) (l ∷ []) later
+          ∙ append_assoc before (sixels_from place (b ∷ bs)) (l ∷ later) in
+          let old : HasCome m opening (before ++ q ∷ rest) (length before) w.progress =
+          subst (λ (ps : List Placed). HasCome m opening (before ++ q ∷ rest) (length ps) w.progress) read
+          (subst (λ (ps : List Placed). HasCome m opening ps (length h.read) w.progress)
+          (append_assoc before (q ∷ []) rest) (h.come rest)) in
+          let drawn : AreDrawn m (events_of (before ++ q ∷ rest)) (length before) (b ∷ bs) =
+          plain_drawn m before place (b ∷ bs) last (place + length (b ∷ bs)) later
+          (fewer m.rule (events_of before) n (suc (length bs)) enough (plain (events_of before) seen)) in
+          let long : length before + length (b ∷ bs) ≡ length (before ++ sixels_from place (b ∷ bs)) =
+          ap (λ (k : ℕ). length before + k) (sym (sixels_length place (b ∷ bs)))
+          ∙ sym (length-append before (sixels_from place (b ∷ bs))) in
+          subst (λ (ps : List Placed). HasCome m opening ps (length (before ++ sixels_from place (b ∷ bs))) p)
+          (sym after)
+          (subst (λ (k : ℕ). HasCome m opening (before ++ q ∷ rest) k p) long
+          (draws opening (before ++ q ∷ rest) (length before) drawn old));
+    }
+
+-- the same of the first k of these bytes; the one after them waits
+pub follows_taken : {R : Type 0} (m : Model) (has_seen : R → List Event → Type 0) (w : Modelled R)
+    (opening : List Event) (before : List Placed) (place : ℕ) (bytes : List ℕ) (k n : ℕ) (waiting : Waiting R) (p : Progress)
+    → (k ≡ 0 → ⊥) → k < length bytes → w.waiting.pending ≡ Some (Step (Sixel (slice_index bytes 0 - 63)))
+    → w.place ≡ place → ((es : List Event) → has_seen w.waiting.reading es → ArePlain m.rule es n) → k ≤ n
+    → ((es : List Event) → has_seen w.waiting.reading es
+    → has_seen waiting.reading (es ++ sixels_of (take k bytes)))
+    → waiting.pending ≡ Some (Step (Sixel (slice_index bytes k - 63)))
+    → ((first : List Event) (placed : List Placed) (i : ℕ) → AreDrawn m (events_of placed) i (take k bytes)
+    → HasCome m first placed i w.progress → HasCome m first placed (i + length (take k bytes)) p)
+    → HasFollowed m has_seen w opening
+    (before ++ placed_at place (Step (Sixel (slice_index bytes 0 - 63))) ∷ [])
+    → HasFollowed m has_seen
+    (record { waiting = waiting; place = place + k; progress = p; controls = w.controls }) opening
+    (before ++ sixels_from place (take (k + 1) bytes))
+follows_taken m has_seen w opening before place bytes zero n waiting p some lt waits here plain enough reads pending
+    draws h = absurd (some refl)
+follows_taken m has_seen w opening before place [] (suc j) n waiting p some lt waits here plain enough reads pending
+    draws h = absurd (omega (arith, lt))
+follows_taken {R} m has_seen w opening before place (b ∷ bs) (suc j) n waiting p some lt waits here plain enough reads
+    pending draws h =
+    let long : suc (length (take j bs)) ≡ suc j = ap suc (length-take-le j bs (omega (arith, lt))) in
+    subst (HasFollowed m has_seen
+    (record { waiting = waiting; place = place + suc j; progress = p; controls = w.controls }) opening)
+    (one_sixel_more before place (b ∷ bs) (suc j) lt)
+    (subst (λ (k : ℕ). HasFollowed m has_seen
+    (record { waiting = waiting; place = place + k; progress = p; controls = w.controls }) opening
+    ((before ++ sixels_from place (b ∷ take j bs))
+    ++ placed_at (place + k) (Step (Sixel (slice_index (b ∷ bs) (suc j) - 63))) ∷ [])) long
+    (follows_plain m has_seen w opening before place b (take j bs) (slice_index (b ∷ bs) (suc j) - 63) n waiting p waits
+    here plain (subst (λ (k : ℕ). k ≤ n) (sym long) enough) reads pending draws h))
+
+-- ---- in parts
+
+take_none : (r : ℕ) → take {A = ℕ} r [] ≡ []
+take_none zero = refl
+take_none (suc r) = refl
+
+sixels_more : (place : ℕ) (bytes : List ℕ) (t r : ℕ)
+    → sixels_from place (take t bytes) ++ sixels_from (place + t) (take r (drop t bytes))
+    ≡ sixels_from place (take (t + r) bytes)
+sixels_more place bytes zero r =
+    let at : place + 0 ≡ place = omega arith in
+    let count : r ≡ 0 + r = omega arith in
+    ap₂ (λ (p k : ℕ). sixels_from p (take k bytes)) at count
+sixels_more place [] (suc t) r =
+    ap (sixels_from (place + suc t)) (take_none r) ∙ ap (sixels_from place) (sym (take_none (suc t + r)))
+sixels_more place (b ∷ bs) (suc t) r =
+    let at : place + suc t ≡ place + 1 + t = omega arith in
+    let count : suc (t + r) ≡ suc t + r = omega arith in
+    ap (λ (ps : List Placed). placed_at place (Step (Sixel (b - 63))) ∷ ps)
+    (ap (λ (p : ℕ). sixels_from (place + 1) (take t bs) ++ sixels_from p (take r (drop t bs))) at
+    ∙ sixels_more (place + 1) bs t r)
+    ∙ ap (λ (k : ℕ). sixels_from place (take k (b ∷ bs))) count
+
+pub more_sixels : (before : List Placed) (place : ℕ) (bytes : List ℕ) (t r : ℕ)
+    → (before ++ sixels_from place (take t bytes)) ++ sixels_from (place + t) (take r (drop t bytes))
+    ≡ before ++ sixels_from place (take (t + r) bytes)
+more_sixels before place bytes t r =
+    append_assoc before (sixels_from place (take t bytes)) (sixels_from (place + t) (take r (drop t bytes)))
+    ∙ ap (λ (ps : List Placed). before ++ ps) (sixels_more place bytes t r)

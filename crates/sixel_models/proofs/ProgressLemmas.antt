@@ -1,0 +1,337 @@
+-- How far a drawing by a model has come.
+use Rattle.std.proofs.Common.{length, ◌≡◌, ℕ, zero, suc, ◌+◌, ◌≤◌, inl, inr, Bool, true, false, List, [], ◌∷◌}
+use Rattle.std.proofs.Common.{◌-◌, ◌++◌, refl, sym, ap, subst, ◌∙◌, arith, append_assoc}
+use Rattle.std.specs.Prelude.{flat_map}
+use Rattle.std.specs.List.{range_with_len}
+use Rattle.std.proofs.Math.Nat.{eq-or-lt_of_le}
+use Rattle.std.proofs.lemmas.List.{append-nil, length-map}
+use Rattle.std.proofs.lemmas.List.Concat.{flat_map-append}
+use Rattle.sixel_grammar.specs.declared.command.Command.{Command}
+use Rattle.sixel_grammar.specs.declared.command.Command.TheVariants.{Sixel}
+use Rattle.sixel_grammar.specs.declared.command.Event.{Event}
+use Rattle.sixel_grammar.specs.declared.command.Event.TheVariants.{Step}
+use Rattle.sixel_grammar.specs.declared.command.Placed.{Placed}
+use Rattle.sixel_grammar.specs.Document.{events_of}
+use Rattle.sixel_terminal.specs.Drawings.{Drawn, HasDrawn}
+use Rattle.sixel_models.specs.declared.course.Course.{Course}
+use Rattle.sixel_models.specs.declared.course.Course.TheVariants.{Goes, Stopped, Ended}
+use Rattle.sixel_models.specs.declared.reading.Reads.{Reads}
+use Rattle.sixel_models.specs.declared.reading.Reads.TheVariants.{Draws}
+use Rattle.sixel_terminal.specs.Stretches.{sixels_of}
+use Rattle.sixel_models.proofs.CourseLemmas.{course_push, stays_stopped}
+use Rattle.sixel_models.proofs.PlainLemmas.{first_before}
+use Rattle.sixel_models.specs.Courses.{AreDrawn, HasEnded, HasStopped, IsAt, IsCourse, SaidBelow, next_course}
+use Rattle.sixel_models.specs.Modelled.{ComesBy, EndsAtPlace, HasDrawnBelow, HasEndedAt, HasPlace, IsDrawingOf}
+use Rattle.sixel_models.specs.Modelled.{drawn_below}
+use Rattle.sixel_models.specs.Readings.{IsSaid, Model, StopsNowhereBelow, drawn_by, is_stop, read_at}
+
+-- ---- before any event
+
+pub come_start : (m : Model) (opening : List Event) (placed : List Placed) (c : Course) (end : ℕ) (d : Drawn)
+    → ((events : List Event) → IsCourse m events 0 c) → HasDrawn d opening → ComesBy m opening placed 0 c end d
+come_start m opening placed Goes end d s drawn = (
+  s (events_of placed),
+  record {
+    end = 0;
+    within = omega arith;
+    goes_on = λ k lt. absurd (omega arith);
+    stops = λ lt. absurd (omega arith);
+    drawn = subst (HasDrawn d) (sym (append-nil opening)) drawn;
+  },
+)
+come_start m opening placed Stopped end d s drawn = absurd (none_below (s (events_of placed)))
+  where
+    none_below : HasStopped m (events_of placed) 0 → ⊥
+    none_below t = omega (arith, t.within)
+come_start m opening placed Ended end d s drawn = absurd (none_below (s (events_of placed)))
+  where
+    none_below : HasEnded m (events_of placed) 0 → ⊥
+    none_below t = omega (arith, t.within)
+
+-- ---- one more event
+
+not_both : (b : Bool) → b ≡ true → b ≡ false → ⊥
+not_both true h k = cc
+not_both false h k = cc
+
+range_more : (a n : ℕ) → range_with_len a (suc n) ≡ range_with_len a n ++ (a + n) ∷ []
+range_more a zero = ap (λ (k : ℕ). k ∷ []) (omega arith)
+range_more a (suc n) =
+    let same : a + 1 + n ≡ a + suc n = omega arith in
+    ap (λ (ks : List ℕ). a ∷ ks)
+    (range_more (a + 1) n ∙ ap (λ (k : ℕ). range_with_len (a + 1) n ++ k ∷ []) same)
+
+below_more : (m : Model) (opening events : List Event) (n : ℕ) (reads : Reads) → reads ≡ read_at m events n
+    → (opening ++ drawn_below m events n) ++ drawn_by reads
+    ≡ opening ++ drawn_below m events (suc n)
+below_more m opening events n reads is =
+    let f : ℕ → List Event = λ i. drawn_by (read_at m events i) in
+    let here : 0 + n ≡ n = omega arith in
+    let last : flat_map f ((0 + n) ∷ []) ≡ drawn_by reads =
+    ap (λ (k : ℕ). flat_map f (k ∷ [])) here ∙ (append-nil (f n) ∙ ap drawn_by (sym is)) in
+    append_assoc opening (flat_map f (range_with_len 0 n)) (drawn_by reads)
+    ∙ ap (λ (es : List Event). opening ++ es)
+    (ap (λ (es : List Event). flat_map f (range_with_len 0 n) ++ es) (sym last)
+    ∙ (sym (flat_map-append f (range_with_len 0 n) ((0 + n) ∷ []))
+    ∙ ap (flat_map f) (sym (range_more 0 n))))
+
+-- if it stops nowhere below n, all below n is drawn
+all_below : {m : Model} {opening events : List Event} {n : ℕ} {d : Drawn} → StopsNowhereBelow m events n
+    → (h : HasDrawnBelow m opening events n d) → h.end ≡ n
+all_below {m} {opening} {events} {n} {d} goes h =
+    elim (eq-or-lt_of_le h.within) [
+      | inl e ↦ e
+      | inr lt ↦ absurd (not_both _ (h.stops lt) (goes h.end lt))
+    ]
+
+draws_on : (m : Model) (opening events : List Event) (n : ℕ) (reads : Reads) (d after : Drawn)
+    → reads ≡ read_at m events n → StopsNowhereBelow m events (suc n)
+    → ((before : List Event) → HasDrawn d before → HasDrawn after (before ++ drawn_by reads))
+    → HasDrawnBelow m opening events n d → HasDrawnBelow m opening events (suc n) after
+draws_on m opening events n reads d after is goes draws h =
+    let all : h.end ≡ n = all_below (λ k lt. goes k (omega (arith, lt))) h in
+    record {
+      end = suc n;
+      within = omega arith;
+      goes_on = goes;
+      stops = λ lt. absurd (omega (arith, lt));
+      drawn = subst (HasDrawn after)
+          (ap (λ (k : ℕ). (opening ++ drawn_below m events k) ++ drawn_by reads) all
+          ∙ below_more m opening events n reads is)
+          (draws _ h.drawn);
+    }
+
+stops_on : (m : Model) (opening events : List Event) (n : ℕ) (d : Drawn) → HasStopped m events (suc n)
+    → HasDrawnBelow m opening events n d → HasDrawnBelow m opening events (suc n) d
+stops_on m opening events n d s h = record {
+  end = h.end;
+  within = omega (arith, h.within);
+  goes_on = h.goes_on;
+  stops = λ lt. elim (eq-or-lt_of_le h.within) [
+    | inl e ↦ at_end e
+    | inr less ↦ h.stops less
+  ];
+  drawn = h.drawn;
+}
+  where
+    at_end : h.end ≡ n → is_stop (read_at m events h.end) ≡ true
+    at_end e =
+        let le : s.end ≤ n = omega (arith, s.within) in
+        elim (eq-or-lt_of_le le) [
+          | inl at ↦ subst (λ (k : ℕ). is_stop (read_at m events k) ≡ true) (at ∙ sym e) s.stops
+          | inr lt ↦ absurd (not_both _ s.stops (h.goes_on s.end (omega (arith, lt, e))))
+        ]
+
+ends_on : (m : Model) (placed : List Placed) (n place : ℕ) → HasPlace placed n place
+    → SaidBelow m (events_of placed) n → HasEnded m (events_of placed) (suc n) → HasEndedAt m placed (suc n) place
+ends_on m placed n place has said s =
+    let le : s.at ≤ n = omega (arith, s.within) in
+    elim (eq-or-lt_of_le le) [
+      | inl e ↦ record { ended = s; has_place = subst (λ (k : ℕ). HasPlace placed k place) (sym e) has }
+      | inr lt ↦ absurd (said s.at lt s.unsaid)
+    ]
+
+not_drawn : (m : Model) (opening events : List Event) (n : ℕ) (d drawing : Drawn)
+    → ((before : List Event) → HasDrawn d before → HasDrawn drawing before) → HasStopped m events (suc n)
+    → HasDrawnBelow m opening events n d → HasDrawnBelow m opening events (suc n) drawing
+not_drawn m opening events n d drawing keeps s h =
+    let more : HasDrawnBelow m opening events (suc n) d = stops_on m opening events n d s h in
+    record {
+      end = more.end;
+      within = more.within;
+      goes_on = more.goes_on;
+      stops = more.stops;
+      drawn = keeps _ more.drawn;
+    }
+
+pub come_on : (m : Model) (opening : List Event) (placed : List Placed) (n : ℕ) (e : Event) (reads : Reads)
+    (c after : Course) (end place : ℕ) (d drawing : Drawn) → (c ≡ Ended → ⊥) → IsAt m (events_of placed) n e reads
+    → HasPlace placed n place → (IsCourse m (events_of placed) n c → IsCourse m (events_of placed) (suc n) after)
+    → (after ≡ Goes → (before : List Event) → HasDrawn d before → HasDrawn drawing (before ++ drawn_by reads))
+    → ((after ≡ Goes → ⊥) → (before : List Event) → HasDrawn d before → HasDrawn drawing before)
+    → ComesBy m opening placed n c end d
+    → ComesBy m opening placed (suc n) after place drawing
+come_on m opening placed n e reads Goes Goes end place d drawing goes at has course draws keeps come = (
+  course come.0,
+  draws_on m opening (events_of placed) n reads d drawing at.reads_are (course come.0).0 (draws refl) come.1,
+)
+come_on m opening placed n e reads Goes Stopped end place d drawing goes at has course draws keeps come = (
+  course come.0,
+  not_drawn m opening (events_of placed) n d drawing (keeps (λ h. cc)) (course come.0) come.1,
+)
+come_on m opening placed n e reads Goes Ended end place d drawing goes at has course draws keeps come =
+    ends_on m placed n place has come.0.1 (course come.0)
+come_on m opening placed n e reads Stopped Goes end place d drawing goes at has course draws keeps come = (
+  course come.0,
+  draws_on m opening (events_of placed) n reads d drawing at.reads_are (course come.0).0 (draws refl) come.1,
+)
+come_on m opening placed n e reads Stopped Stopped end place d drawing goes at has course draws keeps come = (
+  course come.0,
+  not_drawn m opening (events_of placed) n d drawing (keeps (λ h. cc)) (course come.0) come.1,
+)
+come_on m opening placed n e reads Stopped Ended end place d drawing goes at has course draws keeps come =
+    ends_on m placed n place has (said come.0) (course come.0)
+  where
+    said : HasStopped m (events_of placed) n → SaidBelow m (events_of placed) n
+    said s = s.said
+come_on m opening placed n e reads Ended after end place d drawing goes at has course draws keeps come =
+    absurd (goes refl)
+
+pub come_ended : (m : Model) (opening : List Event) (placed : List Placed) (n : ℕ) (c : Course) (end : ℕ) (d : Drawn)
+    → c ≡ Ended → ComesBy m opening placed n c end d → ComesBy m opening placed (suc n) c end d
+come_ended m opening placed n Ended end d is s = record {
+  ended = record {
+    at = s.ended.at;
+    within = omega (arith, s.ended.within);
+    unsaid = s.ended.unsaid;
+    said = s.ended.said;
+  };
+  has_place = s.has_place;
+}
+come_ended m opening placed n Goes end d is s = absurd cc
+come_ended m opening placed n Stopped end d is s = absurd cc
+
+-- ---- sixels that are drawn as they are
+
+same_course : (c : Course) (command : Command) → next_course c false (Draws command) ≡ c
+same_course Goes command = refl
+same_course Stopped command = refl
+same_course Ended command = refl
+
+further : (P : ℕ → Type 0) (n k : ℕ) → P (suc n + k) → P (n + suc k)
+further P n k h = subst P (omega arith) h
+
+not_further : (P : ℕ → Type 0) (n : ℕ) → P n → P (n + 0)
+not_further P n h = subst P (omega arith) h
+
+course_sixels : (m : Model) (events : List Event) (n : ℕ) (bytes : List ℕ) (c : Course) → AreDrawn m events n bytes
+    → IsCourse m events n c → IsCourse m events (n + length bytes) c
+course_sixels m events n [] c drawn s = not_further (λ k. IsCourse m events k c) n s
+course_sixels m events n (b ∷ bs) c drawn s =
+    let e : Event = Step (Sixel (b - 63)) in
+    further (λ k. IsCourse m events k c) n (length bs)
+    (course_sixels m events (suc n) bs c drawn.1
+    (subst (IsCourse m events (suc n)) (same_course c (Sixel (b - 63)))
+    (course_push m events n e c false (Draws (Sixel (b - 63))) drawn.0 refl s)))
+
+sixels_below : (m : Model) (opening events : List Event) (n : ℕ) (bytes : List ℕ) → AreDrawn m events n bytes
+    → (opening ++ drawn_below m events n) ++ sixels_of bytes ≡ opening ++ drawn_below m events (n + length bytes)
+sixels_below m opening events n [] drawn =
+    let same : n ≡ n + 0 = omega arith in
+    append-nil (opening ++ drawn_below m events n) ∙ ap (λ (k : ℕ). opening ++ drawn_below m events k) same
+sixels_below m opening events n (b ∷ bs) drawn =
+    let same : suc n + length bs ≡ n + suc (length bs) = omega arith in
+    first_before (opening ++ drawn_below m events n) b bs
+    ∙ (ap (λ (es : List Event). es ++ sixels_of bs)
+    (below_more m opening events n (Draws (Sixel (b - 63))) drawn.0.reads_are)
+    ∙ (sixels_below m opening events (suc n) bs drawn.1
+    ∙ ap (λ (k : ℕ). opening ++ drawn_below m events k) same))
+
+stopped_sixels : (m : Model) (opening events : List Event) (n : ℕ) (bytes : List ℕ) (d : Drawn)
+    → AreDrawn m events n bytes → HasStopped m events n → HasDrawnBelow m opening events n d
+    → HasDrawnBelow m opening events (n + length bytes) d
+stopped_sixels m opening events n [] d drawn s h = not_further (λ k. HasDrawnBelow m opening events k d) n h
+stopped_sixels m opening events n (b ∷ bs) d drawn s h =
+    let next : HasStopped m events (suc n) =
+    stays_stopped (Step (Sixel (b - 63))) (Draws (Sixel (b - 63))) drawn.0 refl s in
+    further (λ k. HasDrawnBelow m opening events k d) n (length bs)
+    (stopped_sixels m opening events (suc n) bs d drawn.1 next (stops_on m opening events n d next h))
+
+pub come_sixels : (m : Model) (opening : List Event) (placed : List Placed) (n : ℕ) (bytes : List ℕ) (c : Course)
+    (end : ℕ) (d after : Drawn) → AreDrawn m (events_of placed) n bytes
+    → (c ≡ Goes → (before : List Event) → HasDrawn d before → HasDrawn after (before ++ sixels_of bytes))
+    → ((c ≡ Goes → ⊥) → after ≡ d) → ComesBy m opening placed n c end d
+    → ComesBy m opening placed (n + length bytes) c end after
+come_sixels m opening placed n bytes Goes end d after drawn draws keeps come =
+    let goes = course_sixels m (events_of placed) n bytes Goes drawn come.0 in
+    let all : come.1.end ≡ n = all_below come.0.0 come.1 in (
+      goes,
+      record {
+        end = n + length bytes;
+        within = omega arith;
+        goes_on = goes.0;
+        stops = λ lt. absurd (omega (arith, lt));
+        drawn = subst (HasDrawn after)
+            (ap (λ (k : ℕ). (opening ++ drawn_below m (events_of placed) k) ++ sixels_of bytes) all
+            ∙ sixels_below m opening (events_of placed) n bytes drawn)
+            (draws refl _ come.1.drawn);
+      },
+    )
+come_sixels m opening placed n bytes Stopped end d after drawn draws keeps come = (
+  course_sixels m (events_of placed) n bytes Stopped drawn come.0,
+  subst (HasDrawnBelow m opening (events_of placed) (n + length bytes)) (sym (keeps (λ h. cc)))
+      (stopped_sixels m opening (events_of placed) n bytes d drawn come.0 come.1),
+)
+come_sixels m opening placed n bytes Ended end d after drawn draws keeps come = record {
+  ended = record {
+    at = come.ended.at;
+    within = omega (arith, come.ended.within);
+    unsaid = come.ended.unsaid;
+    said = come.ended.said;
+  };
+  has_place = come.has_place;
+}
+
+-- ---- at the end
+
+-- what is drawn below the end is what a plain terminal draws in place of all events
+is_drawing : (m : Model) (opening : List Event) (placed : List Placed) (d : Drawn) → IsSaid m (events_of placed)
+    → HasDrawnBelow m opening (events_of placed) (length (events_of placed)) d
+    → IsDrawingOf m opening (events_of placed) d
+is_drawing m opening placed d said h = record {
+  said = said;
+  drawing = opening ++ drawn_below m (events_of placed) h.end;
+  is_reading = λ is. record {
+    end = h.end;
+    within = h.within;
+    goes_on = h.goes_on;
+    stops = h.stops;
+    drawing_is = ap (λ (es : List Event). es ++ drawn_below m (events_of placed) h.end) is;
+  };
+  drawn = h.drawn;
+}
+
+same_length : (placed : List Placed) → length placed ≡ length (events_of placed)
+same_length placed = sym (length-map placed (λ (p : Placed). p.event))
+
+to_end : (m : Model) (opening : List Event) (placed : List Placed) (c : Course) (end : ℕ) (d : Drawn)
+    → ComesBy m opening placed (length placed) c end d
+    → ComesBy m opening placed (length (events_of placed)) c end d
+to_end m opening placed c end d s =
+    subst (λ (n : ℕ). ComesBy m opening placed n c end d) (same_length placed) s
+
+drawn_to_end : (m : Model) (opening : List Event) (placed : List Placed) (c : Course) (end : ℕ) (d : Drawn)
+    → (c ≡ Ended → ⊥) → ComesBy m opening placed (length (events_of placed)) c end d
+    → IsDrawingOf m opening (events_of placed) d
+drawn_to_end m opening placed Goes end d goes s = is_drawing m opening placed d s.0.1 s.1
+drawn_to_end m opening placed Stopped end d goes s = is_drawing m opening placed d (said s.0) s.1
+  where
+    said : HasStopped m (events_of placed) (length (events_of placed)) → IsSaid m (events_of placed)
+    said t = t.said
+drawn_to_end m opening placed Ended end d goes s = absurd (goes refl)
+
+ended_at_end : (m : Model) (opening : List Event) (placed : List Placed) (c : Course) (end : ℕ) (d : Drawn)
+    → c ≡ Ended → ComesBy m opening placed (length (events_of placed)) c end d → EndsAtPlace m placed end
+ended_at_end m opening placed Ended end d is s = record {
+  at = s.ended.at;
+  ends = record { within = s.ended.within; unsaid = s.ended.unsaid; first = s.ended.said };
+  has_place = s.has_place;
+}
+ended_at_end m opening placed Goes end d is s = absurd cc
+ended_at_end m opening placed Stopped end d is s = absurd cc
+
+pub goes_not_ended : {c : Course} → c ≡ Goes → c ≡ Ended → ⊥
+goes_not_ended h k = cc
+
+pub stopped_not_ended : {c : Course} → c ≡ Stopped → c ≡ Ended → ⊥
+stopped_not_ended h k = cc
+
+pub gives_drawing : (m : Model) (opening : List Event) (placed : List Placed) (c : Course) (end : ℕ) (d : Drawn)
+    → (c ≡ Ended → ⊥) → ComesBy m opening placed (length placed) c end d → IsDrawingOf m opening (events_of placed) d
+gives_drawing m opening placed c end d goes s =
+    drawn_to_end m opening placed c end d goes (to_end m opening placed c end d s)
+
+pub gives_place : (m : Model) (opening : List Event) (placed : List Placed) (c : Course) (end : ℕ) (d : Drawn)
+    → c ≡ Ended → ComesBy m opening placed (length placed) c end d → EndsAtPlace m placed end
+gives_place m opening placed c end d is s =
+    ended_at_end m opening placed c end d is (to_end m opening placed c end d s)

@@ -1,0 +1,15 @@
+use Rattle.std.proofs.Common.{◌∙◌, ◌||◌, Bool, ap₂, refl, sym}
+use Rattle.std.proofs.lemmas.List.Folds.{list_any-append}
+use Rattle.sixel_model.specs.Events.{is_painting}
+use Rattle.sixel_terminal.specs.Stretches.{sixels_of}
+use Rattle.sixel_models.proofs.FootColourLemmas.{colours_over}
+use Rattle.sixel_models.proofs.foot.FootReading.note_sixels.Goals as goal
+
+pub returns : goal.returns
+returns c = λ before s. record {
+  colours = colours_over before c.args.bytes.now s.colours;
+  size = c.after_sixels-self.ensures before c.args.bytes.now refl s.size;
+  has_painted_is =
+      ap₂ (λ (a b : Bool). a || b) s.has_painted_is c.has_painting.ensures
+      ∙ sym (list_any-append is_painting before (sixels_of c.args.bytes.now));
+}

@@ -1,0 +1,17 @@
+use Rattle.std.proofs.Common.{◌≡◌, ◌++◌, List, Option, Some, None, subst, sym}
+use Rattle.std.specs.Option.{option_to_list}
+use Rattle.std.proofs.lemmas.List.{append-nil}
+use Rattle.sixel_grammar.specs.declared.command.Event.{Event}
+use Rattle.sixel_models.specs.declared.rectangle.KonsoleMeasure.{KonsoleMeasure}
+use Rattle.sixel_models.specs.KonsoleMeasured.{HasMeasured}
+use Rattle.sixel_models.specs.Measuring.{MeasuresBefore}
+use Rattle.sixel_models.proofs.measuring.Measuring.read_last.Goals as goal
+
+none_waits : (m : KonsoleMeasure) (read : List Event) (o next : Option Event) → o ≡ None → MeasuresBefore m read o
+    → HasMeasured m (read ++ option_to_list o) next
+none_waits m read None next is h = subst (λ (es : List Event). HasMeasured m es next) (sym (append-nil read)) (h next)
+none_waits m read (Some e) next is h = absurd cc
+
+pub returns-in_default-clause-measures : goal.returns-in_default-clause-measures
+returns-in_default-clause-measures c = λ read h.
+    none_waits c.args.self.now.measure read c.args.self.now.pending _ c.in_default.is h

@@ -1,0 +1,146 @@
+//! Measures the rectangle that konsole fills, while a document is read.
+
+ghost use Rattle.std.specs.Prelude.{◌≡◌, ◌<◌, ◌-◌, ◌++◌, ◌∷◌, [], ℕ, IsTrue, List, Some, length, slice_index};
+ghost use Rattle.std.specs.Option.{option_map, option_to_list};
+ghost use Rattle.sixel_grammar.specs.Bytes.{is_data};
+ghost use Rattle.sixel_grammar.specs.declared.command.Command.TheVariants.{Sixel};
+ghost use Rattle.sixel_grammar.specs.declared.command.Event.{Event as AnEvent};
+ghost use Rattle.sixel_grammar.specs.declared.command.Event.TheVariants.{Step as AStep};
+ghost use Rattle.sixel_terminal.specs.Stretches.{sixels_of};
+ghost use Rattle.sixel_models.specs.Konsole.{konsole_opening};
+ghost use Rattle.sixel_models.specs.KonsoleMeasured.{HasMeasured};
+ghost use Rattle.sixel_models.specs.Measuring.{HasTakenAll, HasTakenOn, MeasuresBefore};
+ghost use Rattle.sixel_models.specs.Modelled.{opening_of};
+ghost use Rattle.sixel_models.specs.Named.{model_of};
+
+use crate::modelled::{same, sixel};
+use crate::named::Named;
+use crate::rectangle::KonsoleMeasure;
+use sixel_grammar::{Command, Event, Follower, Placed};
+use std::convert::Infallible;
+
+/// A measure of konsole's rectangle. The event that came last waits for the next one.
+#[derive(Debug, Drop)]
+pub struct Measuring {
+    measure: KonsoleMeasure,
+    pending: Option<Event>,
+}
+
+impl Measuring {
+    /// No event has come.
+    pub fn new() -> Measuring
+        ensures { HasTakenAll result [] }
+    {
+        Measuring {
+            measure: KonsoleMeasure::new(),
+            pending: None,
+        }
+    }
+
+    /// Measures the event that waits, if there is one. `next` is the one after it, if there is one.
+    fn read_last(&mut self, next: Option<&Event>)
+        ensures pending { self.new.pending ≡ self.old.pending }
+        ensures measures { (read : List AnEvent) → MeasuresBefore self.old.measure read self.old.pending
+            → HasMeasured self.new.measure (read ++ option_to_list self.old.pending)
+            (option_map (λ e. e.now) next.entry) }
+    {
+        if let Some(last) = &self.pending {
+            self.measure.take(last, next);
+        }
+    }
+
+    /// Takes the event that comes next, and measures the one before it.
+    fn push(&mut self, event: Event)
+        ensures waits { self.new.pending ≡ Some event }
+        ensures taken { (before : List AnEvent) → HasTakenAll self.old before
+            → HasTakenAll self.new (before ++ event ∷ []) }
+    {
+        self.read_last(Some(&event));
+        self.pending = Some(event);
+    }
+
+    /// Takes the sixels of these data bytes, in order.
+    fn push_stretch(&mut self, bytes: &[u8])
+        requires { (k : ℕ) → k < length bytes.now → IsTrue (is_data (slice_index bytes.now k)) }
+        ensures { (before : List AnEvent) → HasTakenAll self.old before
+            → HasTakenAll self.new (before ++ sixels_of bytes.now) }
+    {
+        if bytes.is_empty() {
+            return;
+        }
+        self.push(sixel(bytes[0]));
+        self.push_more(bytes);
+    }
+
+    /// Takes the sixels of these data bytes, of which the first was taken last.
+    fn push_more(&mut self, bytes: &[u8])
+        requires sixels { (k : ℕ) → k < length bytes.now → IsTrue (is_data (slice_index bytes.now k)) }
+        requires some { 0 < length bytes.now }
+        requires waits { self.old.pending ≡ Some (AStep (Sixel (slice_index bytes.now 0 - 63))) }
+        ensures { (before : List AnEvent)
+            → HasTakenAll self.old (before ++ AStep (Sixel (slice_index bytes.now 0 - 63)) ∷ [])
+            → HasTakenAll self.new (before ++ sixels_of bytes.now) }
+    {
+        let last = bytes.len() - 1;
+        if last == 0 {
+            return;
+        }
+        self.measure.take_sixels(&bytes[..last]);
+        self.pending = Some(sixel(bytes[last]));
+    }
+
+    /// What konsole draws before the first event, by all events.
+    pub fn finish(mut self) -> Option<Command>
+        ensures { (events : List AnEvent) → HasTakenAll self events → opening_of result ≡ konsole_opening events }
+    {
+        self.read_last(None);
+        self.measure.opening()
+    }
+}
+
+impl Named {
+    /// What the terminal's model draws before the first event, by all events: konsole's rectangle, and on the others
+    /// nothing.
+    pub fn opening(self, measuring: Measuring) -> Option<Command>
+        ensures { (events : List AnEvent) → HasTakenAll measuring events
+            → opening_of result ≡ (model_of self).opening events }
+    {
+        match self {
+            Named::Konsole => measuring.finish(),
+            Named::XTerm | Named::MlTerm | Named::Foot => None,
+        }
+    }
+}
+
+impl Follower for Measuring {
+    type Stop = Infallible;
+
+    ghost has_taken = { HasTakenOn };
+
+    ghost may_stop = { λ first now stop seen. ⊥ };
+
+    fn take(&mut self, placed: &Placed) -> Result<(), Infallible> {
+        self.push(same(&placed.event));
+        Ok(())
+    }
+
+    fn take_command(&mut self, _place: u64, command: Command) -> Result<(), Infallible> {
+        self.push(Event::Step(command));
+        Ok(())
+    }
+
+    fn take_select(&mut self, _place: u64, register: u16) -> Result<(), Infallible> {
+        self.push(Event::Step(Command::Select(register)));
+        Ok(())
+    }
+
+    fn take_repeat(&mut self, _place: u64, count: u16, bits: u8) -> Result<(), Infallible> {
+        self.push(Event::Step(Command::Repeat { count, bits }));
+        Ok(())
+    }
+
+    fn take_stretch(&mut self, _place: u64, bytes: &[u8], count: usize) -> Result<(), Infallible> {
+        self.push_stretch(&bytes[..count]);
+        Ok(())
+    }
+}

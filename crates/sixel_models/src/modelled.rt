@@ -1,0 +1,223 @@
+//! Draws what a model makes of a document, while the document is read.
+
+ghost use Rattle.std.specs.Prelude.{◌≡◌, ◌<◌, ◌≤◌, ◌+◌, ◌-◌, ◌++◌, ◌∷◌, [], ℕ, IfOk, IsTrue, List, Some, length};
+ghost use Rattle.std.specs.Prelude.{slice_index, take};
+ghost use Rattle.sixel_grammar.specs.Bytes.{is_data};
+ghost use Rattle.sixel_grammar.specs.Document.{most_bytes};
+ghost use Rattle.sixel_grammar.specs.Stretches.{sixels_from};
+ghost use Rattle.sixel_grammar.specs.declared.command.Command.TheVariants.{Sixel};
+ghost use Rattle.sixel_grammar.specs.declared.command.Event.{Event as AnEvent};
+ghost use Rattle.sixel_grammar.specs.declared.command.Event.TheVariants.{Step};
+ghost use Rattle.sixel_grammar.specs.declared.command.Placed.{Placed as Place};
+ghost use Rattle.sixel_terminal.specs.Drawings.{HasDrawn};
+ghost use Rattle.sixel_models.specs.Modelled.{AreUnsaidBy, HasFollowed, HasFollowedOn, ModelGives, opening_of};
+ghost use Rattle.sixel_models.specs.Modelled.{placed_at};
+ghost use Rattle.sixel_models.specs.Readings.{Model as AModel, is_unsaid_control};
+
+use crate::progress::Progress;
+use crate::reading::Reading;
+use crate::waiting::Waiting;
+use arrayvec::ArrayVec;
+use sixel_grammar::{Command, Event, Follower, Placed};
+use sixel_terminal::Drawing;
+use std::convert::Infallible;
+
+/// The 8-bit controls that a model doesn't say.
+#[derive(Clone, Copy, Debug, PartialEq, Eq)]
+pub struct UnsaidControls {
+    pub introducer: bool,
+    pub terminator: bool,
+}
+
+impl UnsaidControls {
+    /// Whether the event is one of them.
+    fn has(self, event: &Event) -> bool
+        ensures { (m : AModel) → AreUnsaidBy m self → result ≡ is_unsaid_control m event.now }
+    {
+        match event {
+            Event::Start { eight, .. } => *eight & self.introducer,
+            Event::Step(_) => false,
+            Event::Finish { eight } => *eight & self.terminator,
+        }
+    }
+}
+
+/// A drawing of what a model makes of a document.
+///
+/// The event that came last waits for the next one. Once the model has ended, nothing more is drawn.
+#[derive(Debug, Drop)]
+pub struct Modelled<R> {
+    waiting: Waiting<R>,
+    /// The offset of the event that waits. 0 if none does.
+    place: u64,
+    progress: Progress,
+    controls: UnsaidControls,
+}
+
+/// An introducer with these parameters.
+fn introducer(eight: bool, from: &ArrayVec<u16, 3>) -> Event
+    ensures { result ≡ Event.Start eight from.now }
+{
+    let mut parameters = ArrayVec::new();
+    let _ = parameters.try_extend_from_slice(from.as_slice());
+    Event::Start { eight, parameters }
+}
+
+/// The same event.
+pub(crate) fn same(event: &Event) -> Event
+    ensures { result ≡ event.now }
+{
+    match event {
+        Event::Start { eight, parameters } => introducer(*eight, parameters),
+        Event::Step(command) => Event::Step(*command),
+        Event::Finish { eight } => Event::Finish { eight: *eight },
+    }
+}
+
+/// The sixel of a data byte.
+pub(crate) fn sixel(byte: u8) -> Event
+    requires { IsTrue (is_data byte) }
+    ensures { result ≡ Step (Sixel (byte - 63)) }
+{
+    Event::Step(Command::Sixel(byte - b'?'))
+}
+
+impl<R: Reading> Modelled<R> {
+    /// A drawing before any event, by a reading that has read none. It draws `opening` first: what the model draws
+    /// before the first event. `controls` are the 8-bit controls that the model doesn't say.
+    pub fn new(
+        reading: R,
+        controls: UnsaidControls,
+        drawing: Drawing,
+        opening: Option<Command>,
+    ) -> Modelled<R>
+        requires seen { R.has_seen reading [] }
+        requires controls { AreUnsaidBy R.model controls }
+        requires drawn { HasDrawn drawing [] }
+        ensures terminal { result.progress.drawing.terminal ≡ drawing.terminal }
+        ensures followed { HasFollowed R.model R.has_seen result (opening_of opening) [] }
+    {
+        Modelled {
+            waiting: Waiting::new(reading),
+            place: 0,
+            progress: Progress::new(drawing, opening),
+            controls,
+        }
+    }
+
+    /// Whether the event that waits is an 8-bit control that the model doesn't say.
+    fn waits_at_unsaid(&self) -> bool
+        ensures { (m : AModel) (e : AnEvent) → AreUnsaidBy m self.now.controls → self.now.waiting.pending ≡ Some e
+            → result ≡ is_unsaid_control m e }
+    {
+        match &self.waiting.pending {
+            Some(event) => self.controls.has(event),
+            None => false,
+        }
+    }
+
+    /// Takes the event that comes next, with its offset, and reads the one before it.
+    fn push(&mut self, place: u64, event: Event)
+        ensures terminal { self.new.progress.drawing.terminal ≡ self.old.progress.drawing.terminal }
+        ensures place { self.new.place ≡ place }
+        ensures waits { self.new.waiting.pending ≡ Some event }
+        ensures followed { (opening : List AnEvent) (before : List Place)
+            → HasFollowed R.model R.has_seen self.old opening before
+            → HasFollowed R.model R.has_seen self.new opening (before ++ placed_at place event ∷ []) }
+    {
+        let is_unsaid = self.waits_at_unsaid();
+        let reads = self.waiting.take(event);
+        self.progress.read_one(self.place, is_unsaid, reads);
+        self.place = place;
+    }
+
+    /// Takes the first of these sixels, and those after it that are drawn as they are. Gives how many these are.
+    fn push_some(&mut self, place: u64, bytes: &[u8]) -> usize
+        requires sixels { (k : ℕ) → k < length bytes.now → IsTrue (is_data (slice_index bytes.now k)) }
+        requires some { 0 < length bytes.now }
+        requires limit { place + length bytes.now ≤ most_bytes }
+        ensures terminal { self.new.progress.drawing.terminal ≡ self.old.progress.drawing.terminal }
+        ensures counts { (0 < result) × (result ≤ length bytes.now) }
+        ensures followed { (opening : List AnEvent) (before : List Place)
+            → HasFollowed R.model R.has_seen self.old opening before
+            → HasFollowed R.model R.has_seen self.new opening (before ++ sixels_from place (take result bytes.now)) }
+    {
+        self.push(place, sixel(bytes[0]));
+        let plain = self.waiting.reading.plain_sixels().min(bytes.len() - 1);
+        if plain == 0 {
+            return 1;
+        }
+        self.progress.read_sixels(&bytes[..plain]);
+        self.waiting.pass(&bytes[..plain], sixel(bytes[plain]));
+        self.place = place + plain as u64;
+        plain + 1
+    }
+
+    /// Takes the sixels of these data bytes, in order. The first has the offset `place`.
+    fn push_stretch(&mut self, place: u64, bytes: &[u8])
+        requires sixels { (k : ℕ) → k < length bytes.now → IsTrue (is_data (slice_index bytes.now k)) }
+        requires limit { place + length bytes.now ≤ most_bytes }
+        ensures terminal { self.new.progress.drawing.terminal ≡ self.old.progress.drawing.terminal }
+        ensures followed { (opening : List AnEvent) (before : List Place)
+            → HasFollowed R.model R.has_seen self.old opening before
+            → HasFollowed R.model R.has_seen self.new opening (before ++ sixels_from place bytes.now) }
+    {
+        let mut taken = 0;
+        while taken < bytes.len() {
+            taken += self.push_some(place + taken as u64, &bytes[taken..]);
+        }
+    }
+}
+
+impl<R: Reading + Drop> Modelled<R> {
+    /// The drawing of the document, or the offset of the event at which the model ends.
+    pub fn finish(self) -> Result<Drawing, u64>
+        ensures terminal { IfOk result (λ d. d.terminal ≡ self.progress.drawing.terminal) }
+        ensures gives { (opening : List AnEvent) (placed : List Place)
+            → HasFollowed R.model R.has_seen self opening placed → ModelGives R.model opening placed result }
+    {
+        let is_unsaid = self.waits_at_unsaid();
+        let Modelled {
+            mut waiting,
+            place,
+            mut progress,
+            controls: _,
+        } = self;
+        let reads = waiting.finish();
+        progress.read_one(place, is_unsaid, reads);
+        progress.finish()
+    }
+}
+
+impl<R: Reading> Follower for Modelled<R> {
+    type Stop = Infallible;
+
+    ghost has_taken = { HasFollowedOn R.model R.has_seen };
+
+    ghost may_stop = { λ first now stop seen. ⊥ };
+
+    fn take(&mut self, placed: &Placed) -> Result<(), Infallible> {
+        self.push(placed.place, same(&placed.event));
+        Ok(())
+    }
+
+    fn take_command(&mut self, place: u64, command: Command) -> Result<(), Infallible> {
+        self.push(place, Event::Step(command));
+        Ok(())
+    }
+
+    fn take_select(&mut self, place: u64, register: u16) -> Result<(), Infallible> {
+        self.push(place, Event::Step(Command::Select(register)));
+        Ok(())
+    }
+
+    fn take_repeat(&mut self, place: u64, count: u16, bits: u8) -> Result<(), Infallible> {
+        self.push(place, Event::Step(Command::Repeat { count, bits }));
+        Ok(())
+    }
+
+    fn take_stretch(&mut self, place: u64, bytes: &[u8], count: usize) -> Result<(), Infallible> {
+        self.push_stretch(place, &bytes[..count]);
+        Ok(())
+    }
+}
