@@ -2,11 +2,12 @@
 
 ghost use Rattle.std.specs.Prelude.{IfOk, IsTrue};
 ghost use Rattle.sixel_ppm.specs.Ppm.{is_file_side};
-ghost use Rattle.sixel_run.specs.Outputs.{HasSides};
+ghost use Rattle.sixel_run.specs.Outputs.{HasSides, HasSidesIn};
 
 use crate::format::RowFault;
 use sixel_model::{Colour, Profile};
-use sixel_run::{MOST_SCREEN_SIDE, Task};
+use sixel_models::Named;
+use sixel_run::{Area, MOST_SCREEN_SIDE, Task};
 
 /// The options of a row.
 #[derive(Clone, Copy, Default)]
@@ -17,6 +18,7 @@ struct Options<'a> {
     fill: bool,
     selects: bool,
     boxed: bool,
+    on: Option<&'a str>,
     background: Option<&'a str>,
     width: Option<&'a str>,
     height: Option<&'a str>,
@@ -26,6 +28,7 @@ struct Options<'a> {
 #[derive(Clone, Copy)]
 enum Awaited {
     Nothing,
+    On,
     Background,
     Width,
     Height,
@@ -51,9 +54,7 @@ pub fn task_of(words: &str) -> Result<Task, RowFault>
         "render" if is_wide => Ok(Task::Render { profile }),
         "encode" if is_wide => Ok(Task::Encode { profile }),
         "mend" => mended(profile, options),
-        "show" if options.background.is_some() => Err(RowFault::Words),
-        "show" if options.boxed => boxed(profile, options),
-        "show" => sized(profile, options),
+        "show" => shown(profile, options),
         _ => Err(RowFault::Words),
     }
 }
@@ -64,6 +65,7 @@ fn kind_of(options: Options<'_>) -> (bool, bool) {
         && !options.fill
         && !options.selects
         && !options.boxed
+        && options.on.is_none()
         && options.background.is_none()
         && options.width.is_none()
         && options.height.is_none();
@@ -81,20 +83,23 @@ fn profile_of(wide: bool) -> Profile {
 fn mended(profile: Profile, options: Options<'_>) -> Result<Task, RowFault>
     ensures { IfOk result HasSides }
 {
-    if options.fill || options.boxed || options.width.is_some() || options.height.is_some() {
+    if options.fill || options.boxed || options.on.is_some() {
+        return Err(RowFault::Words);
+    }
+    if options.width.is_some() || options.height.is_some() {
         return Err(RowFault::Words);
     }
     Ok(Task::Mend {
         profile,
-        background: colour_of(options.background)?,
+        background: colour_of(options.background.unwrap_or("0,0,0"))?,
         showing: options.showing,
         selects: options.selects,
     })
 }
 
-/// The colour with these percentages of red, green and blue, by default black.
-fn colour_of(written: Option<&str>) -> Result<Colour, RowFault> {
-    let mut percentages = written.unwrap_or("0,0,0").split(',').map(str::parse::<u8>);
+/// The colour with these percentages of red, green and blue.
+fn colour_of(written: &str) -> Result<Colour, RowFault> {
+    let mut percentages = written.split(',').map(str::parse::<u8>);
     match (
         percentages.next(),
         percentages.next(),
@@ -106,6 +111,55 @@ fn colour_of(written: Option<&str>) -> Result<Colour, RowFault> {
         }
         _ => Err(RowFault::Words),
     }
+}
+
+fn shown(profile: Profile, options: Options<'_>) -> Result<Task, RowFault>
+    ensures { IfOk result HasSides }
+{
+    match options.on {
+        Some(name) => shown_on(named_of(name)?, options),
+        None if options.background.is_some() => Err(RowFault::Words),
+        None if options.boxed => boxed(profile, options),
+        None => sized(profile, options),
+    }
+}
+
+fn named_of(name: &str) -> Result<Named, RowFault> {
+    match name {
+        "xterm" => Ok(Named::XTerm),
+        "mlterm" => Ok(Named::MlTerm),
+        "foot" => Ok(Named::Foot),
+        "konsole" => Ok(Named::Konsole),
+        _ => Err(RowFault::Words),
+    }
+}
+
+/// By default on a white background.
+fn shown_on(named: Named, options: Options<'_>) -> Result<Task, RowFault>
+    ensures { IfOk result HasSides }
+{
+    if options.wide || options.showing || options.fill || options.selects {
+        return Err(RowFault::Words);
+    }
+    Ok(Task::ShowOn {
+        named,
+        background: colour_of(options.background.unwrap_or("100,100,100"))?,
+        area: area_of(options)?,
+    })
+}
+
+fn area_of(options: Options<'_>) -> Result<Area, RowFault>
+    ensures { IfOk result HasSidesIn }
+{
+    if options.boxed {
+        return match (options.width, options.height) {
+            (None, None) => Ok(Area::Box),
+            _ => Err(RowFault::Words),
+        };
+    }
+    let width = side_of(options.width)?;
+    let height = side_of(options.height)?;
+    Ok(Area::Sides { width, height })
 }
 
 fn boxed(profile: Profile, options: Options<'_>) -> Result<Task, RowFault>
@@ -166,6 +220,7 @@ fn take_word<'a>(
     word: &'a str,
 ) -> Result<Awaited, RowFault> {
     match (awaited, word) {
+        (Awaited::On, _) => options.on = Some(word),
         (Awaited::Background, _) => options.background = Some(word),
         (Awaited::Width, _) => options.width = Some(word),
         (Awaited::Height, _) => options.height = Some(word),
@@ -175,6 +230,7 @@ fn take_word<'a>(
         (_, "--fill") => options.fill = true,
         (_, "--define-selects") => options.selects = true,
         (_, "--box") => options.boxed = true,
+        (_, "--on") => return Ok(Awaited::On),
         (_, "--background") => return Ok(Awaited::Background),
         (_, "--width") => return Ok(Awaited::Width),
         (_, "--height") => return Ok(Awaited::Height),

@@ -14,6 +14,8 @@ pub mod DrawLemmas
 pub mod WatchLemmas
 pub mod StageLemmas
 pub mod BoxLemmas
+pub mod ShowOnLemmas
+pub mod MeasuresLemmas
 pub mod WrappingLemmas
 pub mod StringLemmas
 pub mod ScanLemmas

@@ -19,7 +19,7 @@ use Rattle.sixel_run.specs.declared.task.Status.TheVariants.{Done}
 use Rattle.sixel_run.specs.declared.task.Task.{Task}
 use Rattle.sixel_run.specs.declared.task.Task.TheVariants.{List as Listing, Check, Survey, Render, Show, ShowBox}
 use Rattle.sixel_run.specs.declared.task.Task.TheVariants.{Encode}
-use Rattle.sixel_run.specs.declared.task.Task.TheVariants.{Mend, Scan}
+use Rattle.sixel_run.specs.declared.task.Task.TheVariants.{Mend, Scan, ShowOn}
 use Rattle.sixel_run.specs.Outputs.{FoundNoFault, Gives, ListGives, ListsUnread, Wrote, WroteBefore, WroteBy}
 use Rattle.sixel_run.specs.Outputs.{WroteNothing}
 use Rattle.sixel_run.specs.Outputs.{WroteUnread, mending}
@@ -34,6 +34,7 @@ use Rattle.sixel_run.proofs.FileLemmas.{encode-gives, encode-once}
 use Rattle.sixel_run.proofs.MendLemmas.{mend-gives, mend-once}
 use Rattle.sixel_run.proofs.PictureLemmas.{render-gives, render-once}
 use Rattle.sixel_run.proofs.ScreenLemmas.{show-gives, show-once}
+use Rattle.sixel_run.proofs.ShowOnLemmas.{on-gives, on-once}
 use Rattle.sixel_run.proofs.StringLemmas.{before_first, given_first, scan-begins, scan-gives, scan-once}
 use Rattle.sixel_run.proofs.SurveyLemmas.{survey-gives, survey-once}
 use Rattle.sixel_io.proofs.SinkLemmas.{Appends-keeps}
@@ -96,6 +97,8 @@ gives-once (Show profile showing fill selects width height) bytes first second a
     show-once profile (show_terminal profile (show_choices showing fill selects width height)) bytes first second a b g h
 gives-once (ShowBox profile showing fill selects) bytes first second a b g h =
     box-once profile (screen_terminal profile showing fill selects) bytes first second a b g h
+gives-once (ShowOn named background area) bytes first second a b g h =
+    on-once named background area bytes first second a b g h
 
 pub gives : (task : Task) (bytes : List ℕ)
     → (text : Text) × (answer : Result Status RunFault) × Gives task bytes text answer
@@ -109,6 +112,7 @@ gives (Mend profile background showing selects) bytes = mend-gives _ (mending ba
 gives (Show profile showing fill selects width height) bytes =
     show-gives profile (show_terminal profile (show_choices showing fill selects width height)) bytes
 gives (ShowBox profile showing fill selects) bytes = box-gives profile (screen_terminal profile showing fill selects) bytes
+gives (ShowOn named background area) bytes = on-gives named background area bytes
 
 begins-all : (first second : Text) → first ≡ second → BeginsWith second first
 begins-all first second e = ([], sym e ∙ sym (append-nil first))

@@ -40,7 +40,7 @@ use Rattle.sixel_io.specs.Devices.{SinkState}
 use Rattle.sixel_run.proofs.CheckLemmas.{both_are}
 use Rattle.sixel_run.proofs.PutLemmas.{nothing-written}
 
-not-both : (b c : Bool) → b ≡ c → IsTrue b → IsFalse c → ⊥
+pub not-both : (b c : Bool) → b ≡ c → IsTrue b → IsFalse c → ⊥
 not-both b c e p q = let bad : true ≡ false = sym p ∙ e ∙ q in cc
 
 -- the screen after a document, or none if some colour on it isn't RGB

@@ -70,7 +70,7 @@ unfolding declared_screen box_in
 declared-by events = by-sides (raster_before events)
 
 -- the sides of the screen, from the declared box
-declared-in : (events : List Event) (box : Option Sides) → box ≡ box_in events
+pub declared-in : (events : List Event) (box : Option Sides) → box ≡ box_in events
     → declared_screen events ≡ option_and_then (λ (s : Sides). sides_of_box s.0 s.1) box
 declared-in events box is = declared-by events ∙ ap (option_and_then (λ (s : Sides). sides_of_box s.0 s.1)) (sym is)
 

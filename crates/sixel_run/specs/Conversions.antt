@@ -5,11 +5,13 @@ use Rattle.sixel_ppm.specs.declared.ppm.PpmFault.{PpmFault}
 use Rattle.sixel_ppm.specs.declared.ppm.PpmFault.TheVariants as ppm
 use Rattle.sixel_mend.specs.declared.mending.MendFault.{MendFault}
 use Rattle.sixel_mend.specs.declared.mending.MendFault.TheVariants as mend
+use Rattle.sixel_models.specs.declared.showing.ShowFault.{ShowFault}
+use Rattle.sixel_models.specs.declared.showing.ShowFault.TheVariants as show
 use Rattle.sixel_scan.specs.declared.fault.ScanFault.{ScanFault}
 use Rattle.sixel_scan.specs.declared.fault.ScanFault.TheVariants as scan
 use Rattle.sixel_run.specs.declared.fault.RunFault.{RunFault}
 use Rattle.sixel_run.specs.declared.fault.RunFault.TheVariants.{Grammar, Ppm, NotRgb, Empty, TooLarge, TooManyColours}
-use Rattle.sixel_run.specs.declared.fault.RunFault.TheVariants.{OutOfMemory, Read, Write}
+use Rattle.sixel_run.specs.declared.fault.RunFault.TheVariants.{OutOfMemory, Read, Unmodelled, Write}
 
 abbrev pub of_input : InputFault → RunFault
 of_input (input.Grammar fault) = Grammar fault
@@ -29,6 +31,11 @@ of_mend mend.Empty = Empty
 of_mend mend.TooLarge = TooLarge
 of_mend mend.TooManyColours = TooManyColours
 of_mend mend.OutOfMemory = OutOfMemory
+
+abbrev pub of_show : ShowFault → RunFault
+of_show (show.Grammar fault) = Grammar fault
+of_show (show.Unmodelled place) = Unmodelled place
+of_show show.OutOfMemory = OutOfMemory
 
 abbrev pub of_scan : ScanFault → RunFault
 of_scan scan.OutOfMemory = OutOfMemory

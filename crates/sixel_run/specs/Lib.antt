@@ -10,4 +10,5 @@ pub mod LineTasks
 pub mod Watching
 pub mod Boxes
 pub mod Listings
+pub mod NamedScreens
 pub mod Laws

@@ -4,6 +4,7 @@ use Rattle.std.specs.Prelude.{IsFalse}
 use Rattle.std.specs.Prelude.{Result, Ok, Err, if◌then◌else◌}
 use Rattle.std.specs.Io.KnownBytes.{Appends, Consumes}
 use Rattle.std.specs.List.{list_all}
+use Rattle.sixel_grammar.specs.declared.command.Event.{Event}
 use Rattle.sixel_grammar.specs.declared.command.Placed.{Placed}
 use Rattle.sixel_io.specs.Devices.{one_more}
 use Rattle.sixel_grammar.specs.Document.{Document, IsDocument, events_of, most_bytes}
@@ -19,6 +20,11 @@ use Rattle.sixel_ppm.specs.Ppm.{are_rgb, colours_of, is_file_side, ppm_text}
 use Rattle.sixel_ppm.specs.PpmReading.{HasWholeHeader, NoPpmFaultBefore, ppm_read}
 use Rattle.sixel_terminal.specs.Displays.{Display}
 use Rattle.sixel_terminal.specs.Drawing.{screen_on}
+use Rattle.sixel_terminal.specs.Screens.{Shown}
+use Rattle.sixel_models.specs.declared.named.Named.{Named}
+use Rattle.sixel_models.specs.Modelled.{EndsAtPlace}
+use Rattle.sixel_models.specs.Named.{IsScreenOn, model_of}
+use Rattle.sixel_models.specs.Readings.{IsSaid}
 use Rattle.sixel_judge.specs.declared.verdict.Verdict.{Verdict}
 use Rattle.sixel_judge.specs.declared.verdict.Verdict.TheVariants.{Portable, Broken}
 use Rattle.sixel_judge.specs.declared.verdict.Outcome.{Outcome}
@@ -36,6 +42,9 @@ use Rattle.sixel_scan.specs.declared.answer.Scanned.{Scanned}
 use Rattle.sixel_run.specs.Conversions.{of_mend, of_ppm}
 use Rattle.sixel_run.specs.declared.fault.RunFault.{RunFault}
 use Rattle.sixel_run.specs.declared.fault.RunFault.TheVariants.{Grammar, NotRgb, NoBox, OutOfMemory, Read, Write}
+use Rattle.sixel_run.specs.declared.fault.RunFault.TheVariants.{Unmodelled}
+use Rattle.sixel_run.specs.declared.task.Area.{Area}
+use Rattle.sixel_run.specs.declared.task.Area.TheVariants.{Box, Sides}
 use Rattle.sixel_run.specs.declared.task.Status.{Status}
 use Rattle.sixel_run.specs.declared.task.Status.TheVariants as status
 use Rattle.sixel_run.specs.declared.task.Note.TheVariants.{OneColour}
@@ -43,7 +52,7 @@ use Rattle.sixel_run.specs.declared.task.Status.TheVariants.{Done, Noted, Survey
 use Rattle.sixel_run.specs.declared.task.Task.{Task}
 use Rattle.sixel_run.specs.declared.task.Task.TheVariants.{List as Listing, Check, Survey, Render, Show, ShowBox}
 use Rattle.sixel_run.specs.declared.task.Task.TheVariants.{Encode}
-use Rattle.sixel_run.specs.declared.task.Task.TheVariants.{Mend, Scan}
+use Rattle.sixel_run.specs.declared.task.Task.TheVariants.{Mend, Scan, ShowOn}
 use Rattle.sixel_run.specs.Scanned.{AreBeforeAllocation, AreOfGiven, AreOfStream, MayGrowInString, answer_of_strings}
 use Rattle.sixel_run.specs.Scanned.{scan_text}
 use Rattle.sixel_run.specs.Notes.{shown_status}
@@ -207,11 +216,46 @@ ShowBoxGives profile terminal bytes text answer =
     × ((sides : ℕ × ℕ) × (declared_screen (events_of events) ≡ Some sides)
     × ShowGives profile (terminal sides) bytes text answer)
 
+-- ---- screens of named terminals
+
+-- the sides of the screen: those that are given, or those of the declared box if a screen can have them
+abbrev pub sides_in : Area → List Event → Option (ℕ × ℕ)
+sides_in Box events = declared_screen events
+sides_in (Sides width height) events = Some (width, height)
+
+-- for a document the PPM of the named terminal's screen after it, or NotRgb and no text if some colour on the screen
+-- isn't RGB; Unmodelled, the offset of the event at which the terminal's model ends, and no text; NoBox and no text if
+-- the model says all, and no screen has the sides; for other bytes their fault, and no text
+abbrev pub ShowOnGives : Named → Parts → Area → List ℕ → Text → Result Status RunFault → Type 0
+ShowOnGives named background area bytes text (Ok status) =
+    (placed : List Placed) × Document placed bytes
+    × ((sides : ℕ × ℕ) × (sides_in area (events_of placed) ≡ Some sides)
+    × ((screen : Shown) × IsScreenOn named background sides (events_of placed) screen
+    × IsTrue (are_rgb screen.colours) × (text ≡ ppm_text sides.0 sides.1 screen.colours) × (status ≡ Done)))
+ShowOnGives named background area bytes text (Err NotRgb) = (text ≡ [])
+    × ((placed : List Placed) × Document placed bytes
+    × ((sides : ℕ × ℕ) × (sides_in area (events_of placed) ≡ Some sides)
+    × ((screen : Shown) × IsScreenOn named background sides (events_of placed) screen
+    × IsFalse (are_rgb screen.colours))))
+ShowOnGives named background area bytes text (Err (Unmodelled place)) = (text ≡ [])
+    × ((placed : List Placed) × Document placed bytes × EndsAtPlace (model_of named) placed place)
+ShowOnGives named background area bytes text (Err NoBox) = (text ≡ [])
+    × ((placed : List Placed) × Document placed bytes × IsSaid (model_of named) (events_of placed)
+    × (sides_in area (events_of placed) ≡ None))
+ShowOnGives named background area bytes text (Err (Grammar fault)) = (text ≡ []) × IsFaultOf bytes fault
+ShowOnGives named background area bytes text (Err fault) = ⊥
+
 -- ---- tasks
+
+-- given sides of a screen are in range
+abbrev pub HasSidesIn : Area → Type 0
+HasSidesIn Box = Unit {0}
+HasSidesIn (Sides width height) = IsTrue (is_file_side width) × IsTrue (is_file_side height)
 
 -- the sides of a screen to show are in range
 abbrev pub HasSides : Task → Type 0
 HasSides (Show profile showing fill selects width height) = IsTrue (is_file_side width) × IsTrue (is_file_side height)
+HasSides (ShowOn named background area) = HasSidesIn area
 HasSides t = Unit {0}
 
 -- what is asked of the terminal that shows a string to mend
@@ -232,6 +276,7 @@ Gives (Show profile showing fill selects width height) bytes text answer =
     ShowGives profile (show_terminal profile (show_choices showing fill selects width height)) bytes text answer
 Gives (ShowBox profile showing fill selects) bytes text answer =
     ShowBoxGives profile (screen_terminal profile showing fill selects) bytes text answer
+Gives (ShowOn named background area) bytes text answer = ShowOnGives named background area bytes text answer
 
 -- nothing was appended to what the sink `had`
 abbrev pub WroteNothing : Option (List ℕ) → Option (List ℕ) → Type 0
@@ -265,7 +310,7 @@ HasPictureSize m bytes = (events : List Placed) × Document events bytes × HasM
 -- a run of the task over these bytes, if they are known, may run out of memory: a check or a render only if a checker
 -- may allocate in them, a scan only if it may in one of the strings, a survey only if a box in range is declared in
 -- them, an encode only after a whole header, a mend only for a document that has a picture's size,
--- a show only for a document, or with --box only if a screen's size is declared in them, a list never
+-- a show only for a document, or with --box and without --on only if a screen's size is declared in them, a list never
 abbrev pub TakesMemory : Task → Option (List ℕ) → Type 0
 TakesMemory Listing told = ⊥
 TakesMemory (Check profile) told = IfSome told (MayGrowIn (count_of profile))
@@ -277,6 +322,7 @@ TakesMemory (Mend profile background showing selects) told =
     IfSome told (HasPictureSize (mending background showing selects))
 TakesMemory (Show profile showing fill selects width height) told = IfSome told IsDocument
 TakesMemory (ShowBox profile showing fill selects) told = IfSome told DeclareScreenIn
+TakesMemory (ShowOn named background area) told = IfSome told IsDocument
 
 -- what a run with this answer appended to what the sink `had`. OutOfMemory: what `before` says; Read: what `unread`
 -- says; Write: a prefix of each text that `gives` allows; any other answer: a text that `gives` allows with that answer

@@ -21,7 +21,6 @@ use Rattle.sixel_terminal.specs.declared.choices.Ground.TheVariants.{Kept, Fille
 use Rattle.sixel_terminal.specs.Displays.{Display}
 use Rattle.sixel_terminal.specs.Drawing.{screen_on}
 use Rattle.sixel_terminal.specs.Limits.{display_of}
-use Rattle.sixel_terminal.specs.Screens.{Shown}
 use Rattle.sixel_run.specs.Texts.{Text}
 
 -- showing, fill (with register 0), selects and the size are asked for; the other choices are fixed
@@ -83,12 +82,6 @@ pub record DeclareScreenIn (bytes : List ℕ) : Type 0 where
 abbrev pub screen_terminal : Profile → Bool → Bool → Bool → ℕ × ℕ → Display
 screen_terminal profile showing fill selects sides =
     show_terminal profile (show_choices showing fill selects sides.0 sides.1)
-
--- the screen is that of the terminal after the events
-pub record IsScreenAfter (t : Display) (screen : Shown) (events : List Event) : Type 0 where
-  pub width : screen.width ≡ t.choices.screen_width
-  pub height : screen.height ≡ t.choices.screen_height
-  pub colours : screen.colours ≡ screen_on t events
 
 -- the PPM of the terminal's screen after the events
 unfoldable pub screen_text : Display → List Event → Text

@@ -1,5 +1,6 @@
 -- The lines that the program writes.
-use Rattle.std.specs.Prelude.{◌≡◌, ℕ, Bool, List, [], ◌∷◌, ◌++◌, Option, Some, None, codes, decimal, flat_map, map, ◌+◌, ◌*◌}
+use Rattle.std.specs.Prelude.{◌≡◌, ℕ, Bool, List, [], ◌∷◌, ◌++◌, Option, Some, None, codes, decimal, flat_map, map}
+use Rattle.std.specs.Prelude.{◌+◌, ◌*◌}
 use Rattle.std.specs.Prelude.{◌/◌, ◌%◌, false, if◌then◌else◌, length, nat_eq, take}
 use Rattle.std.specs.List.{All}
 use Rattle.std.specs.Option.{option_to_list}
@@ -33,7 +34,7 @@ use Rattle.sixel_run.specs.declared.item.Item.{Item}
 use Rattle.sixel_run.specs.declared.item.Item.TheVariants as item
 use Rattle.sixel_run.specs.declared.fault.RunFault.{RunFault}
 use Rattle.sixel_run.specs.declared.fault.RunFault.TheVariants.{Grammar, Ppm, NotRgb, NoBox, NoString, Empty, TooLarge}
-use Rattle.sixel_run.specs.declared.fault.RunFault.TheVariants.{TooManyColours, OutOfMemory, Read, Write}
+use Rattle.sixel_run.specs.declared.fault.RunFault.TheVariants.{TooManyColours, OutOfMemory, Read, Unmodelled, Write}
 
 abbrev pub Text : Type 0
 Text = List ℕ
@@ -126,6 +127,7 @@ fault_parts (Grammar fault) = reason_name fault.reason ∷ codes "at" ∷ decima
 fault_parts (Ppm reason place) = ppm_reason_name reason ∷ codes "at" ∷ decimal place ∷ []
 fault_parts NotRgb = codes "NotRgb" ∷ []
 fault_parts NoBox = codes "NoBox" ∷ []
+fault_parts (Unmodelled place) = codes "Unmodelled" ∷ codes "at" ∷ decimal place ∷ []
 fault_parts NoString = codes "NoString" ∷ []
 fault_parts Empty = codes "Empty" ∷ []
 fault_parts TooLarge = codes "TooLarge" ∷ []

@@ -6,10 +6,10 @@ use Rattle.sixel_grammar.specs.Document.{events_of}
 use Rattle.sixel_model.specs.declared.profile.Profile.{Profile}
 use Rattle.sixel_terminal.specs.Displays.{Display}
 use Rattle.sixel_terminal.specs.Drawings.{HasDrawn}
+use Rattle.sixel_terminal.specs.Screens.{IsScreenAfter}
 use Rattle.sixel_run.specs.declared.running.screen.Shown.{Shown}
 use Rattle.sixel_run.specs.declared.running.watched.Watched.{Watched}
 use Rattle.sixel_run.specs.Notes.{has_high_register, shown_status}
-use Rattle.sixel_run.specs.Screens.{IsScreenAfter}
 
 -- the drawing has come to the end of these events, and it is known whether one of them names a register above 15
 pub record HasWatched (w : Watched) (events : List Event) : Type 0 where

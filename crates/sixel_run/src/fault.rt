@@ -2,6 +2,7 @@
 
 use sixel_grammar::{Fault, InputFault};
 use sixel_mend::MendFault;
+use sixel_models::ShowFault;
 use sixel_ppm::{PpmFault, PpmReason};
 use sixel_scan::ScanFault;
 use std::alloc::AllocError;
@@ -24,6 +25,9 @@ pub enum RunFault {
     /// 4,096 pixels. Nothing was written.
     #[error("NoBox")]
     NoBox,
+    /// The model of the named terminal doesn't say what it does at an event: its offset in bytes. Nothing was written.
+    #[error("Unmodelled")]
+    Unmodelled { place: u64 },
     /// The stream has no sixel string. Nothing was written.
     #[error("NoString")]
     NoString,
@@ -93,6 +97,21 @@ impl From<MendFault> for RunFault {
             MendFault::TooLarge => RunFault::TooLarge,
             MendFault::TooManyColours => RunFault::TooManyColours,
             MendFault::OutOfMemory => RunFault::OutOfMemory,
+        }
+    }
+}
+
+impl From<ShowFault> for RunFault {
+    ghost use Rattle.std.specs.Prelude.{◌≡◌};
+    ghost use Rattle.sixel_run.specs.Conversions.{of_show};
+
+    ghost from_gives = { λ fault result. result ≡ of_show fault };
+
+    fn from(fault: ShowFault) -> RunFault {
+        match fault {
+            ShowFault::Grammar(fault) => RunFault::Grammar(fault),
+            ShowFault::Unmodelled(place) => RunFault::Unmodelled { place },
+            ShowFault::OutOfMemory => RunFault::OutOfMemory,
         }
     }
 }

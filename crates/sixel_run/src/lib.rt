@@ -24,4 +24,4 @@ pub use rule_set::RuleSet;
 pub use running::{run, write_lines};
 pub use string_lines::{StringLine, string_line};
 pub use survey_lines::{entry_line, size_line};
-pub use task::{MOST_SCREEN_SIDE, Note, Status, Task};
+pub use task::{Area, MOST_SCREEN_SIDE, Note, Status, Task};

@@ -187,6 +187,7 @@ pub fn fault_line(fault: &RunFault) -> Line
         RunFault::Ppm { reason, place } => push_reason(&mut line, ppm_reason_name(*reason), *place),
         RunFault::NotRgb => push_all(&mut line, b"NotRgb"),
         RunFault::NoBox => push_all(&mut line, b"NoBox"),
+        RunFault::Unmodelled { place } => push_reason(&mut line, "Unmodelled", *place),
         RunFault::NoString => push_all(&mut line, b"NoString"),
         RunFault::Empty => push_all(&mut line, b"Empty"),
         RunFault::TooLarge => push_all(&mut line, b"TooLarge"),

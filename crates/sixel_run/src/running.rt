@@ -12,12 +12,14 @@ mod encode;
 mod kept;
 mod list;
 mod list_lines;
+mod measures;
 mod mend;
 mod render;
 mod scan;
 mod screen;
 mod show;
 mod show_box;
+mod show_on;
 mod survey;
 mod watched;
 
@@ -136,5 +138,10 @@ fn perform<S: Source, K: Sink>(
             fill,
             selects,
         } => show_box::show_box(alloc, profile, showing, fill, selects, input, piece, output),
+        Task::ShowOn {
+            named,
+            background,
+            area,
+        } => show_on::show_on(alloc, named, background, area, input, piece, output),
     }
 }

@@ -3,9 +3,19 @@
 use crate::rule_set::RuleSet;
 use sixel_check::Finding;
 use sixel_model::{Colour, Profile};
+use sixel_models::Named;
 
 /// The greatest side of a screen, in pixels.
 pub const MOST_SCREEN_SIDE: u32 = 4096;
+
+/// How large a screen to show is.
+#[derive(Clone, Copy, Debug, PartialEq, Eq)]
+pub enum Area {
+    /// As large as the declared box, that of the first raster attributes. Its sides must be from 1 to 4,096 pixels.
+    Box,
+    /// Of this width and height in pixels, each from 1 to 4,096.
+    Sides { width: u32, height: u32 },
+}
 
 /// What to do with the input.
 #[derive(Clone, Copy, Debug, PartialEq, Eq)]
@@ -60,6 +70,14 @@ pub enum Task {
         showing: bool,
         fill: bool,
         selects: bool,
+    },
+    /// The screen of a named terminal after a sixel picture, as a Netpbm PPM, by the terminal's model. The picture
+    /// begins at its top left.
+    ShowOn {
+        named: Named,
+        /// The colour of the whole screen before the picture.
+        background: Colour,
+        area: Area,
     },
     /// What one terminal shows of a sixel string, as a portable sixel picture with all of its paint. The terminal has
     /// 256 registers, which start as the 16 colours of a VT340, over and over.

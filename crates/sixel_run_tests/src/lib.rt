@@ -14,6 +14,8 @@ mod in_turn;
 #[cfg(test)]
 mod lines;
 #[cfg(test)]
+mod named;
+#[cfg(test)]
 mod round_trip;
 #[cfg(test)]
 mod runs;

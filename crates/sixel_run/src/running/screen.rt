@@ -66,7 +66,7 @@ fn write_rgb<K: Sink>(screen: &Screen, out: &mut K) -> Result<(), DeviceFault>
 }
 
 /// Writes a screen as a PPM. `NotRgb`: the colour of some pixel is HLS, and nothing was written.
-fn write_ppm_screen<K: Sink>(screen: &Screen, out: &mut K) -> Result<(), PpmFault>
+pub fn write_ppm_screen<K: Sink>(screen: &Screen, out: &mut K) -> Result<(), PpmFault>
     ensures { WritesPpm result (K.state out.old) (K.state out.new) screen.now.width screen.now.height
         screen.now.colours }
 {

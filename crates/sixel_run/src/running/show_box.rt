@@ -217,7 +217,7 @@ fn draw_bytes(
 }
 
 /// Reads the bytes of a piece, and hands the events that they complete on to what never stops.
-fn follow<F: Follower<Stop = Infallible>>(
+pub fn follow<F: Follower<Stop = Infallible>>(
     reader: &mut Reader,
     follower: &mut F,
     piece: &[u8],
@@ -232,7 +232,7 @@ fn follow<F: Follower<Stop = Infallible>>(
 }
 
 /// This width and height, if a screen can have them.
-fn sides_of_box(width: u16, height: u16) -> Option<(u32, u32)>
+pub fn sides_of_box(width: u16, height: u16) -> Option<(u32, u32)>
     ensures value { result ≡ sides_of_box width height }
     ensures sides { IfSome result (λ sides. IsTrue (is_file_side sides.0) × IsTrue (is_file_side sides.1)) }
 {
