@@ -449,6 +449,7 @@ fault_pasted first fault.NotRgb said colon are =
     (no_ending (low (32 ∷ first)) (codes " notrgb") (omega arith) refl refl refl refl refl) are
 fault_pasted first fault.NoBox said colon are =
     name_last first topic.NoBox said (colon_marked first colon) (no_ending (low (32 ∷ first)) (codes " nobox") (omega arith) refl refl refl refl refl) are
+fault_pasted first (fault.Unmodelled place) said colon are = name_at first topic.Unmodelled place said are
 fault_pasted first fault.NoString said colon are =
     name_last first topic.NoString said (colon_marked first colon)
     (no_ending (low (32 ∷ first)) (codes " nostring") (omega arith) refl refl refl refl refl) are

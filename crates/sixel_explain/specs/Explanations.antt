@@ -18,7 +18,8 @@ use Rattle.sixel_ppm.specs.declared.ppm.PpmReason.TheVariants.{Header, Size, Max
 use Rattle.sixel_ppm.specs.declared.ppm.PpmReason.TheVariants.{Trailing as PpmTrailing}
 use Rattle.sixel_explain.specs.declared.explanations.Topic.{Topic}
 use Rattle.sixel_explain.specs.declared.explanations.Topic.TheVariants.{Rule, Grammar, Ppm, NotRgb, NoBox, OutOfMemory}
-use Rattle.sixel_explain.specs.declared.explanations.Topic.TheVariants.{NoString, Empty, TooLarge, Read, Write}
+use Rattle.sixel_explain.specs.declared.explanations.Topic.TheVariants.{Unmodelled, NoString, Empty, TooLarge, Read}
+use Rattle.sixel_explain.specs.declared.explanations.Topic.TheVariants.{Write}
 use Rattle.sixel_run.specs.declared.fault.RunFault.{RunFault}
 use Rattle.sixel_run.specs.declared.fault.RunFault.TheVariants as fault
 use Rattle.sixel_run.specs.Texts.{Text, ppm_reason_name, reason_name, rule_name}
@@ -30,6 +31,7 @@ topic_name (Grammar reason) = reason_name reason
 topic_name (Ppm reason) = ppm_reason_name reason
 topic_name NotRgb = codes "NotRgb"
 topic_name NoBox = codes "NoBox"
+topic_name Unmodelled = codes "Unmodelled"
 topic_name NoString = codes "NoString"
 topic_name Empty = codes "Empty"
 topic_name TooLarge = codes "TooLarge"
@@ -43,6 +45,7 @@ topic_of (fault.Grammar f) = Grammar f.reason
 topic_of (fault.Ppm reason place) = Ppm reason
 topic_of fault.NotRgb = NotRgb
 topic_of fault.NoBox = NoBox
+topic_of (fault.Unmodelled place) = Unmodelled
 topic_of fault.NoString = NoString
 topic_of fault.Empty = Empty
 topic_of fault.TooLarge = TooLarge
@@ -64,7 +67,8 @@ refusals_of_pictures =
     Ppm Header ∷ Ppm Size ∷ Ppm Maxval ∷ Ppm Sample ∷ Ppm TooManyColours ∷ Ppm Short ∷ []
 
 abbrev pub refusals_of_runs : List Topic
-refusals_of_runs = NotRgb ∷ NoBox ∷ NoString ∷ Empty ∷ TooLarge ∷ OutOfMemory ∷ Read ∷ Write ∷ []
+refusals_of_runs =
+    NotRgb ∷ NoBox ∷ Unmodelled ∷ NoString ∷ Empty ∷ TooLarge ∷ OutOfMemory ∷ Read ∷ Write ∷ []
 
 -- the listed topics, in this order
 abbrev pub listed : List Topic
@@ -106,6 +110,7 @@ summary (Ppm Short) = codes "a PPM that ends before its last sample"
 summary (Ppm PpmTrailing) = codes "data after the terminator, or after the last sample of a PPM"
 summary NotRgb = codes "a colour of hue, lightness and saturation that would appear in a PPM"
 summary NoBox = codes "a text that declares no box of a possible screen size"
+summary Unmodelled = codes "a command that the model of the named terminal doesn't cover"
 summary NoString = codes "input to scan that has no sixel string"
 summary Empty = codes "a text to mend that paints nothing and declares no width or no height"
 summary TooLarge = codes "a text to mend whose picture has a side above 2,048"

@@ -24,6 +24,8 @@ pub enum Topic {
     Ppm(PpmReason),
     NotRgb,
     NoBox,
+    /// The model of a terminal doesn't say what it does at an event.
+    Unmodelled,
     /// A stream has no sixel string.
     NoString,
     /// A mended picture has no pixels.
@@ -46,6 +48,7 @@ pub fn topic_name(topic: Topic) -> &'static str
         Topic::Ppm(reason) => ppm_reason_name(reason),
         Topic::NotRgb => "NotRgb",
         Topic::NoBox => "NoBox",
+        Topic::Unmodelled => "Unmodelled",
         Topic::NoString => "NoString",
         Topic::Empty => "Empty",
         Topic::TooLarge => "TooLarge",
@@ -64,6 +67,7 @@ pub fn topic_of(fault: &RunFault) -> Topic
         RunFault::Ppm { reason, .. } => Topic::Ppm(*reason),
         RunFault::NotRgb => Topic::NotRgb,
         RunFault::NoBox => Topic::NoBox,
+        RunFault::Unmodelled { .. } => Topic::Unmodelled,
         RunFault::NoString => Topic::NoString,
         RunFault::Empty => Topic::Empty,
         RunFault::TooLarge => Topic::TooLarge,
@@ -89,6 +93,7 @@ pub(crate) fn topic_named(name: &str) -> Option<Topic>
                 None => match name {
                     "notrgb" => Some(Topic::NotRgb),
                     "nobox" => Some(Topic::NoBox),
+                    "unmodelled" => Some(Topic::Unmodelled),
                     "nostring" => Some(Topic::NoString),
                     "empty" => Some(Topic::Empty),
                     "toolarge" => Some(Topic::TooLarge),
@@ -131,6 +136,7 @@ pub fn explanation(topic: Option<Topic>) -> &'static str
         Some(Topic::Ppm(reason)) => of_ppm_reason(reason),
         Some(Topic::NotRgb) => refusals::NOT_RGB,
         Some(Topic::NoBox) => refusals::NO_BOX,
+        Some(Topic::Unmodelled) => refusals::UNMODELLED,
         Some(Topic::NoString) => refusals::NO_STRING,
         Some(Topic::Empty) => refusals::EMPTY,
         Some(Topic::TooLarge) => refusals::TOO_LARGE,
@@ -170,6 +176,7 @@ TooManyColours: a picture of more than 16 colours, or more than 256 with --wide
 Short: a PPM that ends before its last sample
 NotRgb: a colour of hue, lightness and saturation that would appear in a PPM
 NoBox: a text that declares no box of a possible screen size
+Unmodelled: a command that the model of the named terminal doesn't cover
 NoString: input to scan that has no sixel string
 Empty: a text to mend that paints nothing and declares no width or no height
 TooLarge: a text to mend whose picture has a side above 2,048

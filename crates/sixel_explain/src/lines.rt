@@ -192,7 +192,7 @@ fn edits(alloc: Global, name: &str, word: &str) -> Result<usize, AllocError>
 }
 
 /// The listed names.
-const NAMES: [&str; 36] = [
+const NAMES: [&str; 37] = [
     "RasterFirst",
     "RasterTwice",
     "Ratio",
@@ -223,6 +223,7 @@ const NAMES: [&str; 36] = [
     "Short",
     "NotRgb",
     "NoBox",
+    "Unmodelled",
     "NoString",
     "Empty",
     "TooLarge",

@@ -288,6 +288,21 @@ Fix: leave out --box, and give the screen's sides by --width and --height; or
 write raster attributes with the true size.
 ";
 
+pub const UNMODELLED: &str =
+    "Unmodelled: a command that the model of the named terminal doesn't cover
+
+Refused: show --on draws by a model of the terminal, which was measured on the
+real one. At some commands the model doesn't say what the terminal does: there
+it does something that no other commands can tell, or nobody has measured it.
+The offset is that of the first such command. Nothing is written.
+
+String: ESC P q !0~ ESC \\
+Output of show --on xterm: sixel: Unmodelled at 3
+
+Fix: name another terminal; or leave out --on, and describe the terminal by the
+other options. A portable picture of what one terminal shows comes from mend.
+";
+
 pub const NO_STRING: &str = "NoString: input to scan that has no sixel string
 
 Refused: scan needs at least one sixel string: ESC P, digits and semicolons or
