@@ -319,6 +319,7 @@ memory_kept (task.Render profile) told has same takes = kept _ told has same tak
 memory_kept (task.Encode profile) told has same takes = kept _ told has same takes
 memory_kept (task.Show profile showing fill selects width height) told has same takes = kept _ told has same takes
 memory_kept (task.ShowBox profile showing fill selects) told has same takes = kept _ told has same takes
+memory_kept (task.ShowOn named background area) told has same takes = kept _ told has same takes
 memory_kept (task.Mend profile background showing selects) told has same takes = kept _ told has same takes
 
 -- what was read of a source was read of the bytes that the source was made from

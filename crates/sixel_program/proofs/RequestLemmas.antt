@@ -81,6 +81,10 @@ module _ {O : Type 0} (folder : FolderView O) (x : Exit) (i : Change SourceState
       inl (codes "-", refl, run_ends (task.ShowBox profile showing fill selects) q None x i o e ended)
   request_read (task.ShowBox profile showing fill selects) q h (name ∷ more) ended =
       inl (name, refl, file_run folder (task.ShowBox profile showing fill selects) q name x i o e ended)
+  request_read (task.ShowOn named background area) q h [] ended =
+      inl (codes "-", refl, run_ends (task.ShowOn named background area) q None x i o e ended)
+  request_read (task.ShowOn named background area) q h (name ∷ more) ended =
+      inl (name, refl, file_run folder (task.ShowOn named background area) q name x i o e ended)
   request_read (task.Mend profile background showing selects) q h [] ended =
       inl (codes "-", refl, run_ends (task.Mend profile background showing selects) q None x i o e ended)
   request_read (task.Mend profile background showing selects) q h (name ∷ more) ended =

@@ -15,7 +15,8 @@ use Rattle.sixel_run.specs.declared.fault.RunFault.{RunFault}
 use Rattle.sixel_run.specs.declared.fault.RunFault.TheVariants as run
 use Rattle.sixel_run.specs.declared.task.Status.{Status}
 use Rattle.sixel_run.specs.declared.task.Task.{Task}
-use Rattle.sixel_run.specs.declared.task.Task.TheVariants.{Check, Encode, Render, Scan, Show, ShowBox, Survey}
+use Rattle.sixel_run.specs.declared.task.Task.TheVariants.{Check, Encode, Render, Scan, Show, ShowBox, ShowOn}
+use Rattle.sixel_run.specs.declared.task.Task.TheVariants.{Survey}
 use Rattle.sixel_program.specs.declared.formats.Format.{Format}
 use Rattle.sixel_program.specs.declared.terminals.Terminals.{Terminals}
 use Rattle.sixel_program.specs.Formats.{IsFormat, advice_on}
@@ -109,6 +110,7 @@ abbrev pub writes_ppm : Task → Bool
 writes_ppm (Render profile) = true
 writes_ppm (Show profile showing fill selects width height) = true
 writes_ppm (ShowBox profile showing fill selects) = true
+writes_ppm (ShowOn named background area) = true
 writes_ppm t = false
 
 -- whether the task would write a PPM to a terminal

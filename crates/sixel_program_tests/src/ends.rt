@@ -5,8 +5,9 @@ ghost use Rattle.sixel_run.specs.Outputs.{HasSides};
 use crate::memory_folder::MemoryFolder;
 use sixel_io::{FromRead, ToWrite};
 use sixel_model::{Colour, Profile};
+use sixel_models::Named;
 use sixel_program::{Exit, Lines, Peeked, Request, Terminals, execute};
-use sixel_run::Task;
+use sixel_run::{Area, Task};
 use std::alloc::Global;
 use std::io::{Read, Write};
 
@@ -47,6 +48,17 @@ pub const SHOW_BOX: Task = Task::ShowBox {
     fill: false,
     selects: false,
 };
+
+/// The white screen of a named terminal, as large as the declared box.
+pub fn show_on(named: Named) -> Task
+    ensures { HasSides result }
+{
+    Task::ShowOn {
+        named,
+        background: Colour::of_percentages(100, 100, 100),
+        area: Area::Box,
+    }
+}
 
 /// `mend` with this background, and without options.
 pub fn mend_on(background: Colour) -> Task

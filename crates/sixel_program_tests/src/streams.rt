@@ -2,7 +2,8 @@
 
 ghost use Rattle.sixel_run.specs.Outputs.{HasSides};
 
-use crate::ends::{CHECK, ENCODE, NO_TERMINALS, RENDER, SHOW, SHOW_BOX, exit_over};
+use crate::ends::{CHECK, ENCODE, NO_TERMINALS, RENDER, SHOW, SHOW_BOX, exit_over, show_on};
+use sixel_models::Named;
 use sixel_program::Exit;
 use sixel_run::Task;
 use sixel_test_devices::Narrow;
@@ -51,6 +52,53 @@ fn refuses(alloc: Global, task: &Task, bytes: &[u8], line: &[u8]) -> bool
     requires { HasSides task.now }
 {
     ends_so(alloc, task, bytes, Exit::Refused, b"", line)
+}
+
+/// xterm fills the box with register 0, which is black, and mlterm leaves its second pixel as it was. What xterm does at
+/// a repeat of 0 isn't known.
+#[test]
+fn a_named_terminal(rt: HostRuntime) {
+    let alloc = rt.alloc();
+    let uncovered = b"\x1bPq\"1;1;2;1#0;2;0;0;0#0@\x1b\\";
+    let filled = b"P6\n2 1\n100\n\x00\x00\x00\x00\x00\x00";
+    assert!(rt;
+        ends_so(
+            alloc,
+            &show_on(Named::XTerm),
+            uncovered,
+            Exit::Done,
+            filled,
+            b""
+        )
+    );
+    let kept = b"P6\n2 1\n100\n\x00\x00\x00ddd";
+    assert!(rt;
+        ends_so(
+            alloc,
+            &show_on(Named::MlTerm),
+            uncovered,
+            Exit::Done,
+            kept,
+            b""
+        )
+    );
+    let unmodelled = b"sixel: Unmodelled at 3\n";
+    assert!(rt;
+        refuses(
+            alloc,
+            &show_on(Named::XTerm),
+            b"\x1bPq!0~\x1b\\",
+            unmodelled
+        )
+    );
+    assert!(rt;
+        refuses(
+            alloc,
+            &show_on(Named::Foot),
+            b"\x1bPq#0@\x1b\\",
+            b"sixel: NoBox\n"
+        )
+    );
 }
 
 /// Each task ends in its own way, even if the line of a refusal, or of a picture that isn't rendered, can't be written.

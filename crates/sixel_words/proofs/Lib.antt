@@ -7,3 +7,4 @@ pub mod FlagLemmas
 pub mod ArgumentLemmas
 pub mod ColourLemmas
 pub mod TellingLemmas
+pub mod LiteralLemmas

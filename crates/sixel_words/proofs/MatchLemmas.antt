@@ -1,7 +1,8 @@
 -- What the getters of clap's matches return.
 use Rattle.std.proofs.Common.{◌≡◌, ◌≢◌, ◌∙◌, ◌≤◌, ◌⊎◌, ℕ, Bool, true, false, List, [], Option, Some, None, arith}
 use Rattle.std.proofs.Common.{codes, refl, slice_index, subst, sym, ap, ap₂, inl, inr}
-use Rattle.std.specs.Prelude.{find, option_and_then, option_map, map, string_bytes, Box, IfSome, IfOk, Result, Ok, Err}
+use Rattle.std.specs.Prelude.{find, option_and_then, option_map, map, string_bytes, Box as Boxed, IfSome, IfOk, Result}
+use Rattle.std.specs.Prelude.{Ok, Err}
 use Rattle.std.specs.Str.{bytes_eq}
 use Rattle.std.specs.Box.{box_value}
 use Rattle.std.specs.Str.Parse.{ParsesUnsigned}
@@ -9,19 +10,24 @@ use Rattle.sixel_terminal.specs.Limits.{most_screen_side}
 use Rattle.clap.specs.Facts.{Entry}
 use Rattle.clap.specs.Matches.{ReadsOne, matched_of}
 use Rattle.clap.specs.Simple.{subcommand_rows}
-use Rattle.clap.specs.Walk.{Row, Text, row_of, rows_of}
+use Rattle.clap.specs.Walk.{Row, Text, first_of, row_of, rows_of}
 use Rattle.clap.specs.declared.parser.matches.Found.{Found}
 use Rattle.clap.specs.declared.parser.matches.MatchedArg.{MatchedArg}
 use Rattle.clap.specs.declared.parser.matches.ValueSource.{ValueSource}
 use Rattle.clap.proofs.WalkLemmas.{find_row}
 use Rattle.clap.specs.declared.parser.matches.SubCommand.{SubCommand}
 use Rattle.clap.specs.declared.parser.matches.ArgMatches.TheViews.{out-SubCommand}
+use Rattle.sixel_models.specs.declared.named.Named.{Named}
+use Rattle.sixel_run.specs.declared.task.Area.{Area}
+use Rattle.sixel_run.specs.declared.task.Area.TheVariants.{Box, Sides}
 use Rattle.sixel_run.specs.declared.task.Task.{Task}
-use Rattle.sixel_run.specs.declared.task.Task.TheVariants.{List as Listing, Check, Survey, Render, Show, ShowBox, Mend}
-use Rattle.sixel_run.specs.declared.task.Task.TheVariants.{Encode, Scan}
+use Rattle.sixel_run.specs.declared.task.Task.TheVariants.{List as Listing, Check, Survey, Render, Show, ShowBox, ShowOn}
+use Rattle.sixel_run.specs.declared.task.Task.TheVariants.{Mend, Encode, Scan}
 use Rattle.sixel_program.specs.declared.request.Request.{Request}
 use Rattle.sixel_model.specs.declared.colour.Parts.{Parts}
-use Rattle.sixel_words.specs.Words.{HasColour, HasSide, IsSideText, IsTask, files_of, is_given, is_named, is_of_words, lines_of}
+use Rattle.sixel_words.specs.Words.{HasArea, HasColour, HasSide, IsSideText, IsTask, describes, files_of, is_given}
+use Rattle.sixel_words.specs.Words.{is_named, is_of_words, lines_of, terminal_name}
+use Rattle.sixel_words.proofs.ColourLemmas.{same_text}
 
 pub both_parts : {X Y : Type 0} (o : Option (X × Y)) (x : X) (y : Y) → option_map (λ p. p.0) o ≡ Some x
     → option_map (λ p. p.1) o ≡ Some y → o ≡ Some (x, y)
@@ -38,7 +44,7 @@ pub none_of : {X Y : Type 0} (f : X → Y) (o : Option X) → None ≡ option_ma
 none_of f None e = refl
 none_of f (Some x) e = cc
 
-pub name_rows : {Z : Type 0} (sub : Option (Box SubCommand Z)) → option_map (λ p. p.0) (subcommand_rows sub) ≡
+pub name_rows : {Z : Type 0} (sub : Option (Boxed SubCommand Z)) → option_map (λ p. p.0) (subcommand_rows sub) ≡
     option_map (λ b. (out-SubCommand (box_value b)).name.now) sub
 name_rows None = refl
 name_rows (Some b) = refl
@@ -115,34 +121,73 @@ not_scan is = let second : 104 ≡ 99 = ap (λ (t : Text). slice_index t 1) is i
 not_mend : codes "show" ≡ codes "mend" → ⊥
 not_mend is = let first : 115 ≡ 109 = ap (λ (t : Text). slice_index t 0) is in omega (arith, first)
 
--- without `--box`, and without one of the sides
-pub without_side : (rows : List Row) (t : Task) → is_given (codes "box") rows ≡ false
-    → ((n : ℕ) → HasSide (codes "width") rows n → ⊥) ⊎ ((n : ℕ) → HasSide (codes "height") rows n → ⊥)
+-- a task of `show` has a size, and a terminal that is described or named
+pub not_shown : (rows : List Row) (t : Task)
+    → ((area : Area) → HasArea rows area → first_of (codes "on") rows ≡ None
+    → is_named (codes "background") rows ≡ false → ⊥)
+    → ((named : Named) (colour : Parts) (area : Area) → first_of (codes "on") rows ≡ Some (terminal_name named)
+    → HasColour (codes "background") rows colour → HasArea rows area → describes rows ≡ false → ⊥)
     → IsTask (codes "show") rows t → ⊥
-without_side rows Listing plain none is = not_list is
-without_side rows (Check profile) plain none is = not_check is.0
-without_side rows (Render profile) plain none is = not_render is.0
-without_side rows (Encode profile) plain none is = not_encode is.0
-without_side rows (Survey profile) plain none is = not_survey is.0
-without_side rows (Scan profile eight) plain none is = not_scan is.0
-without_side rows (Mend profile background showing selects) plain none is = not_mend is.0
-without_side rows (Show profile showing fill selects width height) plain (inl none) is = none width is.6
-without_side rows (Show profile showing fill selects width height) plain (inr none) is = none height is.7
-without_side rows (ShowBox profile showing fill selects) plain none is = not_both _ is.5 plain
+not_shown rows Listing described named is = not_list is
+not_shown rows (Check profile) described named is = not_check is.0
+not_shown rows (Render profile) described named is = not_render is.0
+not_shown rows (Encode profile) described named is = not_encode is.0
+not_shown rows (Survey profile) described named is = not_survey is.0
+not_shown rows (Scan profile eight) described named is = not_scan is.0
+not_shown rows (Mend profile background showing selects) described named is = not_mend is.0
+not_shown rows (Show profile showing fill selects width height) described named is =
+    described (Sides width height) is.5 is.6 is.7
+not_shown rows (ShowBox profile showing fill selects) described named is = described Box is.5 is.6 is.7
+not_shown rows (ShowOn one colour area) described named is = named one colour area is.1 is.2 is.3 is.4
 
--- with `--box`, and with a side too
-box_beside : (rows : List Row) (t : Task) → is_given (codes "box") rows ≡ true
-    → is_named (codes "width") rows ≡ true ⊎ is_named (codes "height") rows ≡ true → IsTask (codes "show") rows t → ⊥
-box_beside rows Listing boxed side is = not_list is
-box_beside rows (Check profile) boxed side is = not_check is.0
-box_beside rows (Render profile) boxed side is = not_render is.0
-box_beside rows (Encode profile) boxed side is = not_encode is.0
-box_beside rows (Survey profile) boxed side is = not_survey is.0
-box_beside rows (Scan profile eight) boxed side is = not_scan is.0
-box_beside rows (Mend profile background showing selects) boxed side is = not_mend is.0
-box_beside rows (Show profile showing fill selects width height) boxed side is = not_both _ boxed is.5
-box_beside rows (ShowBox profile showing fill selects) boxed (inl named) is = not_both _ named is.6
-box_beside rows (ShowBox profile showing fill selects) boxed (inr named) is = not_both _ named is.7
+-- with `--box`, and with a side too, there is no size
+pub box_beside : (rows : List Row) (area : Area) → is_given (codes "box") rows ≡ true
+    → is_named (codes "width") rows ≡ true ⊎ is_named (codes "height") rows ≡ true → HasArea rows area → ⊥
+box_beside rows Box boxed (inl named) is = not_both _ named is.1
+box_beside rows Box boxed (inr named) is = not_both _ named is.2
+box_beside rows (Sides width height) boxed side is = not_both _ boxed is.0
+
+-- nor without `--box`, and without one of the sides
+pub without_side : (rows : List Row) (area : Area) → is_given (codes "box") rows ≡ false
+    → ((n : ℕ) → HasSide (codes "width") rows n → ⊥) ⊎ ((n : ℕ) → HasSide (codes "height") rows n → ⊥)
+    → HasArea rows area → ⊥
+without_side rows Box plain none is = not_both _ is.0 plain
+without_side rows (Sides width height) plain (inl none) is = none width is.1
+without_side rows (Sides width height) plain (inr none) is = none height is.2
+
+-- without a size there is no task
+pub without_area : (rows : List Row) (t : Task) → ((area : Area) → HasArea rows area → ⊥)
+    → IsTask (codes "show") rows t → ⊥
+without_area rows t none =
+    not_shown rows t (λ area has off plain. none area has) (λ named colour area on coloured has free. none area has)
+
+-- nor with `--background` and without `--on`
+pub coloured_beside : (rows : List Row) (t : Task) → first_of (codes "on") rows ≡ None
+    → is_named (codes "background") rows ≡ true → IsTask (codes "show") rows t → ⊥
+coloured_beside rows t off given =
+    not_shown rows t (λ area has none plain. not_both _ given plain)
+    (λ named colour area on coloured has free. not_some _ (terminal_name named) off on)
+
+-- nor with `--on` and a flag that describes a terminal
+pub described_beside : (rows : List Row) (t : Task) (name : Text) → first_of (codes "on") rows ≡ Some name
+    → describes rows ≡ true → IsTask (codes "show") rows t → ⊥
+described_beside rows t name on given =
+    not_shown rows t (λ area has none plain. not_some _ name none on)
+    (λ named colour area is coloured has free. not_both _ given free)
+
+-- nor if the value of `--on` isn't the name of a terminal
+pub without_name : (rows : List Row) (t : Task) (name : Text) → first_of (codes "on") rows ≡ Some name
+    → ((named : Named) → terminal_name named ≡ name → ⊥) → IsTask (codes "show") rows t → ⊥
+without_name rows t name on unknown =
+    not_shown rows t (λ area has none plain. not_some _ name none on)
+    (λ named colour area is coloured has free. unknown named (same_text _ (terminal_name named) name is on))
+
+-- nor with `--on`, if the value of `--background` is no colour
+pub on_without_colour : (rows : List Row) (t : Task) (name : Text) → first_of (codes "on") rows ≡ Some name
+    → ((c : Parts) → HasColour (codes "background") rows c → ⊥) → IsTask (codes "show") rows t → ⊥
+on_without_colour rows t name on uncoloured =
+    not_shown rows t (λ area has none plain. not_some _ name none on)
+    (λ named colour area is coloured has free. uncoloured colour coloured)
 
 -- ---- the task of mend
 
@@ -163,6 +208,8 @@ without_colour rows (Show profile showing fill selects width height) none is =
     other_first (codes "show") 115 refl (λ e. omega (arith, e)) is.0
 without_colour rows (ShowBox profile showing fill selects) none is =
     other_first (codes "show") 115 refl (λ e. omega (arith, e)) is.0
+without_colour rows (ShowOn named background area) none is =
+    other_first (codes "show") 115 refl (λ e. omega (arith, e)) is.0
 without_colour rows (Mend profile background showing selects) none is = none background is.2
 
 abbrev pub name_in : Option (Text × List Row) → Text
@@ -181,15 +228,13 @@ same_task o n m r s t e f is =
     let rows : r ≡ s = sym (ap rows_in e) ∙ ap rows_in f in
     subst (λ (k : Text). IsTask k s t) name (subst (λ (k : List Row). IsTask n k t) rows is)
 
--- the arguments ask for `show` with `--box`, and with a side too
+-- the arguments ask for `show` with options that have no task
 pub none_named : (o : Option (Text × List Row)) (name : Text) (rows : List Row) (t : Task) → o ≡ Some (name, rows)
-    → IsTask name rows t → name_in o ≡ codes "show" → is_given (codes "box") (rows_in o) ≡ true
-    → is_named (codes "width") (rows_in o) ≡ true ⊎ is_named (codes "height") (rows_in o) ≡ true → ⊥
-none_named o name rows t e is called boxed side =
+    → IsTask name rows t → name_in o ≡ codes "show" → (IsTask (codes "show") (rows_in o) t → ⊥) → ⊥
+none_named o name rows t e is called none =
     let n : name ≡ codes "show" = sym (ap name_in e) ∙ called in
     let r : rows ≡ rows_in o = sym (ap rows_in e) in
-    box_beside (rows_in o) t boxed side
-    (subst (λ (k : Text). IsTask k (rows_in o) t) n (subst (λ (k : List Row). IsTask name k t) r is))
+    none (subst (λ (k : Text). IsTask k (rows_in o) t) n (subst (λ (k : List Row). IsTask name k t) r is))
 
 -- a subcommand has one name and one list of options
 pub same_parts : (o : Option (Text × List Row)) (n m : Text) (r s : List Row) → o ≡ Some (n, r) → o ≡ Some (m, s)

@@ -1,6 +1,6 @@
 -- The command line: what the arguments ask for, in the terms of clap's contracts.
-use Rattle.std.specs.Prelude.{◌≡◌, ◌≢◌, ◌⊎◌, ◌≤◌, ℕ, Bool, false, true, List, [], ◌∷◌, Option, Some, codes, pos, ⊤}
-use Rattle.std.specs.Prelude.{◌++◌, find, length, map, if◌then◌else◌, unwrap_or}
+use Rattle.std.specs.Prelude.{◌≡◌, ◌≢◌, ◌⊎◌, ◌≤◌, ℕ, Bool, false, true, List, [], ◌∷◌, Option, Some, None, codes, pos}
+use Rattle.std.specs.Prelude.{◌++◌, ◌||◌, ⊤, find, length, map, if◌then◌else◌, unwrap_or}
 use Rattle.std.specs.List.{list_any}
 use Rattle.std.specs.Option.{option_and_then, option_map_or}
 use Rattle.std.specs.Str.{bytes_eq}
@@ -9,6 +9,8 @@ use Rattle.sixel_model.specs.declared.colour.Parts.{Parts}
 use Rattle.sixel_model.specs.declared.colour.Parts.TheVariants.{Rgb, Hls}
 use Rattle.sixel_model.specs.declared.profile.Profile.{Profile}
 use Rattle.sixel_model.specs.declared.profile.Profile.TheVariants.{Registers16, Registers256}
+use Rattle.sixel_models.specs.declared.named.Named.{Named}
+use Rattle.sixel_models.specs.declared.named.Named.TheVariants.{XTerm, MlTerm, Foot, Konsole}
 use Rattle.sixel_ppm.specs.PpmReading as ppm
 use Rattle.sixel_terminal.specs.Limits.{most_screen_side}
 use Rattle.clap.specs.Faults.{fault_of}
@@ -26,6 +28,8 @@ use Rattle.clap.specs.declared.parser.matches.ValueSource.{ValueSource}
 use Rattle.clap.specs.declared.parser.matches.ValueSource.TheVariants.{CommandLine}
 use Rattle.sixel_program.specs.declared.lines.Lines.{Lines}
 use Rattle.sixel_program.specs.declared.lines.Lines.TheVariants.{Json, Nothing, Plain}
+use Rattle.sixel_run.specs.declared.task.Area.{Area}
+use Rattle.sixel_run.specs.declared.task.Area.TheVariants.{Box, Sides}
 use Rattle.sixel_run.specs.declared.task.Task.{Task}
 use Rattle.sixel_run.specs.declared.task.Task.TheVariants as task
 use Rattle.sixel_words.specs.declared.words.WordsFault.{WordsFault}
@@ -63,12 +67,16 @@ side name fallback = record (new_rule name) {
   parser = Some (parser.Signed (pos 1) (pos most_screen_side));
 }
 
--- `--background COLOUR`, by default `0,0,0`
-abbrev pub background : Rule
-background = record (new_rule (codes "background")) {
+-- `--on NAME`
+abbrev pub on : Rule
+on = record (new_rule (codes "on")) { long = Some (codes "on"); value_names = 1 }
+
+-- `--background COLOUR`, with the default `fallback`
+abbrev pub background : Text → Rule
+background fallback = record (new_rule (codes "background")) {
   long = Some (codes "background");
   value_names = 1;
-  defaults = codes "0,0,0" ∷ [];
+  defaults = fallback ∷ [];
 }
 
 -- a subcommand with the option `--wide`
@@ -108,8 +116,8 @@ scan_app =
 -- `show`
 abbrev pub show_app : App
 show_app =
-    with_rule (with_rule (with_rule (with_rule (with_rule (with_rule (with_rule (with_rule (with_rule
-    (new_app (codes "show"))
+    with_rule (with_rule (with_rule (with_rule (with_rule (with_rule (with_rule (with_rule (with_rule (with_rule
+    (with_rule (new_app (codes "show"))
     (flag (codes "wide")))
     quiet)
     (flag (codes "showing")))
@@ -118,6 +126,8 @@ show_app =
     (side (codes "width") (codes "800")))
     (side (codes "height") (codes "480")))
     (flag (codes "box")))
+    on)
+    (background (codes "100,100,100")))
     file
 
 -- `mend`
@@ -126,7 +136,7 @@ mend_app =
     with_rule (with_rule (with_rule (with_rule (with_rule (with_rule (new_app (codes "mend"))
     (flag (codes "wide")))
     quiet)
-    background)
+    (background (codes "0,0,0")))
     (flag (codes "showing")))
     (flag (codes "define-selects")))
     file
@@ -228,8 +238,30 @@ IsColourText text colour = ArePercentages text colour ⊎ AreSamples text colour
 abbrev pub HasColour : Text → List Row → Parts → Type 0
 HasColour name rows colour = (text : Text) × (first_of name rows ≡ Some text) × IsColourText text colour
 
--- the task of a subcommand with this name and these options; the size of a screen comes from `--box`, or else from
--- `--width` and `--height`: with `--box` and either of these two there is no task
+-- the size of a screen comes from `--box`, or else from `--width` and `--height`: with `--box` and either of these two
+-- there is none
+abbrev pub HasArea : List Row → Area → Type 0
+HasArea rows Box = (is_given (codes "box") rows ≡ true)
+    × (is_named (codes "width") rows ≡ false)
+    × (is_named (codes "height") rows ≡ false)
+HasArea rows (Sides width height) = (is_given (codes "box") rows ≡ false)
+    × HasSide (codes "width") rows width
+    × HasSide (codes "height") rows height
+
+-- the names of terminals on the command line
+abbrev pub terminal_name : Named → Text
+terminal_name XTerm = codes "xterm"
+terminal_name MlTerm = codes "mlterm"
+terminal_name Foot = codes "foot"
+terminal_name Konsole = codes "konsole"
+
+-- a flag that describes the terminal of `show` is given
+abbrev pub describes : List Row → Bool
+describes rows = is_given (codes "wide") rows || is_given (codes "showing") rows || is_given (codes "fill") rows
+    || is_given (codes "define-selects") rows
+
+-- the task of a subcommand with this name and these options. With `--on` there is a task if its value is the name of a
+-- terminal, and no flag describes one; without it, if `--background` isn't given
 abbrev pub IsTask : Text → List Row → Task → Type 0
 IsTask name rows task.List = name ≡ codes "list"
 IsTask name rows (task.Check profile) = (name ≡ codes "check") × (profile_of rows ≡ profile)
@@ -243,17 +275,22 @@ IsTask name rows (task.Show profile showing fill selects width height) = (name �
     × (is_given (codes "showing") rows ≡ showing)
     × (is_given (codes "fill") rows ≡ fill)
     × (is_given (codes "define-selects") rows ≡ selects)
-    × (is_given (codes "box") rows ≡ false)
-    × HasSide (codes "width") rows width
-    × HasSide (codes "height") rows height
+    × HasArea rows (Sides width height)
+    × (first_of (codes "on") rows ≡ None)
+    × (is_named (codes "background") rows ≡ false)
 IsTask name rows (task.ShowBox profile showing fill selects) = (name ≡ codes "show")
     × (profile_of rows ≡ profile)
     × (is_given (codes "showing") rows ≡ showing)
     × (is_given (codes "fill") rows ≡ fill)
     × (is_given (codes "define-selects") rows ≡ selects)
-    × (is_given (codes "box") rows ≡ true)
-    × (is_named (codes "width") rows ≡ false)
-    × (is_named (codes "height") rows ≡ false)
+    × HasArea rows Box
+    × (first_of (codes "on") rows ≡ None)
+    × (is_named (codes "background") rows ≡ false)
+IsTask name rows (task.ShowOn named colour area) = (name ≡ codes "show")
+    × (first_of (codes "on") rows ≡ Some (terminal_name named))
+    × HasColour (codes "background") rows colour
+    × HasArea rows area
+    × (describes rows ≡ false)
 IsTask name rows (task.Mend profile colour showing selects) = (name ≡ codes "mend")
     × (profile_of rows ≡ profile)
     × HasColour (codes "background") rows colour

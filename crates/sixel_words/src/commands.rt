@@ -5,7 +5,7 @@ ghost use Rattle.clap.specs.Walk.{rule_of};
 ghost use Rattle.clap.specs.Simple.{app_of, new_app};
 ghost use Rattle.clap.specs.declared.builder.command.Command.TheViews.{out-Command as fields_of};
 ghost use Rattle.sixel_words.specs.Words.{background, check_app, explain_app, file, files, flag, mend_app, plain_app};
-ghost use Rattle.sixel_words.specs.Words.{profiled_app, quiet, scan_app, show_app, side, sixel_app, survey_app};
+ghost use Rattle.sixel_words.specs.Words.{on, profiled_app, quiet, scan_app, show_app, side, sixel_app, survey_app};
 
 mod help;
 
@@ -196,7 +196,7 @@ pub fn scan_command<'a>(alloc: Global) -> Result<Command<'a>, AllocError>
     .arg(files_arg(alloc))
 }
 
-/// `show`, with eight options and an optional file.
+/// `show`, with ten options and an optional file.
 pub fn show_command<'a>(alloc: Global) -> Result<Command<'a>, AllocError>
     ensures app { IfOk result (λ c. app_of c ≡ show_app) }
     ensures local { IfOk result (λ c. (fields_of c).has_globals ≡ false) }
@@ -233,6 +233,12 @@ pub fn show_command<'a>(alloc: Global) -> Result<Command<'a>, AllocError>
         "The screen's height in pixels, 1 to 4096",
     ))?
     .arg(flag_arg(alloc, "box", "Make the screen as large as the declared box"))?
+    .arg(on_arg(alloc))?
+    .arg(background_arg(
+        alloc,
+        "100,100,100",
+        "With --on: the screen before the picture, in percent, or '#RRGGBB'",
+    ))?
     .arg(file_arg(alloc))
 }
 
@@ -249,7 +255,11 @@ pub fn mend_command<'a>(alloc: Global) -> Result<Command<'a>, AllocError>
     )?
     .arg(wide_arg(alloc))?
     .arg(quiet_arg(alloc, "Leave out the note on a picture of one colour"))?
-    .arg(background_arg(alloc))?
+    .arg(background_arg(
+        alloc,
+        "0,0,0",
+        "What isn't painted: red, green and blue in percent, or '#RRGGBB'",
+    ))?
     .arg(flag_arg(
         alloc,
         "showing",
@@ -287,16 +297,26 @@ fn side_arg<'a>(alloc: Global, name: &'a str, fallback: &'a str, help: &'a str) 
         .help(help)
 }
 
-/// `--background COLOUR`, by default black.
-fn background_arg<'a>(alloc: Global) -> Arg<'a>
-    ensures rule { rule_of result ≡ background }
+/// `--on NAME`, of a terminal.
+fn on_arg<'a>(alloc: Global) -> Arg<'a>
+    ensures rule { rule_of result ≡ on }
+    ensures local { result.global ≡ false }
+{
+    Arg::new(alloc, "on").long("on").value_name("NAME").help(
+        "Draw as this terminal does: xterm, mlterm, foot or konsole",
+    )
+}
+
+/// `--background COLOUR`, with a default.
+fn background_arg<'a>(alloc: Global, fallback: &'a str, help: &'a str) -> Arg<'a>
+    ensures rule { rule_of result ≡ background fallback.entry.now }
     ensures local { result.global ≡ false }
 {
     Arg::new(alloc, "background")
         .long("background")
         .value_name("COLOUR")
-        .default_value("0,0,0")
-        .help("What isn't painted: red, green and blue in percent, or '#RRGGBB'")
+        .default_value(fallback)
+        .help(help)
 }
 
 /// `--wide`, which selects the profile of 256 registers.

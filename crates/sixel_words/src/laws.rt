@@ -8,9 +8,11 @@ ghost use Rattle.clap.specs.Takes.{takes};
 ghost use Rattle.clap.specs.declared.error.kind.ErrorKind.TheVariants.{DisplayHelp, DisplayVersion, MissingSubcommand};
 ghost use Rattle.clap.specs.declared.error.kind.ErrorKind.TheVariants.{UnknownArgument, ValueValidation};
 ghost use Rattle.sixel_explain.specs.declared.explanations.Topic.{Topic};
+ghost use Rattle.sixel_models.specs.declared.named.Named.TheVariants.{Konsole, XTerm};
+ghost use Rattle.sixel_run.specs.declared.task.Area.TheVariants.{Box, Sides};
 ghost use Rattle.sixel_run.specs.declared.task.Task.{Task};
 ghost use Rattle.sixel_run.specs.declared.task.Task.TheVariants.{Check, List as Listing, Mend, Scan, Show, ShowBox};
-ghost use Rattle.sixel_run.specs.declared.task.Task.TheVariants.{Survey};
+ghost use Rattle.sixel_run.specs.declared.task.Task.TheVariants.{ShowOn, Survey};
 ghost use Rattle.sixel_explain.specs.Explanations.{topic_name};
 ghost use Rattle.sixel_run.specs.Texts.{Text};
 ghost use Rattle.sixel_program.specs.declared.lines.Lines.TheVariants.{Json, Nothing, Plain};
@@ -83,6 +85,25 @@ pub fn the_words_show_box_give_a_box()
         IsTaskOf (program ∷ codes "show" ∷ codes "--box" ∷ codes "--width" ∷ codes "800" ∷ []) task → ⊥ }
     ensures no_height { (program : Text) (task : Task) →
         IsTaskOf (program ∷ codes "show" ∷ codes "--height" ∷ codes "480" ∷ codes "--box" ∷ []) task → ⊥ }
+{}
+
+/// `sixel show --on xterm --box` is accepted, and shows xterm's white screen, as large as the declared box. `--background`
+/// gives another colour, and without `--box` the screen has 800 by 480 pixels. There is no task with `--wide`, for a name
+/// in other letters, and with `--background` alone.
+pub fn the_words_show_on_name_a_terminal()
+    ensures taken { (program : Text) →
+        takes sixel_app (program ∷ codes "show" ∷ codes "--on" ∷ codes "xterm" ∷ codes "--box" ∷ []) ≡ true }
+    ensures task { (program : Text) →
+        IsTaskOf (program ∷ codes "show" ∷ codes "--on" ∷ codes "xterm" ∷ codes "--box" ∷ [])
+        (ShowOn XTerm (Rgb 100 100 100) Box) }
+    ensures coloured { (program : Text) → IsTaskOf (program ∷ codes "show" ∷ codes "--background" ∷ codes "100,50,0"
+        ∷ codes "--on" ∷ codes "konsole" ∷ []) (ShowOn Konsole (Rgb 100 50 0) (Sides 800 480)) }
+    ensures no_wide { (program : Text) (task : Task) →
+        IsTaskOf (program ∷ codes "show" ∷ codes "--on" ∷ codes "foot" ∷ codes "--wide" ∷ []) task → ⊥ }
+    ensures no_other_name { (program : Text) (task : Task) →
+        IsTaskOf (program ∷ codes "show" ∷ codes "--on" ∷ codes "XTerm" ∷ []) task → ⊥ }
+    ensures no_background { (program : Text) (task : Task) →
+        IsTaskOf (program ∷ codes "show" ∷ codes "--background" ∷ codes "100,50,0" ∷ []) task → ⊥ }
 {}
 
 /// clap finds that the arguments `--help`, `-h`, and `--help` after the name of each subcommand ask for help, and that

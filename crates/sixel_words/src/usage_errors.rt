@@ -60,19 +60,51 @@ pub fn conflict_error(alloc: Global, reason: &str) -> Result<Error, AllocError>
     )
 }
 
+/// A usage error of `show`: no terminal has this name.
+pub fn terminal_error(alloc: Global, name: &str) -> Result<Error, AllocError>
+    ensures { IfOk result (λ e. kind_of e ≡ ErrorKind.InvalidValue) }
+{
+    let reason = format!(in alloc;
+        "invalid value '{name}' for '--on <NAME>'\n  [possible values: xterm, mlterm, foot, konsole]"
+    )?;
+    error_of(
+        show_command(alloc)?,
+        "sixel show",
+        ErrorKind::InvalidValue,
+        reason.as_str(),
+    )
+}
+
 /// A usage error of `mend`: this value of `--background` is no colour.
 pub fn background_error(alloc: Global, value: &str) -> Result<Error, AllocError>
     ensures { IfOk result (λ e. kind_of e ≡ ErrorKind.ValueValidation) }
 {
-    let reason = format!(in alloc;
-        "invalid value '{value}' for '--background <COLOUR>': \
-        expected three percentages, as in 100,50,0, or samples, as in '#ff8000'"
-    )?;
+    let reason = colour_reason(alloc, value)?;
     error_of(
         mend_command(alloc)?,
         "sixel mend",
         ErrorKind::ValueValidation,
         reason.as_str(),
+    )
+}
+
+/// The same of `show`.
+pub fn uncoloured_error(alloc: Global, value: &str) -> Result<Error, AllocError>
+    ensures { IfOk result (λ e. kind_of e ≡ ErrorKind.ValueValidation) }
+{
+    let reason = colour_reason(alloc, value)?;
+    error_of(
+        show_command(alloc)?,
+        "sixel show",
+        ErrorKind::ValueValidation,
+        reason.as_str(),
+    )
+}
+
+fn colour_reason(alloc: Global, value: &str) -> Result<String, AllocError> {
+    format!(in alloc;
+        "invalid value '{value}' for '--background <COLOUR>': \
+        expected three percentages, as in 100,50,0, or samples, as in '#ff8000'"
     )
 }
 

@@ -1,31 +1,28 @@
 //! The command line, over clap.
 
-ghost use Rattle.std.specs.Prelude.{◌≡◌, ◌≤◌, ◌↔◌, ℕ, IfOk, IfErr, IfSome, IsNone, IsTrue, [], codes};
-ghost use Rattle.std.specs.Prelude.{List, map, true};
+ghost use Rattle.std.specs.Prelude.{◌≡◌, ℕ, IfOk, IfErr, IfSome, IsNone, List, [], codes, map};
 ghost use Rattle.clap.specs.Walk.{all_of, rows_of};
 ghost use Rattle.clap.specs.Values.{kind_of};
 ghost use Rattle.clap.specs.Matches.{found_of};
 ghost use Rattle.std.specs.String.{string_bytes};
-ghost use Rattle.sixel_terminal.specs.Limits.{most_screen_side};
 ghost use Rattle.sixel_run.specs.declared.task.Task.{Task as ATask};
 ghost use Rattle.sixel_run.specs.Outputs.{HasSides};
-ghost use Rattle.sixel_model.specs.declared.colour.Parts.{Parts};
-ghost use Rattle.sixel_words.specs.Words.{HasColour, HoldsError, IsExplanationOf, HasSide, IsAskedIn, IsFaultFor};
+ghost use Rattle.sixel_words.specs.Words.{HoldsError, IsExplanationOf, IsAskedIn, IsFaultFor};
 ghost use Rattle.sixel_words.specs.Words.{IsRefusal, IsRequestOf, IsNoHelp, IsSortedOut, IsTask, IsTaskOf};
 ghost use Rattle.sixel_words.specs.Words.{IsUnexplained};
-ghost use Rattle.sixel_words.specs.Words.{files_of, is_given, is_named, kinds_of, lines_of, profile_of};
+ghost use Rattle.sixel_words.specs.Words.{files_of, is_given, kinds_of, lines_of};
 ghost use Rattle.sixel_explain.specs.Explanations.{Asks};
 
-use crate::colours::colour_of;
 use crate::commands::sixel_command;
-use crate::usage_errors::{background_error, conflict_error, unnamed_error, usage_error, with_tip};
+use crate::options::{colour_in, flag_of, profile_of};
+use crate::show_errors::show_error;
+use crate::show_words::show_task;
+use crate::usage_errors::{background_error, unnamed_error, usage_error, with_tip};
 use clap::error::ErrorKind;
-use clap::parser::ValueSource;
 use clap::{ArgMatches, Error};
 use sixel_explain::{Topic, topics_asked};
-use sixel_model::{Colour, Profile};
 use sixel_program::{Lines, Request};
-use sixel_run::{MOST_SCREEN_SIDE, Task};
+use sixel_run::Task;
 use std::alloc::{AllocError, Global};
 
 /// Why the arguments give no task. `Usage` and `Help` hold the text to print, which ends with a newline.
@@ -90,7 +87,8 @@ fn without_task(alloc: Global, name: &str, matches: &ArgMatches<'_>) -> WordsFau
     match name {
         "explain" => asked(alloc, matches),
         "mend" => uncoloured(alloc, matches),
-        _ => untasked(alloc, matches),
+        "show" => unshown(alloc, matches),
+        _ => untasked(alloc),
     }
 }
 
@@ -134,22 +132,24 @@ fn uncoloured(alloc: Global, matches: &ArgMatches<'_>) -> WordsFault
     }
 }
 
-/// A usage error: `--box` with `--width` or `--height`. clap accepts no other arguments without a task, but its
-/// contract doesn't say so of all.
-fn untasked(alloc: Global, matches: &ArgMatches<'_>) -> WordsFault
+/// A usage error of `show`.
+fn unshown(alloc: Global, matches: &ArgMatches<'_>) -> WordsFault
     ensures sorted { IsSortedOut result }
     ensures refusal { IsRefusal result }
 {
-    let reason = match (is_named(matches, "width"), is_named(matches, "height")) {
-        (true, true) => {
-            "the argument '--box' cannot be used with:\n  --width <N>\n  --height <N>"
-        }
-        (true, false) => "the argument '--box' cannot be used with '--width <N>'",
-        (false, true) => "the argument '--box' cannot be used with '--height <N>'",
-        (false, false) => "unknown subcommand",
-    };
-    match conflict_error(alloc, reason) {
-        Ok(conflict) => WordsFault::Usage(conflict),
+    match show_error(alloc, matches) {
+        Ok(unshown) => WordsFault::Usage(unshown),
+        Err(_) => WordsFault::OutOfMemory,
+    }
+}
+
+/// A usage error: no subcommand with a task has this name. clap accepts no such name, but its contract doesn't say so.
+fn untasked(alloc: Global) -> WordsFault
+    ensures sorted { IsSortedOut result }
+    ensures refusal { IsRefusal result }
+{
+    match usage_error(alloc, "unknown subcommand") {
+        Ok(untasked) => WordsFault::Usage(untasked),
         Err(_) => WordsFault::OutOfMemory,
     }
 }
@@ -266,46 +266,6 @@ fn task_of(name: &str, matches: &ArgMatches<'_>) -> Option<Task>
     }
 }
 
-/// The task of `show` with these options: on a screen of the box, or of a width and a height.
-fn show_task(matches: &ArgMatches<'_>) -> Option<Task>
-    ensures task { IfSome result (IsTask (codes "show") (rows_of (found_of matches.now))) }
-    ensures sides { IfSome result HasSides }
-    ensures none { IsNone result → (t : ATask) → IsTask (codes "show") (rows_of (found_of matches.now)) t → ⊥ }
-{
-    if flag_of(matches, "box") {
-        return box_task(matches);
-    }
-    match (side_of(matches, "width"), side_of(matches, "height")) {
-        (Some(width), Some(height)) => Some(Task::Show {
-            profile: profile_of(matches),
-            showing: flag_of(matches, "showing"),
-            fill: flag_of(matches, "fill"),
-            selects: flag_of(matches, "define-selects"),
-            width,
-            height,
-        }),
-        _ => None,
-    }
-}
-
-/// The task of `show --box` with these options; none with `--width` or `--height` too.
-fn box_task(matches: &ArgMatches<'_>) -> Option<Task>
-    requires { is_given (codes "box") (rows_of (found_of matches.now)) ≡ true }
-    ensures task { IfSome result (IsTask (codes "show") (rows_of (found_of matches.now))) }
-    ensures sides { IfSome result HasSides }
-    ensures none { IsNone result → (t : ATask) → IsTask (codes "show") (rows_of (found_of matches.now)) t → ⊥ }
-{
-    if is_named(matches, "width") || is_named(matches, "height") {
-        return None;
-    }
-    Some(Task::ShowBox {
-        profile: profile_of(matches),
-        showing: flag_of(matches, "showing"),
-        fill: flag_of(matches, "fill"),
-        selects: flag_of(matches, "define-selects"),
-    })
-}
-
 /// The task of `mend` with these options; none if the value of `--background` is no colour.
 fn mend_task(matches: &ArgMatches<'_>) -> Option<Task>
     ensures task { IfSome result (IsTask (codes "mend") (rows_of (found_of matches.now))) }
@@ -321,65 +281,4 @@ fn mend_task(matches: &ArgMatches<'_>) -> Option<Task>
         showing,
         selects,
     })
-}
-
-/// The profile that the options select.
-fn profile_of(matches: &ArgMatches<'_>) -> Profile
-    ensures { profile_of (rows_of (found_of matches.now)) ≡ result }
-{
-    if flag_of(matches, "wide") {
-        Profile::Registers256
-    } else {
-        Profile::Registers16
-    }
-}
-
-/// Whether the flag was given.
-fn flag_of(matches: &ArgMatches<'_>, name: &str) -> bool
-    ensures { is_given name.now (rows_of (found_of matches.now)) ≡ result }
-{
-    match matches.get_str(name) {
-        Some(text) => text == "true",
-        None => false,
-    }
-}
-
-/// Whether the arguments give the option; a default doesn't count.
-fn is_named(matches: &ArgMatches<'_>, name: &str) -> bool
-    ensures { is_named name.now (rows_of (found_of matches.now)) ≡ result }
-{
-    match matches.value_source(name) {
-        Some(ValueSource::CommandLine) => true,
-        Some(ValueSource::DefaultValue) => false,
-        None => false,
-    }
-}
-
-/// The number of an option. clap accepts none out of range, but its contract doesn't say so of a subcommand's options.
-fn side_of(matches: &ArgMatches<'_>, name: &str) -> Option<u32>
-    ensures some { IfSome result (HasSide name.now (rows_of (found_of matches.now))) }
-    ensures none { IsNone result → (n : ℕ) → HasSide name.now (rows_of (found_of matches.now)) n → ⊥ }
-{
-    match matches.get_one::<u32>(name) {
-        Some(number) if is_side(number) => Some(number),
-        _ => None,
-    }
-}
-
-/// The colour of an option.
-fn colour_in(matches: &ArgMatches<'_>, name: &str) -> Option<Colour>
-    ensures some { IfSome result (HasColour name.now (rows_of (found_of matches.now))) }
-    ensures none { IsNone result → (colour : Parts) →
-        HasColour name.now (rows_of (found_of matches.now)) colour → ⊥ }
-{
-    match matches.get_str(name) {
-        Some(text) => colour_of(text),
-        None => None,
-    }
-}
-
-fn is_side(number: u32) -> bool
-    ensures { IsTrue result ↔ (1 ≤ number) × (number ≤ most_screen_side) }
-{
-    number >= 1 && number <= MOST_SCREEN_SIDE
 }

@@ -50,6 +50,11 @@ fn asks_for_an_explanation(rt: HostRuntime) -> Result<(), Fail> {
             "explain [Grammar(Truncated)]",
         ),
         ("sixel explain sixel: NoBox", "explain [NoBox]"),
+        (
+            "sixel explain sixel: Unmodelled at 5",
+            "explain [Unmodelled]",
+        ),
+        ("sixel explain unmodelled", "explain [Unmodelled]"),
         ("sixel explain Empty", "explain [Empty]"),
         ("sixel explain sixel: a.six: TooLarge", "explain [TooLarge]"),
         (

@@ -266,25 +266,32 @@ Arguments:
   [FILE]  The file to read; without it, or for `-`, standard input
 
 Options:
-      --wide            Use 256 colour registers instead of 16
-  -q, --quiet           Leave out the note on a register above 15
-      --showing         Show each pixel in the final colour of its register
-      --fill            Fill the declared box with register 0
-      --define-selects  Let a colour definition also select its register
-      --width <N>       The screen's width in pixels, 1 to 4096 [default: 800]
-      --height <N>      The screen's height in pixels, 1 to 4096 [default: 480]
-      --box             Make the screen as large as the declared box
-  -h, --help            Print help
-  -V, --version         Print version
+      --wide                 Use 256 colour registers instead of 16
+  -q, --quiet                Leave out the note on a register above 15
+      --showing              Show each pixel in the final colour of its register
+      --fill                 Fill the declared box with register 0
+      --define-selects       Let a colour definition also select its register
+      --width <N>            The screen's width in pixels, 1 to 4096 [default: 800]
+      --height <N>           The screen's height in pixels, 1 to 4096 [default: 480]
+      --box                  Make the screen as large as the declared box
+      --on <NAME>            Draw as this terminal does: xterm, mlterm, foot or konsole
+      --background <COLOUR>  With --on: the screen before the picture, in percent, or '#RRGGBB' [default: 100,100,100]
+  -h, --help                 Print help
+  -V, --version              Print version
 
 Reads sixel text from FILE or, without one, from standard input. Writes the
 screen of one terminal, which the options choose, to standard output as a PPM.
 What is off the screen is left out. Without --wide, register 16 is register 0,
 17 is 1 and so on. --box can't be combined with --width or --height.
 
+--on NAME shows the screen of a terminal that was measured, by a model of it:
+xterm, mlterm, foot or konsole. It can't be combined with --wide, --showing,
+--fill or --define-selects, and --background only goes with it.
+
 Exit status: 0 done, 2 refused, 3 usage error.
 
-Example: sixel show --wide --box plot.six > plot.ppm
+Examples: sixel show --wide --box plot.six > plot.ppm
+          sixel show --on xterm plot.six > xterm.ppm
 ";
     for line in ["sixel show --help", "sixel help show"] {
         assert!(rt; says(&rt, line, show)?, "{line}");

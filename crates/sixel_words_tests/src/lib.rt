@@ -10,6 +10,8 @@ mod help;
 #[cfg(test)]
 mod mending;
 #[cfg(test)]
+mod showing_on;
+#[cfg(test)]
 mod telling;
 #[cfg(test)]
 mod words;

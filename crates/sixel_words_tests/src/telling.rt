@@ -147,6 +147,10 @@ fn a_name_has_a_summary(rt: HostRuntime) -> Result<(), Fail> {
             Topic::NoBox,
             "a text that declares no box of a possible screen size",
         ),
+        (
+            Topic::Unmodelled,
+            "a command that the model of the named terminal doesn't cover",
+        ),
         (Topic::Ppm(PpmReason::Trailing), trailing),
         (Topic::Write, "output that couldn't be written"),
     ] {

@@ -412,19 +412,19 @@ Usage: sixel <COMMAND>",
 #[test]
 fn refuses_unknown_options(rt: HostRuntime) -> Result<(), Fail> {
     for (line, usage) in [
-        ("sixel list a --long", "sixel list [FILE]"),
-        ("sixel check --long a", "sixel check [OPTIONS] [FILE]..."),
-        ("sixel survey --long", "sixel survey [OPTIONS] [FILE]..."),
-        ("sixel scan --long", "sixel scan [OPTIONS] [FILE]..."),
-        ("sixel render --long", "sixel render [OPTIONS] [FILE]"),
-        ("sixel encode --long", "sixel encode [OPTIONS] [FILE]"),
-        ("sixel show --long", "sixel show [OPTIONS] [FILE]"),
-        ("sixel mend --long", "sixel mend [OPTIONS] [FILE]"),
-        ("sixel explain --long", "sixel explain [NAME]..."),
-        ("sixel --long", "sixel <COMMAND>"),
+        ("sixel list a --many", "sixel list [FILE]"),
+        ("sixel check --many a", "sixel check [OPTIONS] [FILE]..."),
+        ("sixel survey --many", "sixel survey [OPTIONS] [FILE]..."),
+        ("sixel scan --many", "sixel scan [OPTIONS] [FILE]..."),
+        ("sixel render --many", "sixel render [OPTIONS] [FILE]"),
+        ("sixel encode --many", "sixel encode [OPTIONS] [FILE]"),
+        ("sixel show --many", "sixel show [OPTIONS] [FILE]"),
+        ("sixel mend --many", "sixel mend [OPTIONS] [FILE]"),
+        ("sixel explain --many", "sixel explain [NAME]..."),
+        ("sixel --many", "sixel <COMMAND>"),
     ] {
         let text = format!(in rt.alloc();
-            "usage error: unexpected argument '--long' found\n\nUsage: {usage}"
+            "usage error: unexpected argument '--many' found\n\nUsage: {usage}"
         )?;
         assert!(rt; refuses(&rt, line, text.as_str())?, "{line}");
     }

@@ -5,7 +5,8 @@ ghost use Rattle.sixel_run.specs.Outputs.{HasSides};
 use super::{
     PIXEL, PNG, RED, STREAMS, Streams, after_input, asked_of, ends_over, ends_unread, unread,
 };
-use crate::ends::{ENCODE, RENDER, SHOW, SHOW_BOX};
+use crate::ends::{ENCODE, RENDER, SHOW, SHOW_BOX, show_on};
+use sixel_models::Named;
 use sixel_program::Exit;
 use sixel_run::Task;
 use std::alloc::{AllocError, Global};
@@ -39,6 +40,7 @@ fn a_file_is_as_standard_input(rt: HostRuntime) -> Result<(), Fail> {
     assert!(rt; writes(rt.alloc(), &RENDER, "pixel", PIXEL, black)?);
     assert!(rt; writes(rt.alloc(), &SHOW, "pixel", PIXEL, black)?);
     assert!(rt; writes(rt.alloc(), &SHOW_BOX, "a b", PIXEL, black)?);
+    assert!(rt; writes(rt.alloc(), &show_on(Named::Konsole), "pixel", PIXEL, black)?);
     let red = b"\x1bP0;1q\"1;1;1;1#0;2;100;0;0#0@\x1b\\";
     assert!(rt; writes(rt.alloc(), &ENCODE, "red", RED, red)?);
     Ok(())
@@ -67,6 +69,16 @@ fn a_file_that_is_refused(rt: HostRuntime) -> Result<(), Fail> {
     let text = b"sixel: text: NotSixel at 0\n";
     assert!(rt; ends_so(rt.alloc(), RENDER, "text", Exit::Refused, b"", text)?);
     assert!(rt; ends_so(rt.alloc(), SHOW, "text", Exit::Refused, b"", text)?);
+    assert!(rt;
+        ends_so(
+            rt.alloc(),
+            show_on(Named::XTerm),
+            "text",
+            Exit::Refused,
+            b"",
+            text
+        )?
+    );
     assert!(rt; ends_so(rt.alloc(), Task::List, "text", Exit::Refused, b"", text)?);
     let none = b"sixel: none: no such file\n";
     assert!(rt; ends_so(rt.alloc(), Task::List, "none", Exit::Refused, b"", none)?);

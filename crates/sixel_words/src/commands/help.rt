@@ -84,9 +84,14 @@ screen of one terminal, which the options choose, to standard output as a PPM.
 What is off the screen is left out. Without --wide, register 16 is register 0,
 17 is 1 and so on. --box can't be combined with --width or --height.
 
+--on NAME shows the screen of a terminal that was measured, by a model of it:
+xterm, mlterm, foot or konsole. It can't be combined with --wide, --showing,
+--fill or --define-selects, and --background only goes with it.
+
 Exit status: 0 done, 2 refused, 3 usage error.
 
-Example: sixel show --wide --box plot.six > plot.ppm";
+Examples: sixel show --wide --box plot.six > plot.ppm
+          sixel show --on xterm plot.six > xterm.ppm";
 
 pub const MEND: &str =
     "Reads sixel text from FILE or, without one, from standard input. Draws it as one

@@ -83,6 +83,7 @@ refused (Some name) (fault.Grammar f) said are = fault_pasted (begun name) (faul
 refused (Some name) (fault.Ppm reason place) said are = fault_pasted (begun name) (fault.Ppm reason place) said (named_colon name) are
 refused (Some name) fault.NotRgb said are = fault_pasted (begun name) fault.NotRgb said (named_colon name) are
 refused (Some name) fault.NoBox said are = fault_pasted (begun name) fault.NoBox said (named_colon name) are
+refused (Some name) (fault.Unmodelled place) said are = fault_pasted (begun name) (fault.Unmodelled place) said (named_colon name) are
 refused (Some name) fault.NoString said are = fault_pasted (begun name) fault.NoString said (named_colon name) are
 refused (Some name) fault.Empty said are = fault_pasted (begun name) fault.Empty said (named_colon name) are
 refused (Some name) fault.TooLarge said are = fault_pasted (begun name) fault.TooLarge said (named_colon name) are

@@ -15,6 +15,9 @@ returns c =
     let width = with_arg selects c.side_arg.ensures.rule c.side_arg.ensures.local c.in_ok-arg-6.ensures in
     let height = with_arg width c.side_arg-2.ensures.rule c.side_arg-2.ensures.local c.in_ok-arg-7.ensures in
     let box = with_arg height c.flag_arg-4.ensures.rule c.flag_arg-4.ensures.local c.in_ok-arg-8.ensures in
-    let whole = IfOk-weaker c.arg-9.result _ (ReadsAs show_app)
-    (λ r h. with_arg box c.file_arg.ensures.rule c.file_arg.ensures.local h) c.arg-9.ensures in
-    record { app = app_says show_app c.arg-9.result whole; local = local_says show_app c.arg-9.result whole }
+    let on = with_arg box c.on_arg.ensures.rule c.on_arg.ensures.local c.in_ok-arg-9.ensures in
+    let background = with_arg on c.background_arg.ensures.rule c.background_arg.ensures.local
+    c.in_ok-arg-10.ensures in
+    let whole = IfOk-weaker c.arg-11.result _ (ReadsAs show_app)
+    (λ r h. with_arg background c.file_arg.ensures.rule c.file_arg.ensures.local h) c.arg-11.ensures in
+    record { app = app_says show_app c.arg-11.result whole; local = local_says show_app c.arg-11.result whole }

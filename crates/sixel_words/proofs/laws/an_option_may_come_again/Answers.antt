@@ -3,20 +3,12 @@ use Rattle.clap.specs.Takes.{walk_passes}
 use Rattle.clap.specs.Walk.{walked}
 use Rattle.sixel_words.specs.Words.{IsSideText}
 use Rattle.sixel_words.proofs.FlagLemmas.{are_flags, flags_ask, flags_taken}
+use Rattle.sixel_words.proofs.LiteralLemmas.{high}
 use Rattle.sixel_words.proofs.laws.an_option_may_come_again.Goals as goal
 
 -- the number that is given last
 two : IsSideText (codes "2") 2
 two = record { numeral = (omega arith, (omega arith, tt)); value = refl; least = omega arith; most = omega arith }
-
--- the default
-high : IsSideText (codes "480") 480
-high = record {
-  numeral = (omega arith, (omega arith, (omega arith, (omega arith, tt))));
-  value = refl;
-  least = omega arith;
-  most = omega arith;
-}
 
 pub returns-clause-taken : goal.returns-clause-taken
 returns-clause-taken c = λ program flags are. flags_taken program flags (are_flags flags are)
@@ -34,5 +26,5 @@ returns-clause-number c = λ program. (
   codes "show",
   _,
   refl,
-  (refl, refl, refl, refl, refl, refl, (codes "2", refl, two), (codes "480", refl, high)),
+  (refl, refl, refl, refl, refl, (refl, (codes "2", refl, two), (codes "480", refl, high)), refl, refl),
 )

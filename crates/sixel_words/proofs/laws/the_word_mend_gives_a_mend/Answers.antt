@@ -2,27 +2,9 @@ use Rattle.std.proofs.Common.{arith, codes, inl, inr, refl}
 use Rattle.clap.proofs.OnLiterals.{clap_on_literals}
 use Rattle.clap.specs.Takes.{walk_passes}
 use Rattle.clap.specs.Walk.{walked}
-use Rattle.sixel_words.specs.Words.{IsPercentage, IsSample}
+use Rattle.sixel_words.specs.Words.{IsSample}
+use Rattle.sixel_words.proofs.LiteralLemmas.{all, half, none}
 use Rattle.sixel_words.proofs.laws.the_word_mend_gives_a_mend.Goals as goal
-
-none : IsPercentage (codes "0") 0
-none = record { numeral = (omega arith, (omega arith, tt)); short = omega arith; value = refl; most = omega arith }
-
-half : IsPercentage (codes "50") 50
-half = record {
-  numeral = (omega arith, (omega arith, (omega arith, tt)));
-  short = omega arith;
-  value = refl;
-  most = omega arith;
-}
-
-all : IsPercentage (codes "100") 100
-all = record {
-  numeral = (omega arith, (omega arith, (omega arith, (omega arith, tt))));
-  short = omega arith;
-  value = refl;
-  most = omega arith;
-}
 
 full_sample : IsSample (codes "Ff") 255
 full_sample = record { numeral = (omega arith, (omega arith, (omega arith, tt))); two = refl; value = refl }

@@ -1,25 +1,8 @@
-use Rattle.std.proofs.Common.{arith, codes, refl}
+use Rattle.std.proofs.Common.{codes, refl}
 use Rattle.clap.specs.Takes.{walk_passes}
 use Rattle.clap.specs.Walk.{walked}
-use Rattle.sixel_words.specs.Words.{IsSideText}
+use Rattle.sixel_words.proofs.LiteralLemmas.{high, wide}
 use Rattle.sixel_words.proofs.laws.the_word_show_gives_a_show.Goals as goal
-
--- the defaults
-wide : IsSideText (codes "800") 800
-wide = record {
-  numeral = (omega arith, (omega arith, (omega arith, (omega arith, tt))));
-  value = refl;
-  least = omega arith;
-  most = omega arith;
-}
-
-high : IsSideText (codes "480") 480
-high = record {
-  numeral = (omega arith, (omega arith, (omega arith, (omega arith, tt))));
-  value = refl;
-  least = omega arith;
-  most = omega arith;
-}
 
 pub returns-clause-taken : goal.returns-clause-taken
 unfolding walked walk_passes
@@ -31,5 +14,5 @@ returns-clause-task c = λ program. (
   codes "show",
   _,
   refl,
-  (refl, refl, refl, refl, refl, refl, (codes "800", refl, wide), (codes "480", refl, high)),
+  (refl, refl, refl, refl, refl, (refl, (codes "800", refl, wide), (codes "480", refl, high)), refl, refl),
 )

@@ -1,6 +1,6 @@
 use Rattle.std.proofs.lemmas.Bool.{le-leb, leb-true}
 use Rattle.sixel_terminal.specs.Limits.{most_screen_side}
-use Rattle.sixel_words.proofs.words.is_side.Goals as goal
+use Rattle.sixel_words.proofs.options.is_side.Goals as goal
 
 pub returns-then-number-ge1 : goal.returns-then-number-ge1
 returns-then-number-ge1 c = (

@@ -4,7 +4,7 @@ use Rattle.clap.specs.Walk.{Text}
 use Rattle.clap.specs.Matches.{found_of, one_text}
 use Rattle.clap.proofs.WalkLemmas.{one_text-rows}
 use Rattle.sixel_words.proofs.MatchLemmas.{HasNumber, number_read, number_refused}
-use Rattle.sixel_words.proofs.words.side_of.Goals as goal
+use Rattle.sixel_words.proofs.options.side_of.Goals as goal
 
 pub returns-in-Some-clause-some : goal.returns-in-Some-clause-some
 returns-in-Some-clause-some c =

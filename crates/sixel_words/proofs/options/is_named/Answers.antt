@@ -3,7 +3,7 @@ use Rattle.clap.specs.declared.parser.matches.ValueSource.{ValueSource}
 use Rattle.clap.specs.Matches.{found_of}
 use Rattle.sixel_words.specs.Words.{is_of_words}
 use Rattle.sixel_words.proofs.MatchLemmas.{named_by}
-use Rattle.sixel_words.proofs.words.is_named.Goals as goal
+use Rattle.sixel_words.proofs.options.is_named.Goals as goal
 
 pub returns-in-Some-CommandLine : goal.returns-in-Some-CommandLine
 returns-in-Some-CommandLine c =

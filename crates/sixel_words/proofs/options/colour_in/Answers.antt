@@ -5,8 +5,8 @@ use Rattle.clap.proofs.WalkLemmas.{first_value-rows}
 use Rattle.sixel_words.specs.Words.{HasColour, IsColourText}
 use Rattle.sixel_words.proofs.ColourLemmas.{same_text, some_weaker}
 use Rattle.sixel_words.proofs.MatchLemmas.{not_some}
-use Rattle.sixel_words.proofs.words.colour_in.Goals as goal
-use Rattle.sixel_words.proofs.words.colour_in.Goals.{In-Some}
+use Rattle.sixel_words.proofs.options.colour_in.Goals as goal
+use Rattle.sixel_words.proofs.options.colour_in.Goals.{In-Some}
 
 -- the text of the option
 given : (c : In-Some) → first_of c.args.name.now (rows_of (found_of c.args.matches.now)) ≡ Some c.in-Some.text.now

@@ -1,0 +1,131 @@
+//! What the options of `show` ask for.
+
+ghost use Rattle.std.specs.Prelude.{◌≡◌, IfSome, IsNone, None, Some, codes, true};
+ghost use Rattle.clap.specs.Walk.{first_of, rows_of};
+ghost use Rattle.clap.specs.Matches.{found_of};
+ghost use Rattle.sixel_models.specs.declared.named.Named.{Named as ANamed};
+ghost use Rattle.sixel_run.specs.declared.task.Area.{Area as AnArea};
+ghost use Rattle.sixel_run.specs.declared.task.Task.{Task as ATask};
+ghost use Rattle.sixel_run.specs.Outputs.{HasSides};
+ghost use Rattle.sixel_words.specs.Words.{HasArea, IsTask, describes, is_given, terminal_name};
+
+use crate::options::{colour_in, flag_of, is_named, profile_of, side_of};
+use clap::ArgMatches;
+use sixel_models::Named;
+use sixel_run::{Area, Task};
+
+/// The task of `show` with these options: of a terminal that they describe, or of one that `--on` names.
+pub fn show_task(matches: &ArgMatches<'_>) -> Option<Task>
+    ensures task { IfSome result (IsTask (codes "show") (rows_of (found_of matches.now))) }
+    ensures sides { IfSome result HasSides }
+    ensures none { IsNone result → (t : ATask) → IsTask (codes "show") (rows_of (found_of matches.now)) t → ⊥ }
+{
+    match matches.get_str("on") {
+        Some(name) => on_task(matches, name),
+        None => plain_task(matches),
+    }
+}
+
+/// The task of `show` without `--on`; none with `--background`, which only goes with it.
+fn plain_task(matches: &ArgMatches<'_>) -> Option<Task>
+    requires { first_of (codes "on") (rows_of (found_of matches.now)) ≡ None }
+    ensures task { IfSome result (IsTask (codes "show") (rows_of (found_of matches.now))) }
+    ensures sides { IfSome result HasSides }
+    ensures none { IsNone result → (t : ATask) → IsTask (codes "show") (rows_of (found_of matches.now)) t → ⊥ }
+{
+    if is_named(matches, "background") {
+        return None;
+    }
+    let profile = profile_of(matches);
+    let showing = flag_of(matches, "showing");
+    let fill = flag_of(matches, "fill");
+    let selects = flag_of(matches, "define-selects");
+    match area_of(matches)? {
+        Area::Box => Some(Task::ShowBox {
+            profile,
+            showing,
+            fill,
+            selects,
+        }),
+        Area::Sides { width, height } => Some(Task::Show {
+            profile,
+            showing,
+            fill,
+            selects,
+            width,
+            height,
+        }),
+    }
+}
+
+/// The task of `show --on` with this name; none if no terminal has it, if the value of `--background` is no colour, or
+/// with a flag that describes a terminal.
+fn on_task(matches: &ArgMatches<'_>, name: &str) -> Option<Task>
+    requires { first_of (codes "on") (rows_of (found_of matches.now)) ≡ Some name.now }
+    ensures task { IfSome result (IsTask (codes "show") (rows_of (found_of matches.now))) }
+    ensures sides { IfSome result HasSides }
+    ensures none { IsNone result → (t : ATask) → IsTask (codes "show") (rows_of (found_of matches.now)) t → ⊥ }
+{
+    let named = terminal_named(name)?;
+    let background = colour_in(matches, "background")?;
+    let area = area_of(matches)?;
+    if describes(matches) {
+        return None;
+    }
+    Some(Task::ShowOn {
+        named,
+        background,
+        area,
+    })
+}
+
+/// The terminal with this name.
+pub(crate) fn terminal_named(name: &str) -> Option<Named>
+    ensures some { IfSome result (λ named. terminal_name named ≡ name.now) }
+    ensures none { IsNone result → (named : ANamed) → terminal_name named ≡ name.now → ⊥ }
+{
+    match name {
+        "xterm" => Some(Named::XTerm),
+        "mlterm" => Some(Named::MlTerm),
+        "foot" => Some(Named::Foot),
+        "konsole" => Some(Named::Konsole),
+        _ => None,
+    }
+}
+
+/// Whether a flag describes a terminal.
+fn describes(matches: &ArgMatches<'_>) -> bool
+    ensures { describes (rows_of (found_of matches.now)) ≡ result }
+{
+    flag_of(matches, "wide")
+        || flag_of(matches, "showing")
+        || flag_of(matches, "fill")
+        || flag_of(matches, "define-selects")
+}
+
+/// The size of the screen; none if `--box` and `--width` or `--height` are given.
+fn area_of(matches: &ArgMatches<'_>) -> Option<Area>
+    ensures some { IfSome result (HasArea (rows_of (found_of matches.now))) }
+    ensures none { IsNone result → (area : AnArea) → HasArea (rows_of (found_of matches.now)) area → ⊥ }
+{
+    if flag_of(matches, "box") {
+        return box_area(matches);
+    }
+    match (side_of(matches, "width"), side_of(matches, "height")) {
+        (Some(width), Some(height)) => Some(Area::Sides { width, height }),
+        _ => None,
+    }
+}
+
+/// The size of the screen with `--box`.
+fn box_area(matches: &ArgMatches<'_>) -> Option<Area>
+    requires { is_given (codes "box") (rows_of (found_of matches.now)) ≡ true }
+    ensures some { IfSome result (HasArea (rows_of (found_of matches.now))) }
+    ensures none { IsNone result → (area : AnArea) → HasArea (rows_of (found_of matches.now)) area → ⊥ }
+{
+    if is_named(matches, "width") || is_named(matches, "height") {
+        None
+    } else {
+        Some(Area::Box)
+    }
+}
