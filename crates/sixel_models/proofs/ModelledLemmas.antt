@@ -165,44 +165,36 @@ one_sixel_more before place bytes i lt =
 
 -- ---- sixels that are drawn as they are
 
-plain_first : (rule : Rule) (before : List Event) (n bits next : ℕ) → ArePlain rule before (suc n)
-    → rule before (Step (Sixel bits)) (Some (Step (Sixel next))) ≡ Draws (Sixel bits)
+plain_first : (rule : Rule) (before : List Event) (n bits : ℕ) (next : Option Event) → ArePlain rule before (suc n)
+    → rule before (Step (Sixel bits)) next ≡ Draws (Sixel bits)
 plain_first rule before n bits next plain =
-    subst (λ (es : List Event). rule es (Step (Sixel bits)) (Some (Step (Sixel next))) ≡ Draws (Sixel bits))
-    (append-nil before) (plain [] (omega arith) bits next)
+    subst (λ (es : List Event). rule es (Step (Sixel bits)) next ≡ Draws (Sixel bits)) (append-nil before)
+    (plain [] (omega arith) bits next)
 
 plain_next : (rule : Rule) (before : List Event) (n b : ℕ) → ArePlain rule before (suc n)
     → ArePlain rule (before ++ Step (Sixel (b - 63)) ∷ []) n
 plain_next rule before n b plain = λ earlier lt bits next.
-    subst (λ (es : List Event). rule es (Step (Sixel bits)) (Some (Step (Sixel next))) ≡ Draws (Sixel bits))
-    (first_before before b earlier) (plain (b ∷ earlier) (omega (arith, lt)) bits next)
+    subst (λ (es : List Event). rule es (Step (Sixel bits)) next ≡ Draws (Sixel bits)) (first_before before b earlier)
+    (plain (b ∷ earlier) (omega (arith, lt)) bits next)
 
--- those before `last`, which has the next offset
-plain_drawn : (m : Model) (read : List Placed) (place : ℕ) (bytes : List ℕ) (last at : ℕ) (later : List Placed)
+plain_drawn : (m : Model) (read : List Placed) (place : ℕ) (bytes : List ℕ) (later : List Placed)
     → ArePlain m.rule (events_of read) (length bytes)
-    → AreDrawn m (events_of (read ++ (sixels_from place bytes ++ placed_at at (Step (Sixel last)) ∷ later)))
-    (length read) bytes
-plain_drawn m read place [] last at later plain = tt
-plain_drawn m read place (b ∷ bs) last at later plain =
+    → AreDrawn m (events_of (read ++ (sixels_from place bytes ++ later))) (length read) bytes
+plain_drawn m read place [] later plain = tt
+plain_drawn m read place (b ∷ bs) later plain =
     let q : Placed = placed_at place (Step (Sixel (b - 63))) in
-    let rest : List Placed = sixels_from (place + 1) bs ++ placed_at at (Step (Sixel last)) ∷ later in
+    let rest : List Placed = sixels_from (place + 1) bs ++ later in
     let long : length (read ++ q ∷ []) ≡ suc (length read) = length-append read (q ∷ []) ∙ omega arith in
     let all : (read ++ q ∷ []) ++ rest ≡ read ++ q ∷ rest = append_assoc read (q ∷ []) rest in
     let known : ArePlain m.rule (events_of (read ++ q ∷ [])) (length bs) =
     subst (λ (es : List Event). ArePlain m.rule es (length bs)) (sym (events_then read (q ∷ [])))
     (plain_next m.rule (events_of read) (length bs) b plain) in (
-      is_at m read rest q (Draws (Sixel (b - 63))) (first_is bs plain),
+      is_at m read rest q (Draws (Sixel (b - 63)))
+          (sym (plain_first m.rule (events_of read) (length bs) (b - 63) (slice_get (events_of rest) 0) plain)),
       subst (λ (n : ℕ). AreDrawn m (events_of (read ++ q ∷ rest)) n bs) long
           (subst (λ (ps : List Placed). AreDrawn m (events_of ps) (length (read ++ q ∷ [])) bs) all
-          (plain_drawn m (read ++ q ∷ []) (place + 1) bs last at later known)),
+          (plain_drawn m (read ++ q ∷ []) (place + 1) bs later known)),
     )
-  where
-    first_is : (ds : List ℕ) → ArePlain m.rule (events_of read) (suc (length ds))
-        → Draws (Sixel (b - 63))
-        ≡ m.rule (events_of read) (Step (Sixel (b - 63)))
-        (slice_get (events_of (sixels_from (place + 1) ds ++ placed_at at (Step (Sixel last)) ∷ later)) 0)
-    first_is [] known = sym (plain_first m.rule (events_of read) 0 (b - 63) last known)
-    first_is (d ∷ ds) known = sym (plain_first m.rule (events_of read) (suc (length ds)) (b - 63) (d - 63) known)
 
 fewer : (rule : Rule) (before : List Event) (n k : ℕ) → k ≤ n → ArePlain rule before n → ArePlain rule before k
 fewer rule before n k le plain = λ earlier lt. plain earlier (omega (arith, le, lt))
@@ -215,22 +207,22 @@ sixels_length : (place : ℕ) (bytes : List ℕ) → length (sixels_from place b
 sixels_length place [] = refl
 sixels_length place (b ∷ bs) = ap suc (sixels_length (place + 1) bs)
 
--- the first of these sixels waits; they are read, and `last` waits
+-- the first of these sixels waits; they are read, and none waits
 pub follows_plain : {R : Type 0} (m : Model) (has_seen : R → List Event → Type 0) (w : Modelled R)
-    (opening : List Event) (before : List Placed) (place b : ℕ) (bs : List ℕ) (last n : ℕ) (waiting : Waiting R) (p : Progress)
+    (opening : List Event) (before : List Placed) (place b : ℕ) (bs : List ℕ) (n : ℕ) (waiting : Waiting R)
+    (p : Progress)
     → w.waiting.pending ≡ Some (Step (Sixel (b - 63))) → w.place ≡ place
     → ((es : List Event) → has_seen w.waiting.reading es → ArePlain m.rule es n) → suc (length bs) ≤ n
     → ((es : List Event) → has_seen w.waiting.reading es → has_seen waiting.reading (es ++ sixels_of (b ∷ bs)))
-    → waiting.pending ≡ Some (Step (Sixel last))
+    → waiting.pending ≡ None
     → ((first : List Event) (placed : List Placed) (k : ℕ) → AreDrawn m (events_of placed) k (b ∷ bs)
     → HasCome m first placed k w.progress → HasCome m first placed (k + length (b ∷ bs)) p)
     → HasFollowed m has_seen w opening (before ++ placed_at place (Step (Sixel (b - 63))) ∷ [])
     → HasFollowed m has_seen
-    (record { waiting = waiting; place = place + length (b ∷ bs); progress = p; controls = w.controls }) opening
-    ((before ++ sixels_from place (b ∷ bs)) ++ placed_at (place + length (b ∷ bs)) (Step (Sixel last)) ∷ [])
-follows_plain m has_seen w opening before place b bs last n waiting p waits here plain enough reads pending draws h =
+    (record { waiting = waiting; place = w.place; progress = p; controls = w.controls }) opening
+    (before ++ sixels_from place (b ∷ bs))
+follows_plain m has_seen w opening before place b bs n waiting p waits here plain enough reads pending draws h =
     let q : Placed = placed_at place (Step (Sixel (b - 63))) in
-    let l : Placed = placed_at (place + length (b ∷ bs)) (Step (Sixel last)) in
     let waited : waiting_in w ≡ q ∷ [] =
     ap₂ (λ (o : Option Event) (k : ℕ). waits_for k o) waits here in
     let read : h.read ≡ before =
@@ -244,20 +236,19 @@ follows_plain m has_seen w opening before place b bs last n waiting p waits here
     record {
       controls = h.controls;
       read = before ++ sixels_from place (b ∷ bs);
-      are = ap (λ (o : Option Event). (before ++ sixels_from place (b ∷ bs))
-          ++ waits_for (place + length (b ∷ bs)) o) (sym pending);
+      are = sym (append-nil (before ++ sixels_from place (b ∷ bs)))
+          ∙ ap (λ (o : Option Event). (before ++ sixels_from place (b ∷ bs)) ++ waits_for w.place o) (sym pending);
       seen = subst (has_seen waiting.reading) (sym events) (reads (events_of before) seen);
       come = λ later.
-          let rest : List Placed = sixels_from (place + 1) bs ++ l ∷ later in
-          let after : ((before ++ sixels_from place (b ∷ bs)) ++ l ∷ []) ++ later ≡ before ++ q ∷ rest =
-          append_assoc (before ++ sixels_from place (b ∷ bs)) (l ∷ []) later
-          ∙ append_assoc before (sixels_from place (b ∷ bs)) (l ∷ later) in
+          let rest : List Placed = sixels_from (place + 1) bs ++ later in
+          let after : (before ++ sixels_from place (b ∷ bs)) ++ later ≡ before ++ q ∷ rest =
+          append_assoc before (sixels_from place (b ∷ bs)) later in
           let old : HasCome m opening (before ++ q ∷ rest) (length before) w.progress =
           subst (λ (ps : List Placed). HasCome m opening (before ++ q ∷ rest) (length ps) w.progress) read
           (subst (λ (ps : List Placed). HasCome m opening ps (length h.read) w.progress)
           (append_assoc before (q ∷ []) rest) (h.come rest)) in
           let drawn : AreDrawn m (events_of (before ++ q ∷ rest)) (length before) (b ∷ bs) =
-          plain_drawn m before place (b ∷ bs) last (place + length (b ∷ bs)) later
+          plain_drawn m before place (b ∷ bs) later
           (fewer m.rule (events_of before) n (suc (length bs)) enough (plain (events_of before) seen)) in
           let long : length before + length (b ∷ bs) ≡ length (before ++ sixels_from place (b ∷ bs)) =
           ap (λ (k : ℕ). length before + k) (sym (sixels_length place (b ∷ bs)))
@@ -268,37 +259,32 @@ follows_plain m has_seen w opening before place b bs last n waiting p waits here
           (draws opening (before ++ q ∷ rest) (length before) drawn old));
     }
 
--- the same of the first k of these bytes; the one after them waits
+-- the same of the first k of these bytes
 pub follows_taken : {R : Type 0} (m : Model) (has_seen : R → List Event → Type 0) (w : Modelled R)
-    (opening : List Event) (before : List Placed) (place : ℕ) (bytes : List ℕ) (k n : ℕ) (waiting : Waiting R) (p : Progress)
-    → (k ≡ 0 → ⊥) → k < length bytes → w.waiting.pending ≡ Some (Step (Sixel (slice_index bytes 0 - 63)))
+    (opening : List Event) (before : List Placed) (place : ℕ) (bytes : List ℕ) (k n : ℕ) (waiting : Waiting R)
+    (p : Progress)
+    → (k ≡ 0 → ⊥) → 0 < length bytes → w.waiting.pending ≡ Some (Step (Sixel (slice_index bytes 0 - 63)))
     → w.place ≡ place → ((es : List Event) → has_seen w.waiting.reading es → ArePlain m.rule es n) → k ≤ n
+    → k ≤ length bytes
     → ((es : List Event) → has_seen w.waiting.reading es
     → has_seen waiting.reading (es ++ sixels_of (take k bytes)))
-    → waiting.pending ≡ Some (Step (Sixel (slice_index bytes k - 63)))
+    → waiting.pending ≡ None
     → ((first : List Event) (placed : List Placed) (i : ℕ) → AreDrawn m (events_of placed) i (take k bytes)
     → HasCome m first placed i w.progress → HasCome m first placed (i + length (take k bytes)) p)
     → HasFollowed m has_seen w opening
     (before ++ placed_at place (Step (Sixel (slice_index bytes 0 - 63))) ∷ [])
     → HasFollowed m has_seen
-    (record { waiting = waiting; place = place + k; progress = p; controls = w.controls }) opening
-    (before ++ sixels_from place (take (k + 1) bytes))
-follows_taken m has_seen w opening before place bytes zero n waiting p some lt waits here plain enough reads pending
-    draws h = absurd (some refl)
-follows_taken m has_seen w opening before place [] (suc j) n waiting p some lt waits here plain enough reads pending
-    draws h = absurd (omega (arith, lt))
-follows_taken {R} m has_seen w opening before place (b ∷ bs) (suc j) n waiting p some lt waits here plain enough reads
-    pending draws h =
-    let long : suc (length (take j bs)) ≡ suc j = ap suc (length-take-le j bs (omega (arith, lt))) in
-    subst (HasFollowed m has_seen
-    (record { waiting = waiting; place = place + suc j; progress = p; controls = w.controls }) opening)
-    (one_sixel_more before place (b ∷ bs) (suc j) lt)
-    (subst (λ (k : ℕ). HasFollowed m has_seen
-    (record { waiting = waiting; place = place + k; progress = p; controls = w.controls }) opening
-    ((before ++ sixels_from place (b ∷ take j bs))
-    ++ placed_at (place + k) (Step (Sixel (slice_index (b ∷ bs) (suc j) - 63))) ∷ [])) long
-    (follows_plain m has_seen w opening before place b (take j bs) (slice_index (b ∷ bs) (suc j) - 63) n waiting p waits
-    here plain (subst (λ (k : ℕ). k ≤ n) (sym long) enough) reads pending draws h))
+    (record { waiting = waiting; place = w.place; progress = p; controls = w.controls }) opening
+    (before ++ sixels_from place (take k bytes))
+follows_taken m has_seen w opening before place bytes zero n waiting p some lt waits here plain enough within reads
+    pending draws h = absurd (some refl)
+follows_taken m has_seen w opening before place [] (suc j) n waiting p some lt waits here plain enough within reads
+    pending draws h = absurd (omega (arith, lt))
+follows_taken {R} m has_seen w opening before place (b ∷ bs) (suc j) n waiting p some lt waits here plain enough within
+    reads pending draws h =
+    let long : suc (length (take j bs)) ≡ suc j = ap suc (length-take-le j bs (omega (arith, within))) in
+    follows_plain m has_seen w opening before place b (take j bs) n waiting p waits here plain
+    (subst (λ (k : ℕ). k ≤ n) (sym long) enough) reads pending draws h
 
 -- ---- in parts
 

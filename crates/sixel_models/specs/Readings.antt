@@ -51,11 +51,11 @@ read_at m events i =
 abbrev pub StopsNowhereBelow : Model → List Event → ℕ → Type 0
 StopsNowhereBelow m events n = (k : ℕ) → k < n → is_stop (read_at m events k) ≡ false
 
--- it draws the next n sixels as they are, if another comes after each: so one after fewer than n sixels more
+-- it draws the next n sixels as they are, whatever follows: so one after fewer than n sixels more
 abbrev pub ArePlain : Rule → List Event → ℕ → Type 0
 ArePlain rule before n =
-    (earlier : List ℕ) → length earlier < n → (bits next : ℕ)
-    → rule (before ++ sixels_of earlier) (Step (Sixel bits)) (Some (Step (Sixel next))) ≡ Draws (Sixel bits)
+    (earlier : List ℕ) → length earlier < n → (bits : ℕ) (next : Option Event)
+    → rule (before ++ sixels_of earlier) (Step (Sixel bits)) next ≡ Draws (Sixel bits)
 
 -- what a plain terminal draws in place of the events: what comes before the first event, then what each gives, up to
 -- the first that stops, if there is one

@@ -143,14 +143,13 @@ impl<R: Reading> Modelled<R> {
             → HasFollowed R.model R.has_seen self.new opening (before ++ sixels_from place (take result bytes.now)) }
     {
         self.push(place, sixel(bytes[0]));
-        let plain = self.waiting.reading.plain_sixels().min(bytes.len() - 1);
+        let plain = self.waiting.reading.plain_sixels().min(bytes.len());
         if plain == 0 {
             return 1;
         }
         self.progress.read_sixels(&bytes[..plain]);
-        self.waiting.pass(&bytes[..plain], sixel(bytes[plain]));
-        self.place = place + plain as u64;
-        plain + 1
+        self.waiting.pass(&bytes[..plain]);
+        plain
     }
 
     /// Takes the sixels of these data bytes, in order. The first has the offset `place`.

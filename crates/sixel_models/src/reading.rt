@@ -39,7 +39,7 @@ pub trait Reading {
         ensures seen { (before : List AnEvent) → has_seen self.old before
             → has_seen self.new (before ++ event.now ∷ []) };
 
-    /// How many sixels that come next it draws as they are, if another one comes after each.
+    /// How many sixels that come next it draws as they are, whatever follows.
     fn plain_sixels(&self) -> usize
         ensures { (before : List AnEvent) → has_seen self.now before → ArePlain model.rule before result };
 

@@ -44,15 +44,15 @@ impl<R: Reading> Waiting<R> {
         reads
     }
 
-    /// Reads the sixels of these data bytes, in place of the event that waits. `event` waits then.
-    pub fn pass(&mut self, bytes: &[u8], event: Event)
+    /// Reads the sixels of these data bytes, in place of the event that waits. None waits then.
+    pub fn pass(&mut self, bytes: &[u8])
         requires { (k : ℕ) → k < length bytes.now → IsTrue (is_data (slice_index bytes.now k)) }
         ensures seen { (before : List AnEvent) → R.has_seen self.old.reading before
             → R.has_seen self.new.reading (before ++ sixels_of bytes.now) }
-        ensures pending { self.new.pending ≡ Some event }
+        ensures pending { self.new.pending ≡ None }
     {
         self.reading.note_sixels(bytes);
-        self.pending = Some(event);
+        self.pending = None;
     }
 
     /// Gives what the terminal makes of the last event, if there is one.
