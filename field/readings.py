@@ -16,7 +16,7 @@ from dataclasses import dataclass
 from typing import Callable
 
 HUE, RGB, SAMPLES = 1, 2, 3
-BACKGROUND, TEXT, BLACK = (SAMPLES, 32, 64, 96), (SAMPLES, 255, 255, 255), (RGB, 0, 0, 0)
+BACKGROUND, TEXT, BLACK = (RGB, 20, 40, 60), (RGB, 0, 0, 0), (RGB, 0, 0, 0)
 NAMING = "select", "define"
 MOVING = "return", "newline"
 
