@@ -6,7 +6,7 @@ _sixel() {
     for ((i = 1; i < COMP_CWORD; i++)); do
         if [[ ! $ended && ${COMP_WORDS[i]} == -- ]]; then
             ended=yes
-        elif [[ ! $ended && ${COMP_WORDS[i]} == @(--width|--height|--background) ]]; then
+        elif [[ ! $ended && ${COMP_WORDS[i]} == @(--width|--height|--on|--background) ]]; then
             ((++i))
             [[ ${COMP_WORDS[i]} != = ]] || ((++i))
         elif [[ ! $ended && ${COMP_WORDS[i]} == -?* ]]; then
@@ -17,7 +17,7 @@ _sixel() {
             ((++operands))
         fi
     done
-    # The word at the cursor is the value of an option: a number, or a colour.
+    # The word at the cursor is the value of an option: a number, a colour, or the name of a terminal.
     ((i == COMP_CWORD)) || return
     # For a command that takes any number of files or names the operands don't count.
     case $command in
@@ -30,13 +30,13 @@ _sixel() {
         scan) options='--wide -q --quiet --eight-bit --json -h --help -V --version' operands=0 ;;
         render) options='--wide -h --help -V --version' ;;
         encode) options='--wide -h --help -V --version' ;;
-        show) options='--wide -q --quiet --showing --fill --define-selects --width --height --box -h --help -V --version' ;;
+        show) options='--wide -q --quiet --showing --fill --define-selects --width --height --box --on --background -h --help -V --version' ;;
         mend) options='--wide -q --quiet --background --showing --define-selects -h --help -V --version' ;;
         explain) options='-h --help -V --version' operands=0
             names='RasterFirst RasterTwice Ratio BoxSize Register ColourValue RepeatZero Unselected Undefined
                 Redefined Outside Uncovered EightBit NotSixel BadByte NumberTooLarge FieldCount BadRepeat
                 BadTerminator Truncated TooLong Trailing Header Size Maxval Sample TooManyColours Short NotRgb NoBox
-                NoString Empty TooLarge OutOfMemory Read Write'
+                Unmodelled NoString Empty TooLarge OutOfMemory Read Write'
             ;;
         help)
             names='list check survey scan render encode show mend explain help'

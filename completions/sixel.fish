@@ -69,6 +69,8 @@ complete -c sixel -n '__fish_sixel_is show' -l define-selects -d 'Let a colour d
 complete -c sixel -n '__fish_sixel_is show' -l width -x -d 'The screen\'s width in pixels, 1 to 4096 [default: 800]'
 complete -c sixel -n '__fish_sixel_is show' -l height -x -d 'The screen\'s height in pixels, 1 to 4096 [default: 480]'
 complete -c sixel -n '__fish_sixel_is show' -l box -d 'Make the screen as large as the declared box'
+complete -c sixel -n '__fish_sixel_is show' -l on -x -d 'Draw as this terminal does: xterm, mlterm, foot or konsole'
+complete -c sixel -n '__fish_sixel_is show' -l background -x -d 'With --on: the screen before the picture, in percent, or \'#RRGGBB\' [default: 100,100,100]'
 complete -c sixel -n '__fish_sixel_is show' -s h -l help -d 'Print help'
 complete -c sixel -n '__fish_sixel_is show' -s V -l version -d 'Print version'
 
@@ -113,6 +115,7 @@ complete -c sixel -n '__fish_sixel_is explain' -a TooManyColours -d 'a picture o
 complete -c sixel -n '__fish_sixel_is explain' -a Short -d 'a PPM that ends before its last sample'
 complete -c sixel -n '__fish_sixel_is explain' -a NotRgb -d 'a colour of hue, lightness and saturation that would appear in a PPM'
 complete -c sixel -n '__fish_sixel_is explain' -a NoBox -d 'a text that declares no box of a possible screen size'
+complete -c sixel -n '__fish_sixel_is explain' -a Unmodelled -d 'a command that the model of the named terminal doesn\'t cover'
 complete -c sixel -n '__fish_sixel_is explain' -a NoString -d 'input to scan that has no sixel string'
 complete -c sixel -n '__fish_sixel_is explain' -a Empty -d 'a text to mend that paints nothing and declares no width or no height'
 complete -c sixel -n '__fish_sixel_is explain' -a TooLarge -d 'a text to mend whose picture has a side above 2,048'
