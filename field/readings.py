@@ -154,7 +154,7 @@ def mlterm(events):
     """A definition selects. The box is never filled. Register 0 starts as the text's colour, others as the background;
     but those from 448 on have colours of chance. So have pixels that aren't painted, if the first sixel past the box is
     both right of it and below it. Of several boxes the least width and height count here."""
-    given, defined, register, x, band, box, grown, lowered, passed = [], set(), 0, 0, 0, None, False, False, False
+    given, defined, register, x, band, box, grown, widest, passed = [], set(), 0, 0, 0, None, False, 0, False
     if second(events) == 5:
         raise Unsaid(0, "it mixes")
     for number, event in enumerate(events):
@@ -162,9 +162,9 @@ def mlterm(events):
         if kind == "raster":
             if not any(numbers):
                 raise Unsaid(number, "raster attributes of zeros: without a number they swallow a byte")
-            if band and lowered and not passed:
-                raise Unsaid(number, "raster attributes below the first band, twice, without data: the terminal may end")
-            lowered = lowered or band > 0
+            if band and 0 < widest < numbers[2] and not passed:
+                raise Unsaid(number, "wider raster attributes below the first band without data: the terminal may end")
+            widest = max(widest, numbers[2])
             if any(numbers[2:]):
                 box = [min(sides) for sides in zip(box or numbers[2:], numbers[2:])]
         elif kind in NAMING:

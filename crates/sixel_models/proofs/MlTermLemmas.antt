@@ -1,7 +1,7 @@
 -- The automaton of mlterm, event by event.
 use Rattle.std.proofs.Common.{◌≡◌, ◌==◌, ◌<◌, ◌+◌, ◌*◌, ◌^◌, ◌&&◌, ◌||◌, ℕ, Bool, true, false, Option, Some, None}
 use Rattle.std.proofs.Common.{List, [], ◌∷◌, ◌++◌, length, get_or, set, replicate, min, refl, sym, ap, ap₂, ◌∙◌}
-use Rattle.std.proofs.Common.{subst, arith, zero, suc, not, ◌-◌, ◌≤◌, append-nil}
+use Rattle.std.proofs.Common.{subst, arith, max, zero, suc, not, ◌-◌, ◌≤◌, append-nil}
 use Rattle.std.specs.Prelude.{IfSome, is_some, nat_lt, nat_le, if◌then◌else◌}
 use Rattle.std.specs.List.{list_any}
 use Rattle.sixel_model.specs.declared.colour.Parts.{Parts}
@@ -29,16 +29,17 @@ use Rattle.sixel_models.proofs.PlainLemmas.{band_over, data_over, first_before, 
 use Rattle.sixel_models.specs.declared.place.Place.{Place}
 use Rattle.sixel_models.specs.declared.mlterm.MlTerm.{MlTerm}
 use Rattle.sixel_models.specs.declared.mlterm.Sides.{Sides}
-use Rattle.sixel_models.specs.MlTerm.{Box, coloured_by, has_data, has_left_mlterm, has_raster_below, height_of}
-use Rattle.sixel_models.specs.MlTerm.{is_below, is_coloured_mlterm, is_raster_below, is_unsaid_data, least_box}
+use Rattle.sixel_models.specs.MlTerm.{Box, coloured_by, declared_width, has_data, has_left_mlterm, height_of}
+use Rattle.sixel_models.specs.MlTerm.{is_below, is_coloured_mlterm, is_unsaid_data, least_box}
 use Rattle.sixel_models.specs.MlTerm.{leaves_from, leaves_mlterm, mlterm, mlterm_box, mlterm_box_of, mlterm_data}
 use Rattle.sixel_models.specs.MlTerm.{mlterm_register, mlterm_selected, width_of}
 use Rattle.sixel_models.specs.MlTermSeen.{AreNarrow, HasSeenMlTerm, box_of_sides, columns_said, data_in, mlterm_in}
-use Rattle.sixel_models.specs.MlTermSeen.{next_coloured, next_data, next_left, next_raster_below, next_selected}
+use Rattle.sixel_models.specs.MlTermSeen.{next_coloured, next_data, next_left, next_selected, next_widest}
 use Rattle.sixel_models.specs.MlTermSeen.{stored_box}
 use Rattle.sixel_models.specs.declared.reading.Reads.TheVariants.{Draws, Unsaid}
 use Rattle.sixel_models.specs.Places.{IsPlaceAfter, most}
-use Rattle.sixel_models.specs.Words.{nearest}
+use Rattle.sixel_models.specs.Words.{greatest, nearest}
+use Rattle.sixel_models.proofs.WordLemmas.{greatest_push}
 
 -- ---- before any event
 
@@ -48,10 +49,10 @@ pub seen_none : (place : Place) → IsPlaceAfter 0 place [] → HasSeenMlTerm (r
   coloured = replicate 1024 false;
   sides = None;
   has_left = false;
-  has_raster_below = false;
+  widest = 0;
   has_data = false;
 }) []
-unfolding latest is_coloured_mlterm mlterm_box has_left_mlterm has_raster_below any_at any_below
+unfolding latest is_coloured_mlterm mlterm_box has_left_mlterm greatest any_at any_below
 seen_none place is = record {
   place_is = is;
   selected_is = refl;
@@ -60,7 +61,7 @@ seen_none place is = record {
   box_is = refl;
   narrow = tt;
   left_is = refl;
-  lowered_is = refl;
+  widest_is = refl;
   passed_is = refl;
 }
 
@@ -194,11 +195,6 @@ pub left_push : (before : List Event) (e : Event)
 unfolding has_left_mlterm
 left_push before e = any_at_push leaves_mlterm before e
 
-pub raster_below_push : (before : List Event) (e : Event)
-    → has_raster_below (before ++ e ∷ []) ≡ (is_raster_below before e || has_raster_below before)
-unfolding has_raster_below
-raster_below_push before e = any_at_push is_raster_below before e
-
 data_push : (before : List Event) (e : Event)
     → has_data (before ++ e ∷ []) ≡ (has_data before || is_data_command e)
 data_push before e =
@@ -215,7 +211,7 @@ pub seen_push : (m : MlTerm) (place : Place) (sides : Option Sides) (before : Li
       coloured = next_coloured m.coloured e;
       sides = sides;
       has_left = next_left m e;
-      has_raster_below = next_raster_below m e;
+      widest = next_widest m e;
       has_data = next_data m e;
     }) (before ++ e ∷ [])
 seen_push m place sides before e s at sides_are narrow = record {
@@ -233,10 +229,8 @@ seen_push m place sides before e s at sides_are narrow = record {
   left_is =
       ap₂ (λ a b. a || b) s.left_is (leaves_is e s) ∙ or_comm (has_left_mlterm before) (leaves_mlterm before e)
       ∙ sym (left_push before e);
-  lowered_is =
-      ap₂ (λ a b. a || (is_some (raster_of e) && b)) s.lowered_is
-      (ap (nat_lt 0) s.place_is.band_is ∙ band_test (band before))
-      ∙ or_comm (has_raster_below before) (is_raster_below before e) ∙ sym (raster_below_push before e);
+  widest_is =
+      ap (λ (n : ℕ). max n (declared_width e)) s.widest_is ∙ sym (greatest_push declared_width before e);
   passed_is = ap (λ b. b || is_data_command e) s.passed_is ∙ sym (data_push before e);
 }
 
@@ -273,7 +267,7 @@ pub mlterm_is : {m : MlTerm} {before : List Event} (e : Event) (next : Option Ev
     → mlterm_in m e ≡ mlterm before e next
 mlterm_is (Start eight parameters) next s = refl
 mlterm_is {m} {before} (Step (Raster pan pad width height)) next s =
-    rw (s.place_is.band_is, s.lowered_is, s.passed_is, band_test (band before)) refl
+    rw (s.place_is.band_is, s.widest_is, s.passed_is, band_test (band before)) refl
 mlterm_is (Step (Define register system x y z)) next s = refl
 mlterm_is (Step (Select register)) next s = refl
 mlterm_is (Step (Sixel bits)) next s = data_is (Sixel bits) s
@@ -301,10 +295,11 @@ coloured_over before bytes r =
     same_over (λ es. is_coloured_mlterm es r)
     (λ es bits. coloured_push es (Step (Sixel bits)) r ∙ or_false (is_coloured_mlterm es r)) before bytes
 
-lowered_over : (before : List Event) (bytes : List ℕ)
-    → has_raster_below (before ++ sixels_of bytes) ≡ has_raster_below before
-lowered_over before bytes =
-    same_over has_raster_below (λ es bits. raster_below_push es (Step (Sixel bits))) before bytes
+widest_over : (before : List Event) (bytes : List ℕ)
+    → greatest declared_width (before ++ sixels_of bytes) ≡ greatest declared_width before
+widest_over before bytes =
+    same_over (greatest declared_width)
+    (λ es bits. greatest_push declared_width es (Step (Sixel bits)) ∙ omega arith) before bytes
 
 -- some of so many sixels leaves the box: they stand below it, or end right of it
 abbrev leave : Option Box → ℕ → ℕ → ℕ → Bool
@@ -392,7 +387,7 @@ mlterm_over {m} p before (b ∷ bs) some s moved = record {
       (ap (λ (x : Bool). has_left_mlterm before || x)
       (leave_capped (mlterm_box before) (column 0 before) (band before) (suc (length bs)) (seen_small s))
       ∙ sym (left_over before b bs));
-  lowered_is = s.lowered_is ∙ sym (lowered_over before (b ∷ bs));
+  widest_is = s.widest_is ∙ sym (widest_over before (b ∷ bs));
   passed_is = data_seen before (b ∷ bs) some;
 }
 

@@ -10,14 +10,14 @@ use Rattle.sixel_grammar.specs.declared.command.Command.TheVariants.{CarriageRet
 use Rattle.sixel_grammar.specs.declared.command.Event.{Event}
 use Rattle.sixel_grammar.specs.declared.command.Event.TheVariants.{Start, Step, Finish}
 use Rattle.sixel_model.specs.declared.colour.Parts.{Parts}
-use Rattle.sixel_model.specs.Events.{columns_of, is_data_command, is_painting, is_repeat_of_zero, named_by, raster_of}
+use Rattle.sixel_model.specs.Events.{Attributes, columns_of, is_data_command, is_painting, is_repeat_of_zero, named_by, raster_of}
 use Rattle.sixel_model.specs.Geometry.{band, band_rows, column}
 use Rattle.sixel_model.specs.Positions.{any_at, latest}
 use Rattle.sixel_model.specs.Rules.{is_that}
 use Rattle.sixel_models.specs.declared.reading.Reads.{Reads}
 use Rattle.sixel_models.specs.declared.reading.Reads.TheVariants.{Nothing, Draws, DrawsTwo, Unsaid}
 use Rattle.sixel_models.specs.Readings.{Model, Rule, no_opening}
-use Rattle.sixel_models.specs.Words.{defining, nearest}
+use Rattle.sixel_models.specs.Words.{defining, greatest, nearest}
 
 -- ---- the registers
 
@@ -130,22 +130,20 @@ mlterm_data before command =
 
 -- ---- the rule
 
--- raster attributes below the first band
-abbrev pub is_raster_below : List Event → Event → Bool
-is_raster_below before e = is_some (raster_of e) && nat_lt 0 (band before)
-
--- some raster attributes came below the first band
-unfoldable pub has_raster_below : List Event → Bool
-has_raster_below before = any_at is_raster_below before
+-- the width that the event declares; 0 if it declares none
+abbrev pub declared_width : Event → ℕ
+declared_width e = option_map_or (λ (a : Attributes). a.width) (raster_of e) 0
 
 -- a data command is among the events
 abbrev pub has_data : List Event → Bool
 has_data before = list_any is_data_command before
 
--- the next sixel is below the first band, where raster attributes came before, and no data command did: if the next
--- raster attributes are wider, mlterm ends
-abbrev pub is_fragile : List Event → Bool
-is_fragile before = nat_lt 0 (band before) && (has_raster_below before && not (has_data before))
+-- raster attributes of this width are below the first band and wider than all before, of which one has a width, and no
+-- data command came: mlterm may end, or leave colours of chance
+abbrev pub is_fragile : List Event → ℕ → Bool
+is_fragile before width =
+    nat_lt 0 (band before) && (nat_lt 0 (greatest declared_width before)
+    && (nat_lt (greatest declared_width before) width && not (has_data before)))
 
 -- a definition of this register, with this colour if it gives one, selects it
 abbrev pub define_and_select : ℕ → Option Parts → Reads
@@ -155,14 +153,14 @@ define_and_select register (Some colour) = DrawsTwo (defining register colour) (
 -- What mlterm makes of an event. Unsaid are:
 -- - an introducer whose P2 is 5: mlterm mixes colours;
 -- - raster attributes of zeros only: if their numbers are missing, they swallow a byte;
--- - raster attributes below the first band, if others came there before, and no data command: mlterm may end;
+-- - raster attributes below the first band that are wider than those before, if no data command came;
 -- - a definition in colour system 3;
 -- - the data commands above
 abbrev pub mlterm : Rule
 mlterm before (Start eight parameters) next = if slice_index_or parameters.items 1 0 == 5 then Unsaid else Nothing
 mlterm before (Step (Raster pan pad width height)) next =
     if ((pan == 0) && (pad == 0) && (width == 0) && (height == 0))
-    || is_fragile before
+    || is_fragile before width
     then Unsaid
     else Nothing
 mlterm before (Step (Define register system x y z)) next =

@@ -1,5 +1,5 @@
 -- What the automaton of mlterm stores, and how an event changes it.
-use Rattle.std.specs.Prelude.{◌≡◌, ◌==◌, ◌<◌, ◌&&◌, ◌||◌, ◌^◌, ℕ, ◌+◌, ◌-◌, Bool, true, false, not, is_some, min}
+use Rattle.std.specs.Prelude.{max, ◌≡◌, ◌==◌, ◌<◌, ◌&&◌, ◌||◌, ◌^◌, ℕ, ◌+◌, ◌-◌, Bool, true, false, not, is_some, min}
 use Rattle.std.specs.Prelude.{nat_lt}
 use Rattle.std.specs.Prelude.{List, Option, Some, None, length, slice_index_or, slice_set, if◌then◌else◌}
 use Rattle.std.specs.Option.{option_map, option_map_or}
@@ -12,10 +12,10 @@ use Rattle.sixel_model.specs.Events.{is_data_command, named_by, raster_of}
 use Rattle.sixel_models.specs.declared.reading.Reads.{Reads}
 use Rattle.sixel_models.specs.declared.reading.Reads.TheVariants.{Nothing, Draws, Unsaid}
 use Rattle.sixel_models.specs.Places.{IsPlaceAfter}
-use Rattle.sixel_models.specs.Words.{nearest}
+use Rattle.sixel_models.specs.Words.{greatest, nearest}
 use Rattle.sixel_models.specs.declared.mlterm.MlTerm.{MlTerm}
 use Rattle.sixel_models.specs.declared.mlterm.Sides.{Sides}
-use Rattle.sixel_models.specs.MlTerm.{Box, coloured_by, define_and_select, has_data, has_left_mlterm, has_raster_below}
+use Rattle.sixel_models.specs.MlTerm.{Box, coloured_by, declared_width, define_and_select, has_data, has_left_mlterm}
 use Rattle.sixel_models.specs.MlTerm.{is_coloured_mlterm}
 use Rattle.sixel_models.specs.MlTerm.{is_unsaid_data, leaves_from, mlterm_box}
 use Rattle.sixel_models.specs.MlTerm.{mlterm_register, mlterm_selected, width_of}
@@ -40,7 +40,7 @@ pub record HasSeenMlTerm (m : MlTerm) (before : List Event) : Type 0 where
   pub box_is : stored_box m ≡ mlterm_box before
   pub narrow : AreNarrow m.sides
   pub left_is : m.has_left ≡ has_left_mlterm before
-  pub lowered_is : m.has_raster_below ≡ has_raster_below before
+  pub widest_is : m.widest ≡ greatest declared_width before
   pub passed_is : m.has_data ≡ has_data before
 
 -- ---- how an event changes it
@@ -54,8 +54,8 @@ next_coloured marks e = option_map_or (λ r. slice_set marks r true) (coloured_b
 abbrev pub next_left : MlTerm → Event → Bool
 next_left m e = m.has_left || leaves_from (stored_box m) m.place.column m.place.band e
 
-abbrev pub next_raster_below : MlTerm → Event → Bool
-next_raster_below m e = m.has_raster_below || (is_some (raster_of e) && nat_lt 0 m.place.band)
+abbrev pub next_widest : MlTerm → Event → ℕ
+next_widest m e = max m.widest (declared_width e)
 
 abbrev pub next_data : MlTerm → Event → Bool
 next_data m e = m.has_data || is_data_command e
@@ -73,7 +73,7 @@ abbrev pub mlterm_in : MlTerm → Event → Reads
 mlterm_in m (Start eight parameters) = if slice_index_or parameters.items 1 0 == 5 then Unsaid else Nothing
 mlterm_in m (Step (Raster pan pad width height)) =
     if ((pan == 0) && (pad == 0) && (width == 0) && (height == 0))
-    || (nat_lt 0 m.place.band && (m.has_raster_below && not m.has_data))
+    || (nat_lt 0 m.place.band && (nat_lt 0 m.widest && (nat_lt m.widest width && not m.has_data)))
     then Unsaid
     else Nothing
 mlterm_in m (Step (Define register system x y z)) =

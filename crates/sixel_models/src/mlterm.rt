@@ -9,14 +9,14 @@ ghost use Rattle.sixel_terminal.specs.Stretches.{sixels_of};
 ghost use Rattle.sixel_models.specs.MlTerm as rule;
 ghost use Rattle.sixel_models.specs.MlTermSeen.{AreNarrow, HasSeenMlTerm, box_of_sides, columns_said, data_in};
 ghost use Rattle.sixel_models.specs.MlTermSeen.{mlterm_in};
-ghost use Rattle.sixel_models.specs.MlTermSeen.{next_coloured, next_data, next_left, next_raster_below, next_selected};
+ghost use Rattle.sixel_models.specs.MlTermSeen.{next_coloured, next_data, next_left, next_selected, next_widest};
 ghost use Rattle.sixel_models.specs.MlTermSeen.{stored_box};
 
 use crate::place::Place;
 use crate::reading::{Reading, Reads};
 use crate::words::{
-    columns_of, defining, is_data_command, is_painting, is_raster, is_repeat_of_zero, named_by,
-    nearest, second_of,
+    columns_of, defining, is_data_command, is_painting, is_repeat_of_zero, named_by, nearest,
+    second_of,
 };
 use sixel_grammar::{Command, Event};
 use sixel_model::{BAND_ROWS, Colour};
@@ -49,8 +49,8 @@ pub struct MlTerm {
     sides: Option<Sides>,
     /// Whether a data command left the box.
     has_left: bool,
-    /// Whether raster attributes came below the first band.
-    has_raster_below: bool,
+    /// The greatest width that raster attributes declared.
+    widest: u16,
     /// Whether a data command came.
     has_data: bool,
 }
@@ -118,6 +118,16 @@ fn coloured_by(event: &Event) -> Option<u16>
     }
 }
 
+/// The width that the event declares; 0 if it declares none.
+fn declared_width(event: &Event) -> u16
+    ensures { result ≡ rule.declared_width event.now }
+{
+    match event {
+        Event::Step(Command::Raster { width, .. }) => *width,
+        _ => 0,
+    }
+}
+
 impl MlTerm {
     /// Before any event.
     pub fn new() -> MlTerm
@@ -129,7 +139,7 @@ impl MlTerm {
             coloured: [false; REGISTERS],
             sides: None,
             has_left: false,
-            has_raster_below: false,
+            widest: 0,
             has_data: false,
         }
     }
@@ -169,13 +179,11 @@ impl MlTerm {
         }
     }
 
-    /// Notes raster attributes below the first band.
-    fn lower(&mut self, event: &Event)
-        ensures { self.new ≡ record self.old { has_raster_below = next_raster_below self.old event.now } }
+    /// Notes the width of raster attributes.
+    fn widen(&mut self, event: &Event)
+        ensures { self.new ≡ record self.old { widest = next_widest self.old event.now } }
     {
-        if is_raster(event) && self.place.band > 0 {
-            self.has_raster_below = true;
-        }
+        self.widest = self.widest.max(declared_width(event));
     }
 
     /// Notes a data command.
@@ -187,11 +195,12 @@ impl MlTerm {
         }
     }
 
-    /// Whether raster attributes that come next may end mlterm.
-    fn is_fragile(&self) -> bool
-        ensures { result ≡ (nat_lt 0 self.now.place.band && (self.now.has_raster_below && not self.now.has_data)) }
+    /// Whether raster attributes of this width may end mlterm, if they come next.
+    fn is_fragile(&self, width: u16) -> bool
+        ensures { result ≡ (nat_lt 0 self.now.place.band && (nat_lt 0 self.now.widest
+            && (nat_lt self.now.widest width && not self.now.has_data))) }
     {
-        self.place.band > 0 && self.has_raster_below && !self.has_data
+        self.place.band > 0 && self.widest > 0 && self.widest < width && !self.has_data
     }
 
     /// Notes the register that the event names, and whether it gives that a colour.
@@ -245,7 +254,7 @@ impl MlTerm {
                 width: 0,
                 height: 0,
             } => Reads::Unsaid,
-            Command::Raster { .. } if self.is_fragile() => Reads::Unsaid,
+            Command::Raster { width, .. } if self.is_fragile(width) => Reads::Unsaid,
             Command::Raster { .. } => Reads::Nothing,
             Command::Select(number) => Reads::Draws(Command::Select(register_of(number))),
             Command::Define { system: 3, .. } => Reads::Unsaid,
@@ -278,7 +287,7 @@ impl MlTerm {
     {
         self.leave(event);
         self.name(event);
-        self.lower(event);
+        self.widen(event);
         self.pass(event);
         self.sides = least(self.sides, box_of(event));
         self.place = self.place.after(event, 0);
