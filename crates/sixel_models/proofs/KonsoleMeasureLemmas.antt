@@ -267,32 +267,32 @@ more_drawn : (stuck : Bool) (drawing : List Event) (b d : ℕ) (ds : List ℕ)
 more_drawn true drawing b d ds = append-nil (drawing ++ [])
 more_drawn false drawing b d ds = sym (first_before drawing b (d ∷ ds))
 
-pub drawing_over : (before : List Event) (b : ℕ) (bs : List ℕ) (last : ℕ)
-    → konsole_drawing (before ++ sixels_of (b ∷ bs)) (Some (Step (Sixel last)))
+pub drawing_over : (before : List Event) (b : ℕ) (bs : List ℕ) (next : Option Event)
+    → konsole_drawing (before ++ sixels_of (b ∷ bs)) next
     ≡ konsole_drawing before (Some (Step (Sixel (b - 63)))) ++ drawn_sixels (is_stuck before) (b ∷ bs)
-drawing_over before b [] last =
-    drawing_push before (Step (Sixel (b - 63))) (Some (Step (Sixel last)))
+drawing_over before b [] next =
+    drawing_push before (Step (Sixel (b - 63))) next
     ∙ one_drawn (is_stuck before) (konsole_drawing before (Some (Step (Sixel (b - 63))))) b
-drawing_over before b (d ∷ ds) last =
+drawing_over before b (d ∷ ds) next =
     let e : Event = Step (Sixel (b - 63)) in
-    ap (λ (es : List Event). konsole_drawing es (Some (Step (Sixel last)))) (first_before before b (d ∷ ds))
-    ∙ (drawing_over (before ++ e ∷ []) d ds last
+    ap (λ (es : List Event). konsole_drawing es next) (first_before before b (d ∷ ds))
+    ∙ (drawing_over (before ++ e ∷ []) d ds next
     ∙ (ap₂ (λ (es : List Event) (s : Bool). es ++ drawn_sixels s (d ∷ ds))
     (drawing_push before e (Some (Step (Sixel (d - 63))))) (stuck_over before (b ∷ []))
     ∙ more_drawn (is_stuck before) (konsole_drawing before (Some e)) b d ds))
 
-pub measured_over : {m : KonsoleMeasure} (n : KonsoleMeasure) (before : List Event) (bytes : List ℕ) (last : ℕ)
-    → 0 < length bytes → HasMeasured m before (Some (Step (Sixel (slice_index bytes 0 - 63))))
+pub measured_over : {m : KonsoleMeasure} (n : KonsoleMeasure) (before : List Event) (bytes : List ℕ)
+    (next : Option Event) → 0 < length bytes → HasMeasured m before (Some (Step (Sixel (slice_index bytes 0 - 63))))
     → HasSeenKonsole n.reading (before ++ sixels_of bytes)
     → ((drawing : List Event) → IsReach m.reach drawing
     → IsReach n.reach (drawing ++ drawn_sixels m.reading.stuck bytes))
-    → HasMeasured n (before ++ sixels_of bytes) (Some (Step (Sixel last)))
-measured_over n before [] last some s seen reach = absurd (omega (arith, some))
-measured_over {m} n before (b ∷ bs) last some s seen reach = record {
+    → HasMeasured n (before ++ sixels_of bytes) next
+measured_over n before [] next some s seen reach = absurd (omega (arith, some))
+measured_over {m} n before (b ∷ bs) next some s seen reach = record {
   seen = seen;
   reach = subst (IsReach n.reach)
       (ap (λ (x : Bool). konsole_drawing before (Some (Step (Sixel (b - 63)))) ++ drawn_sixels x (b ∷ bs))
       s.seen.stuck_is
-      ∙ sym (drawing_over before b bs last))
+      ∙ sym (drawing_over before b bs next))
       (reach _ s.reach);
 }

@@ -11,6 +11,7 @@ pub mod FootLemmas
 pub mod FootColourLemmas
 pub mod SettingLemmas
 pub mod PositionLemmas
+pub mod AloneLemmas
 pub mod CourseLemmas
 pub mod ProgressLemmas
 pub mod ModelledLemmas

@@ -19,7 +19,6 @@ use Rattle.sixel_grammar.specs.declared.command.Command.TheVariants.{CarriageRet
 use Rattle.sixel_grammar.specs.declared.command.Event.{Event}
 use Rattle.sixel_grammar.specs.declared.command.Event.TheVariants.{Start, Step, Finish}
 use Rattle.sixel_model.specs.Events.{columns_of, is_data_command, is_painting, named_by}
-use Rattle.sixel_model.specs.Events.{raster_of}
 use Rattle.sixel_model.specs.Geometry.{band, column}
 use Rattle.sixel_model.specs.Positions.{any_at, any_below, latest}
 use Rattle.sixel_model.proofs.PositionLemmas.{any_at_push, latest_push}
@@ -391,7 +390,7 @@ mlterm_over {m} p before (b ∷ bs) some s moved = record {
   passed_is = data_seen before (b ∷ bs) some;
 }
 
--- ---- what is said of them
+-- ---- which sixels are drawn as they are
 
 not_past : (c j : ℕ) (deep : Bool) → c + j + 1 ≤ 32767 → deep ≡ false → (nat_lt 32767 (c + j + 1) || deep) ≡ false
 not_past c j deep le none = rw none (grind (arith, nat_tests))

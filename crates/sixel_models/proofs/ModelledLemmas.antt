@@ -19,6 +19,7 @@ use Rattle.sixel_terminal.specs.Stretches.{sixels_of}
 use Rattle.sixel_models.specs.declared.waiting.Waiting.{Waiting}
 use Rattle.sixel_models.specs.Courses.{AreDrawn, IsAt}
 use Rattle.sixel_models.specs.Modelled.{AreUnsaidBy, HasCome, HasFollowed, HasPlace, placed_at, waiting_in}
+use Rattle.sixel_models.specs.Modelled.{with_waiting}
 use Rattle.sixel_models.specs.Readings.{ArePlain, Model, Rule}
 use Rattle.sixel_models.proofs.PlainLemmas.{first_before}
 use Rattle.sixel_models.proofs.PositionLemmas.{read_there}
@@ -126,6 +127,63 @@ follows_more m has_seen w opening placed place event waiting p reads pending non
           (read_all m has_seen w opening placed (q ∷ later) (Some event) p h refl none some);
     }
 
+-- none waits, and one came last
+pub follows_none : {R : Type 0} (m : Model) (has_seen : R → List Event → Type 0) (w : Modelled R)
+    (opening : List Event) (placed : List Placed) (place : ℕ) (event : Event) → w.waiting.pending ≡ None
+    → HasFollowed m has_seen w opening placed
+    → HasFollowed m has_seen (with_waiting w place event) opening (placed ++ placed_at place event ∷ [])
+follows_none m has_seen w opening placed place event none h =
+    follows_more m has_seen w opening placed place event
+    (record { reading = w.waiting.reading; pending = Some event }) w.progress
+    (λ before seen.
+    subst (λ (o : Option Event). has_seen w.waiting.reading (before ++ option_to_list o)) (sym none)
+    (subst (has_seen w.waiting.reading) (sym (append-nil before)) seen))
+    refl (λ is. refl) (λ e is. absurd cc) h
+
+-- the same, but its reading is this now, and it has come so far
+abbrev pub with_read : {R : Type 0} → Modelled R → R → Progress → Modelled R
+with_read w reading p = record w { waiting = record w.waiting { reading = reading }; progress = p }
+
+none_waits : {R : Type 0} (w : Modelled R) (placed : List Placed) → w.waiting.pending ≡ None
+    → placed ≡ placed ++ waiting_in w
+none_waits w placed none =
+    sym (append-nil placed) ∙ ap (λ (o : Option Event). placed ++ waits_for w.place o) (sym none)
+
+-- the event that came last is read, and none waits
+pub follows_now : {R : Type 0} (m : Model) (has_seen : R → List Event → Type 0) (w : Modelled R)
+    (opening : List Event) (before : List Placed) (place : ℕ) (event : Event) (reading : R) (p : Progress)
+    → w.waiting.pending ≡ None
+    → ((es : List Event) (next : Option Event) → m.rule es event next ≡ m.rule es event None)
+    → ((es : List Event) → has_seen w.waiting.reading es → has_seen reading (es ++ event ∷ []))
+    → ((es : List Event) → has_seen w.waiting.reading es → AreUnsaidBy m w.controls
+    → (first : List Event) (placed : List Placed) (n : ℕ) → IsAt m (events_of placed) n event (m.rule es event None)
+    → HasPlace placed n place → HasCome m first placed n w.progress → HasCome m first placed (suc n) p)
+    → HasFollowed m has_seen (with_waiting w place event) opening (before ++ placed_at place event ∷ [])
+    → HasFollowed m has_seen (with_read w reading p) opening (before ++ placed_at place event ∷ [])
+follows_now m has_seen w opening before place event reading p none alone reads comes h =
+    let q : Placed = placed_at place event in
+    let read : h.read ≡ before = append_cancel_right h.read before (q ∷ []) (sym h.are) in
+    let seen : has_seen w.waiting.reading (events_of before) =
+    subst (λ (ps : List Placed). has_seen w.waiting.reading (events_of ps)) read h.seen in
+    record {
+      controls = h.controls;
+      read = before ++ q ∷ [];
+      are = none_waits w (before ++ q ∷ []) none;
+      seen = subst (has_seen reading) (sym (events_then before (q ∷ []))) (reads (events_of before) seen);
+      come = λ later.
+          let all : (before ++ q ∷ []) ++ later ≡ before ++ q ∷ later = append_assoc before (q ∷ []) later in
+          let old : HasCome m opening (before ++ q ∷ later) (length before) w.progress =
+          subst (λ (ps : List Placed). HasCome m opening (before ++ q ∷ later) (length ps) w.progress) read
+          (subst (λ (ps : List Placed). HasCome m opening ps (length h.read) w.progress) all (h.come later)) in
+          let long : suc (length before) ≡ length (before ++ q ∷ []) =
+          sym (length-append before (q ∷ []) ∙ omega arith) in
+          subst (λ (ps : List Placed). HasCome m opening ps (length (before ++ q ∷ [])) p) (sym all)
+          (subst (λ (n : ℕ). HasCome m opening (before ++ q ∷ later) n p) long
+          (comes (events_of before) seen h.controls opening (before ++ q ∷ later) (length before)
+          (is_at m before later q _ (sym (alone (events_of before) (slice_get (events_of later) 0))))
+          (has_place before later q) old));
+    }
+
 -- ---- at the end
 
 pub all_read : {R : Type 0} (m : Model) (has_seen : R → List Event → Type 0) (w : Modelled R) (opening : List Event)
@@ -207,27 +265,20 @@ sixels_length : (place : ℕ) (bytes : List ℕ) → length (sixels_from place b
 sixels_length place [] = refl
 sixels_length place (b ∷ bs) = ap suc (sixels_length (place + 1) bs)
 
--- the first of these sixels waits; they are read, and none waits
+-- the first of these sixels came last; they are read, and none waits
 pub follows_plain : {R : Type 0} (m : Model) (has_seen : R → List Event → Type 0) (w : Modelled R)
-    (opening : List Event) (before : List Placed) (place b : ℕ) (bs : List ℕ) (n : ℕ) (waiting : Waiting R)
-    (p : Progress)
-    → w.waiting.pending ≡ Some (Step (Sixel (b - 63))) → w.place ≡ place
+    (opening : List Event) (before : List Placed) (place b : ℕ) (bs : List ℕ) (n : ℕ) (reading : R) (p : Progress)
+    → w.waiting.pending ≡ None
     → ((es : List Event) → has_seen w.waiting.reading es → ArePlain m.rule es n) → suc (length bs) ≤ n
-    → ((es : List Event) → has_seen w.waiting.reading es → has_seen waiting.reading (es ++ sixels_of (b ∷ bs)))
-    → waiting.pending ≡ None
+    → ((es : List Event) → has_seen w.waiting.reading es → has_seen reading (es ++ sixels_of (b ∷ bs)))
     → ((first : List Event) (placed : List Placed) (k : ℕ) → AreDrawn m (events_of placed) k (b ∷ bs)
     → HasCome m first placed k w.progress → HasCome m first placed (k + length (b ∷ bs)) p)
-    → HasFollowed m has_seen w opening (before ++ placed_at place (Step (Sixel (b - 63))) ∷ [])
-    → HasFollowed m has_seen
-    (record { waiting = waiting; place = w.place; progress = p; controls = w.controls }) opening
-    (before ++ sixels_from place (b ∷ bs))
-follows_plain m has_seen w opening before place b bs n waiting p waits here plain enough reads pending draws h =
+    → HasFollowed m has_seen (with_waiting w place (Step (Sixel (b - 63)))) opening
+    (before ++ placed_at place (Step (Sixel (b - 63))) ∷ [])
+    → HasFollowed m has_seen (with_read w reading p) opening (before ++ sixels_from place (b ∷ bs))
+follows_plain m has_seen w opening before place b bs n reading p none plain enough reads draws h =
     let q : Placed = placed_at place (Step (Sixel (b - 63))) in
-    let waited : waiting_in w ≡ q ∷ [] =
-    ap₂ (λ (o : Option Event) (k : ℕ). waits_for k o) waits here in
-    let read : h.read ≡ before =
-    append_cancel_right h.read before (q ∷ [])
-    (ap (λ (ps : List Placed). h.read ++ ps) (sym waited) ∙ sym h.are) in
+    let read : h.read ≡ before = append_cancel_right h.read before (q ∷ []) (sym h.are) in
     let seen : has_seen w.waiting.reading (events_of before) =
     subst (λ (ps : List Placed). has_seen w.waiting.reading (events_of ps)) read h.seen in
     let events : events_of (before ++ sixels_from place (b ∷ bs)) ≡ events_of before ++ sixels_of (b ∷ bs) =
@@ -236,9 +287,8 @@ follows_plain m has_seen w opening before place b bs n waiting p waits here plai
     record {
       controls = h.controls;
       read = before ++ sixels_from place (b ∷ bs);
-      are = sym (append-nil (before ++ sixels_from place (b ∷ bs)))
-          ∙ ap (λ (o : Option Event). (before ++ sixels_from place (b ∷ bs)) ++ waits_for w.place o) (sym pending);
-      seen = subst (has_seen waiting.reading) (sym events) (reads (events_of before) seen);
+      are = none_waits w (before ++ sixels_from place (b ∷ bs)) none;
+      seen = subst (has_seen reading) (sym events) (reads (events_of before) seen);
       come = λ later.
           let rest : List Placed = sixels_from (place + 1) bs ++ later in
           let after : (before ++ sixels_from place (b ∷ bs)) ++ later ≡ before ++ q ∷ rest =
@@ -261,30 +311,24 @@ follows_plain m has_seen w opening before place b bs n waiting p waits here plai
 
 -- the same of the first k of these bytes
 pub follows_taken : {R : Type 0} (m : Model) (has_seen : R → List Event → Type 0) (w : Modelled R)
-    (opening : List Event) (before : List Placed) (place : ℕ) (bytes : List ℕ) (k n : ℕ) (waiting : Waiting R)
-    (p : Progress)
-    → (k ≡ 0 → ⊥) → 0 < length bytes → w.waiting.pending ≡ Some (Step (Sixel (slice_index bytes 0 - 63)))
-    → w.place ≡ place → ((es : List Event) → has_seen w.waiting.reading es → ArePlain m.rule es n) → k ≤ n
-    → k ≤ length bytes
-    → ((es : List Event) → has_seen w.waiting.reading es
-    → has_seen waiting.reading (es ++ sixels_of (take k bytes)))
-    → waiting.pending ≡ None
+    (opening : List Event) (before : List Placed) (place : ℕ) (bytes : List ℕ) (k n : ℕ) (reading : R) (p : Progress)
+    → (k ≡ 0 → ⊥) → 0 < length bytes → w.waiting.pending ≡ None
+    → ((es : List Event) → has_seen w.waiting.reading es → ArePlain m.rule es n) → k ≤ n → k ≤ length bytes
+    → ((es : List Event) → has_seen w.waiting.reading es → has_seen reading (es ++ sixels_of (take k bytes)))
     → ((first : List Event) (placed : List Placed) (i : ℕ) → AreDrawn m (events_of placed) i (take k bytes)
     → HasCome m first placed i w.progress → HasCome m first placed (i + length (take k bytes)) p)
-    → HasFollowed m has_seen w opening
+    → HasFollowed m has_seen (with_waiting w place (Step (Sixel (slice_index bytes 0 - 63)))) opening
     (before ++ placed_at place (Step (Sixel (slice_index bytes 0 - 63))) ∷ [])
-    → HasFollowed m has_seen
-    (record { waiting = waiting; place = w.place; progress = p; controls = w.controls }) opening
-    (before ++ sixels_from place (take k bytes))
-follows_taken m has_seen w opening before place bytes zero n waiting p some lt waits here plain enough within reads
-    pending draws h = absurd (some refl)
-follows_taken m has_seen w opening before place [] (suc j) n waiting p some lt waits here plain enough within reads
-    pending draws h = absurd (omega (arith, lt))
-follows_taken {R} m has_seen w opening before place (b ∷ bs) (suc j) n waiting p some lt waits here plain enough within
-    reads pending draws h =
+    → HasFollowed m has_seen (with_read w reading p) opening (before ++ sixels_from place (take k bytes))
+follows_taken m has_seen w opening before place bytes zero n reading p some lt none plain enough within reads draws h =
+    absurd (some refl)
+follows_taken m has_seen w opening before place [] (suc j) n reading p some lt none plain enough within reads draws h =
+    absurd (omega (arith, lt))
+follows_taken {R} m has_seen w opening before place (b ∷ bs) (suc j) n reading p some lt none plain enough within reads
+    draws h =
     let long : suc (length (take j bs)) ≡ suc j = ap suc (length-take-le j bs (omega (arith, within))) in
-    follows_plain m has_seen w opening before place b (take j bs) n waiting p waits here plain
-    (subst (λ (k : ℕ). k ≤ n) (sym long) enough) reads pending draws h
+    follows_plain m has_seen w opening before place b (take j bs) n reading p none plain
+    (subst (λ (k : ℕ). k ≤ n) (sym long) enough) reads draws h
 
 -- ---- in parts
 

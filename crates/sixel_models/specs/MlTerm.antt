@@ -10,7 +10,8 @@ use Rattle.sixel_grammar.specs.declared.command.Command.TheVariants.{CarriageRet
 use Rattle.sixel_grammar.specs.declared.command.Event.{Event}
 use Rattle.sixel_grammar.specs.declared.command.Event.TheVariants.{Start, Step, Finish}
 use Rattle.sixel_model.specs.declared.colour.Parts.{Parts}
-use Rattle.sixel_model.specs.Events.{Attributes, columns_of, is_data_command, is_painting, is_repeat_of_zero, named_by, raster_of}
+use Rattle.sixel_model.specs.Events.{Attributes, columns_of, is_data_command, is_painting, is_repeat_of_zero}
+use Rattle.sixel_model.specs.Events.{named_by, raster_of}
 use Rattle.sixel_model.specs.Geometry.{band, band_rows, column}
 use Rattle.sixel_model.specs.Positions.{any_at, latest}
 use Rattle.sixel_model.specs.Rules.{is_that}

@@ -1,5 +1,5 @@
 -- What the automaton of mlterm stores, and how an event changes it.
-use Rattle.std.specs.Prelude.{max, ◌≡◌, ◌==◌, ◌<◌, ◌&&◌, ◌||◌, ◌^◌, ℕ, ◌+◌, ◌-◌, Bool, true, false, not, is_some, min}
+use Rattle.std.specs.Prelude.{max, ◌≡◌, ◌==◌, ◌<◌, ◌&&◌, ◌||◌, ◌^◌, ℕ, ◌+◌, ◌-◌, Bool, true, false, not, min}
 use Rattle.std.specs.Prelude.{nat_lt}
 use Rattle.std.specs.Prelude.{List, Option, Some, None, length, slice_index_or, slice_set, if◌then◌else◌}
 use Rattle.std.specs.Option.{option_map, option_map_or}
@@ -8,7 +8,7 @@ use Rattle.sixel_grammar.specs.declared.command.Command.TheVariants.{Sixel, Repe
 use Rattle.sixel_grammar.specs.declared.command.Command.TheVariants.{CarriageReturn, NextLine}
 use Rattle.sixel_grammar.specs.declared.command.Event.{Event}
 use Rattle.sixel_grammar.specs.declared.command.Event.TheVariants.{Start, Step, Finish}
-use Rattle.sixel_model.specs.Events.{is_data_command, named_by, raster_of}
+use Rattle.sixel_model.specs.Events.{is_data_command, named_by}
 use Rattle.sixel_models.specs.declared.reading.Reads.{Reads}
 use Rattle.sixel_models.specs.declared.reading.Reads.TheVariants.{Nothing, Draws, Unsaid}
 use Rattle.sixel_models.specs.Places.{IsPlaceAfter}

@@ -86,6 +86,10 @@ placed_at place e = record { place = place; event = e }
 abbrev pub waiting_in : {R : Type 0} → Modelled R → List Placed
 waiting_in w = option_to_list (option_map (placed_at w.place) w.waiting.pending)
 
+-- the same, but this event waits, with this offset
+abbrev pub with_waiting : {R : Type 0} → Modelled R → ℕ → Event → Modelled R
+with_waiting w place e = record w { waiting = record w.waiting { pending = Some e }; place = place }
+
 -- these events were taken, and `opening` was drawn first: those before the one that waits were read, and the model has
 -- come to their end, whatever comes later
 pub record HasFollowed {R : Type 0} (m : Model) (has_seen : R → List Event → Type 0) (w : Modelled R)

@@ -1,4 +1,4 @@
-//! Reads a document from a source, and draws what a model makes of it, or measures it for konsole.
+//! Reads a document, and draws what a model makes of it.
 
 ghost use Rattle.std.specs.Prelude.{◌≡◌, ◌≢◌, [], Err, IfErr, IfOk, IfSome, List};
 ghost use Rattle.sixel_grammar.specs.declared.command.Event.{Event as AnEvent};
@@ -7,13 +7,11 @@ ghost use Rattle.sixel_grammar.specs.declared.fault.InputFault.TheVariants.{Read
 ghost use Rattle.sixel_grammar.specs.Document.{Document, events_of};
 ghost use Rattle.sixel_grammar.specs.Faults.{IsFaultOf};
 ghost use Rattle.sixel_grammar.specs.Reading.{Explains, NoFaultBefore, failures_after};
-ghost use Rattle.sixel_models.specs.Konsole.{konsole_opening};
-ghost use Rattle.sixel_models.specs.Modelled.{HasFollowed, ModelGives, opening_of};
+ghost use Rattle.sixel_models.specs.Modelled.{HasFollowed, ModelGives};
 
-use crate::measuring::Measuring;
 use crate::modelled::Modelled;
 use crate::reading::Reading;
-use sixel_grammar::{Command, Fault, InputFault, follow_document, follow_source};
+use sixel_grammar::{Fault, InputFault, follow_document, follow_source};
 use sixel_io::{PIECE, Source};
 use sixel_terminal::Drawing;
 
@@ -50,22 +48,4 @@ pub(crate) fn draw_bytes<R: Reading + Drop>(
 {
     follow_document(bytes, &mut modelled)?;
     Ok(modelled.finish())
-}
-
-/// Reads the source to its end. Gives what konsole draws before the first event of its document.
-pub fn measure_konsole<S: Source>(
-    input: &mut S,
-    piece: &mut [u8; PIECE],
-) -> Result<Option<Command>, InputFault>
-    ensures gives { IfOk result (λ opening. IfSome (S.state input.old).remaining (λ bytes.
-        (placed : List Place) × Document placed bytes × (opening_of opening ≡ konsole_opening (events_of placed)))) }
-    ensures refused { IfErr result (λ fault. IfSome (S.state input.old).remaining (Explains fault)) }
-    ensures failures { (S.state input.new).failures ≡ failures_after result (S.state input.old).failures }
-    ensures unread { result ≡ Err ReadFault →
-        IfSome (S.state input.old).remaining (NoFaultBefore (S.state input.new).remaining) }
-    ensures memory { result ≢ Err InputFault.OutOfMemory }
-{
-    let mut measuring = Measuring::new();
-    follow_source(input, piece, &mut measuring)?;
-    Ok(measuring.finish())
 }

@@ -13,7 +13,7 @@ ghost use Rattle.sixel_models.specs.FootSeen.{HasSeenFoot};
 use crate::foot::colours::Colours;
 use crate::foot::size::Growing;
 use crate::reading::{Reading, Reads};
-use crate::words::{defining, has_painting, is_painting, kept};
+use crate::words::{defining, has_painting, is_painting, is_raster, kept};
 use sixel_grammar::{Command, Event};
 use sixel_model::BAND_ROWS;
 use std::alloc::{AllocError, Global};
@@ -96,6 +96,7 @@ impl Foot {
         }
     }
 
+    #[inline(always)]
     fn read_select(&self, register: u16) -> Reads
         ensures { (before : List AnEvent) → HasSeenFoot self.now before → result ≡ foot_select before register }
     {
@@ -105,6 +106,7 @@ impl Foot {
         }
     }
 
+    #[inline(always)]
     fn read_data(&self, command: Command, count: u16, bits: u8) -> Reads
         ensures { (before : List AnEvent) → HasSeenFoot self.now before
             → result ≡ foot_data before command count bits }
@@ -113,6 +115,7 @@ impl Foot {
     }
 
     /// What it makes of the event.
+    #[inline(always)]
     fn read_event(&self, event: &Event, next: Option<&Event>) -> Reads
         ensures { (before : List AnEvent) → HasSeenFoot self.now before
             → result ≡ foot before event.now (option_map (λ e. e.now) next.entry) }
@@ -139,6 +142,7 @@ impl Foot {
     }
 
     /// Notes one more event.
+    #[inline(always)]
     fn note(&mut self, event: &Event)
         ensures { (before : List AnEvent) → HasSeenFoot self.old before
             → HasSeenFoot self.new (before ++ event.now ∷ []) }
@@ -154,10 +158,15 @@ impl Reading for Foot {
 
     ghost has_seen = { HasSeenFoot };
 
+    #[inline(always)]
     fn read(&mut self, event: &Event, next: Option<&Event>) -> Reads {
         let reads = self.read_event(event, next);
         self.note(event);
         reads
+    }
+
+    fn waits(&self, event: &Event) -> bool {
+        is_raster(event)
     }
 
     fn plain_sixels(&self) -> usize {

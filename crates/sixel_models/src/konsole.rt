@@ -1,7 +1,7 @@
 //! What konsole makes of the events of a string.
 
-ghost use Rattle.std.specs.Prelude.{◌≡◌, ◌==◌, ◌<◌, ◌&&◌, ◌||◌, ◌++◌, ◌∷◌, [], ℕ, List, Some, false, is_none, length};
-ghost use Rattle.std.specs.Prelude.{not, true};
+ghost use Rattle.std.specs.Prelude.{◌≡◌, ◌==◌, ◌<◌, ◌&&◌, ◌||◌, ◌++◌, ◌∷◌, [], ℕ, List, None, Option, Some, false};
+ghost use Rattle.std.specs.Prelude.{is_none, length, not, true};
 ghost use Rattle.std.specs.Option.{option_map};
 ghost use Rattle.sixel_grammar.specs.declared.command.Event.{Event as AnEvent};
 ghost use Rattle.sixel_grammar.specs.declared.command.Event.TheVariants.{Step as AStep};
@@ -59,6 +59,14 @@ fn drops(next: Option<&Event>) -> bool
         Some(event) => moves_or_ends(event),
         None => false,
     }
+}
+
+/// Whether what it makes of the event hangs on the one after it.
+pub(crate) fn waits(event: &Event) -> bool
+    ensures { result ≡ false → (before : List AnEvent) (next : Option AnEvent)
+        → rule.konsole before event.now next ≡ rule.konsole before event.now None }
+{
+    named_by(event).is_some() || is_raster(event)
 }
 
 /// Whether it is a definition in a colour system but 1 and 2.
@@ -137,6 +145,7 @@ impl Konsole {
     }
 
     /// Whether the picture has begun, if the event after drops raster attributes or doesn't.
+    #[inline(always)]
     pub(crate) fn has_begun(&self, dropped: bool) -> bool
         ensures { result ≡ begun_in self.now dropped }
     {
@@ -144,6 +153,7 @@ impl Konsole {
     }
 
     /// The raster attributes that count, if the event after drops raster attributes or doesn't.
+    #[inline(always)]
     pub(crate) fn counting(&self, dropped: bool) -> Option<Stated>
         ensures { option_map said result ≡ counting_in self.now dropped }
     {
@@ -155,6 +165,7 @@ impl Konsole {
     }
 
     /// What raster attributes say that may count, unless the event after drops them.
+    #[inline(always)]
     fn may_count(&self, event: &Event) -> Option<Stated>
         ensures { option_map said result ≡ may_count_in self.now event.now }
     {
@@ -177,6 +188,7 @@ impl Konsole {
     }
 
     /// What it makes of raster attributes.
+    #[inline(always)]
     fn raster(&self, dropped: bool, stated: Stated) -> Reads
         ensures { result ≡ rule.konsole_raster self.now.stuck
             (not ((stated.width == 0) || (dropped || self.now.has_late)) && is_none (counting_in self.now false))
@@ -196,6 +208,7 @@ impl Konsole {
     }
 
     /// What it makes of a sixel or a repeat.
+    #[inline(always)]
     fn data(&self, command: Command) -> Reads
         ensures { result ≡ rule.konsole_data self.now.stuck command }
     {
@@ -207,6 +220,7 @@ impl Konsole {
     }
 
     /// What it makes of a return or a new line.
+    #[inline(always)]
     fn go(&self, command: Command) -> Reads
         ensures { result ≡ rule.konsole_move (begun_in self.now true) command }
     {
@@ -218,6 +232,7 @@ impl Konsole {
     }
 
     /// What it makes of a command, if the event after drops or doesn't.
+    #[inline(always)]
     fn command(&self, dropped: bool, command: Command) -> Reads
         ensures { result ≡ konsole_in self.now dropped (AStep command) }
     {
@@ -254,6 +269,7 @@ impl Konsole {
     }
 
     /// What it makes of a select.
+    #[inline(always)]
     fn select(&self, dropped: bool, register: u16) -> Reads
         ensures { result ≡ rule.konsole_select (dropped || self.now.stuck) register }
     {
@@ -265,6 +281,7 @@ impl Konsole {
     }
 
     /// What it makes of an event.
+    #[inline(always)]
     fn reads(&self, event: &Event, dropped: bool) -> Reads
         ensures { result ≡ konsole_in self.now dropped event.now }
     {
@@ -275,6 +292,7 @@ impl Konsole {
     }
 
     /// Notes one more event.
+    #[inline(always)]
     fn see(&mut self, event: &Event)
         ensures { (before : List AnEvent) → HasSeenKonsole self.old before
             → HasSeenKonsole self.new (before ++ event.now ∷ []) }
@@ -291,6 +309,7 @@ impl Konsole {
     }
 
     /// What it notes of one sixel or more.
+    #[inline(always)]
     fn after_sixels(&self) -> Konsole
         ensures { (before : List AnEvent) (bytes : List ℕ) → 0 < length bytes → HasSeenKonsole self.now before
             → HasSeenKonsole result (before ++ sixels_of bytes) }
@@ -306,6 +325,7 @@ impl Konsole {
     }
 
     /// Whether all is dropped after the event.
+    #[inline(always)]
     fn gets_stuck(&self, event: &Event) -> bool
         ensures { result ≡ next_stuck self.now event.now }
     {
@@ -313,6 +333,7 @@ impl Konsole {
     }
 
     /// Whether a select, a definition or a data command came, this event included.
+    #[inline(always)]
     fn gets_late(&self, event: &Event) -> bool
         ensures { result ≡ next_late self.now event.now }
     {
@@ -320,6 +341,7 @@ impl Konsole {
     }
 
     /// Whether the picture has begun with the event, whatever follows.
+    #[inline(always)]
     fn begins(&self, event: &Event) -> bool
         ensures { result ≡ next_begun self.now event.now }
     {
@@ -329,6 +351,7 @@ impl Konsole {
     }
 
     /// Whether it is raster attributes that begin the picture, unless what follows drops them.
+    #[inline(always)]
     fn declares(&self, event: &Event) -> bool
         ensures { result ≡ next_declares self.now event.now }
     {
@@ -341,10 +364,15 @@ impl Reading for Konsole {
 
     ghost has_seen = { HasSeenKonsole };
 
+    #[inline(always)]
     fn read(&mut self, event: &Event, next: Option<&Event>) -> Reads {
         let reads = self.reads(event, drops(next));
         self.see(event);
         reads
+    }
+
+    fn waits(&self, event: &Event) -> bool {
+        waits(event)
     }
 
     fn plain_sixels(&self) -> usize {

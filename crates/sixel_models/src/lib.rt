@@ -25,7 +25,7 @@ mod xterm;
 pub use at_once::show_at_once;
 pub use begun::{as_foot, as_konsole, as_mlterm, as_xterm};
 pub use course::Course;
-pub use documents::{draw, measure_konsole};
+pub use documents::draw;
 pub use foot::Foot;
 pub use konsole::Konsole;
 pub use measuring::Measuring;

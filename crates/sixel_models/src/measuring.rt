@@ -1,11 +1,10 @@
 //! Measures the rectangle that konsole fills, while a document is read.
 
-ghost use Rattle.std.specs.Prelude.{◌≡◌, ◌<◌, ◌-◌, ◌++◌, ◌∷◌, [], ℕ, IsTrue, List, Some, length, slice_index};
+ghost use Rattle.std.specs.Prelude.{◌≡◌, ◌<◌, ◌++◌, ◌∷◌, [], ℕ, IsTrue, List, None, Some, length};
+ghost use Rattle.std.specs.Prelude.{slice_index};
 ghost use Rattle.std.specs.Option.{option_map, option_to_list};
 ghost use Rattle.sixel_grammar.specs.Bytes.{is_data};
-ghost use Rattle.sixel_grammar.specs.declared.command.Command.TheVariants.{Sixel};
 ghost use Rattle.sixel_grammar.specs.declared.command.Event.{Event as AnEvent};
-ghost use Rattle.sixel_grammar.specs.declared.command.Event.TheVariants.{Step as AStep};
 ghost use Rattle.sixel_terminal.specs.Stretches.{sixels_of};
 ghost use Rattle.sixel_models.specs.Konsole.{konsole_opening};
 ghost use Rattle.sixel_models.specs.KonsoleMeasured.{HasMeasured};
@@ -13,6 +12,7 @@ ghost use Rattle.sixel_models.specs.Measuring.{HasTakenAll, HasTakenOn, Measures
 ghost use Rattle.sixel_models.specs.Modelled.{opening_of};
 ghost use Rattle.sixel_models.specs.Named.{model_of};
 
+use crate::konsole::waits;
 use crate::modelled::{same, sixel};
 use crate::named::Named;
 use crate::rectangle::KonsoleMeasure;
@@ -38,25 +38,72 @@ impl Measuring {
     }
 
     /// Measures the event that waits, if there is one. `next` is the one after it, if there is one.
+    #[inline(always)]
     fn read_last(&mut self, next: Option<&Event>)
         ensures pending { self.new.pending ≡ self.old.pending }
         ensures measures { (read : List AnEvent) → MeasuresBefore self.old.measure read self.old.pending
             → HasMeasured self.new.measure (read ++ option_to_list self.old.pending)
             (option_map (λ e. e.now) next.entry) }
     {
-        if let Some(last) = &self.pending {
-            self.measure.take(last, next);
+        match &self.pending {
+            Some(Event::Step(Command::Select(register))) => {
+                let last = Event::Step(Command::Select(*register));
+                self.measure.take(&last, next);
+            }
+            Some(last) => self.measure.take(last, next),
+            None => {}
         }
     }
 
-    /// Takes the event that comes next, and measures the one before it.
+    /// The same. None waits then.
+    #[inline(never)]
+    fn settle_waiting(&mut self, next: Option<&Event>)
+        ensures pending { self.new.pending ≡ None }
+        ensures measures { (read : List AnEvent) → MeasuresBefore self.old.measure read self.old.pending
+            → HasMeasured self.new.measure (read ++ option_to_list self.old.pending)
+            (option_map (λ e. e.now) next.entry) }
+    {
+        self.read_last(next);
+        self.pending = None;
+    }
+
+    /// The same, and fast if none waits. `next` comes after it.
+    #[inline(always)]
+    fn settle(&mut self, next: &Event)
+        ensures pending { self.new.pending ≡ None }
+        ensures measures { (before : List AnEvent) → HasTakenAll self.old before
+            → HasMeasured self.new.measure before (Some next.now) }
+    {
+        match &self.pending {
+            Some(_) => self.settle_waiting(Some(next)),
+            None => {}
+        }
+    }
+
+    /// Takes the event that comes next, where none waits.
+    #[inline(always)]
+    fn add(&mut self, event: Event)
+        requires { self.old.pending ≡ None }
+        ensures { (before : List AnEvent) → HasMeasured self.old.measure before (Some event)
+            → HasTakenAll self.new (before ++ event ∷ []) }
+    {
+        if waits(&event) {
+            self.pending = Some(event);
+        } else {
+            self.measure.take_alone(&event);
+        }
+    }
+
+    /// Takes the event that comes next.
+    ///
+    /// It is inlined, so that a caller that knows the kind of the event keeps only the code for that kind.
+    #[inline(always)]
     fn push(&mut self, event: Event)
-        ensures waits { self.new.pending ≡ Some event }
         ensures taken { (before : List AnEvent) → HasTakenAll self.old before
             → HasTakenAll self.new (before ++ event ∷ []) }
     {
-        self.read_last(Some(&event));
-        self.pending = Some(event);
+        self.settle(&event);
+        self.add(event);
     }
 
     /// Takes the sixels of these data bytes, in order.
@@ -65,35 +112,17 @@ impl Measuring {
         ensures { (before : List AnEvent) → HasTakenAll self.old before
             → HasTakenAll self.new (before ++ sixels_of bytes.now) }
     {
-        if bytes.is_empty() {
-            return;
+        if !bytes.is_empty() {
+            self.settle(&sixel(bytes[0]));
+            self.measure.take_sixels(bytes);
         }
-        self.push(sixel(bytes[0]));
-        self.push_more(bytes);
-    }
-
-    /// Takes the sixels of these data bytes, of which the first was taken last.
-    fn push_more(&mut self, bytes: &[u8])
-        requires sixels { (k : ℕ) → k < length bytes.now → IsTrue (is_data (slice_index bytes.now k)) }
-        requires some { 0 < length bytes.now }
-        requires waits { self.old.pending ≡ Some (AStep (Sixel (slice_index bytes.now 0 - 63))) }
-        ensures { (before : List AnEvent)
-            → HasTakenAll self.old (before ++ AStep (Sixel (slice_index bytes.now 0 - 63)) ∷ [])
-            → HasTakenAll self.new (before ++ sixels_of bytes.now) }
-    {
-        let last = bytes.len() - 1;
-        if last == 0 {
-            return;
-        }
-        self.measure.take_sixels(&bytes[..last]);
-        self.pending = Some(sixel(bytes[last]));
     }
 
     /// What konsole draws before the first event, by all events.
     pub fn finish(mut self) -> Option<Command>
         ensures { (events : List AnEvent) → HasTakenAll self events → opening_of result ≡ konsole_opening events }
     {
-        self.read_last(None);
+        self.settle_waiting(None);
         self.measure.opening()
     }
 }

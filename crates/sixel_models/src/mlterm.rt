@@ -145,6 +145,7 @@ impl MlTerm {
     }
 
     /// The width and the height of the box; 0 without one.
+    #[inline(always)]
     fn box_sides(&self) -> (u16, u16)
         ensures { result ≡ (rule.width_of (stored_box self.now), rule.height_of (stored_box self.now)) }
     {
@@ -155,6 +156,7 @@ impl MlTerm {
     }
 
     /// Whether a data command here ends right of the box.
+    #[inline(always)]
     fn ends_right(&self, event: &Event) -> bool
         ensures { result ≡ rule.ends_right (stored_box self.now) self.now.place.column event.now }
     {
@@ -163,6 +165,7 @@ impl MlTerm {
     }
 
     /// Whether the band is below the box.
+    #[inline(always)]
     fn is_below(&self) -> bool
         ensures { result ≡ rule.is_below (stored_box self.now) self.now.place.band }
     {
@@ -171,6 +174,7 @@ impl MlTerm {
     }
 
     /// Notes whether a data command leaves the box.
+    #[inline(always)]
     fn leave(&mut self, event: &Event)
         ensures { self.new ≡ record self.old { has_left = next_left self.old event.now } }
     {
@@ -180,6 +184,7 @@ impl MlTerm {
     }
 
     /// Notes the width of raster attributes.
+    #[inline(always)]
     fn widen(&mut self, event: &Event)
         ensures { self.new ≡ record self.old { widest = next_widest self.old event.now } }
     {
@@ -187,6 +192,7 @@ impl MlTerm {
     }
 
     /// Notes a data command.
+    #[inline(always)]
     fn pass(&mut self, event: &Event)
         ensures { self.new ≡ record self.old { has_data = next_data self.old event.now } }
     {
@@ -204,6 +210,7 @@ impl MlTerm {
     }
 
     /// Notes the register that the event names, and whether it gives that a colour.
+    #[inline(always)]
     fn name(&mut self, event: &Event)
         ensures { self.new ≡ record self.old {
           selected = next_selected self.old event.now;
@@ -219,6 +226,7 @@ impl MlTerm {
     }
 
     /// Whether the model doesn't say what mlterm does at a data command.
+    #[inline(always)]
     fn is_unsaid_data(&self, event: &Event) -> bool
         ensures { result ≡ rule.is_unsaid_data (stored_box self.now) self.now.has_left self.now.place.column
             self.now.place.band self.now.selected (slice_index_or self.now.coloured self.now.selected false)
@@ -232,6 +240,7 @@ impl MlTerm {
     }
 
     /// What it makes of a sixel or a repeat.
+    #[inline(always)]
     fn data(&self, command: Command) -> Reads
         ensures { result ≡ data_in self.now command }
     {
@@ -243,6 +252,7 @@ impl MlTerm {
     }
 
     /// What it makes of a command.
+    #[inline(always)]
     fn command(&self, command: Command) -> Reads
         ensures { result ≡ mlterm_in self.now (AStep command) }
     {
@@ -270,6 +280,7 @@ impl MlTerm {
     }
 
     /// What it makes of an event.
+    #[inline(always)]
     fn reads(&self, event: &Event) -> Reads
         ensures { result ≡ mlterm_in self.now event.now }
     {
@@ -281,6 +292,7 @@ impl MlTerm {
     }
 
     /// Notes one more event.
+    #[inline(always)]
     fn see(&mut self, event: &Event)
         ensures { (before : List AnEvent) → HasSeenMlTerm self.old before
             → HasSeenMlTerm self.new (before ++ event.now ∷ []) }
@@ -294,6 +306,7 @@ impl MlTerm {
     }
 
     /// Up to how many columns further right it is said what it paints, if a sixel here is said.
+    #[inline(always)]
     fn columns_said(&self) -> usize
         ensures { result ≡ columns_said (stored_box self.now) self.now.place.column }
     {
@@ -303,6 +316,7 @@ impl MlTerm {
     }
 
     /// Notes so many sixels.
+    #[inline(always)]
     fn see_sixels(&mut self, count: usize)
         ensures { (before : List AnEvent) (bytes : List ℕ) → length bytes ≡ count → HasSeenMlTerm self.old before
             → HasSeenMlTerm self.new (before ++ sixels_of bytes) }
@@ -315,6 +329,7 @@ impl MlTerm {
     }
 
     /// Whether so many sixels end right of the box.
+    #[inline(always)]
     fn is_right_after(&self, count: usize) -> bool
         ensures { result ≡ nat_lt (rule.width_of (stored_box self.now)) (self.now.place.column + count) }
     {
@@ -323,6 +338,7 @@ impl MlTerm {
     }
 
     /// Whether a data command is past column or row 32,767.
+    #[inline(always)]
     fn is_past_all(&self, event: &Event) -> bool
         ensures { result ≡ rule.is_past_all self.now.place.column self.now.place.band event.now }
     {
@@ -331,6 +347,7 @@ impl MlTerm {
     }
 
     /// Whether it paints more than 512 columns or rows past the box.
+    #[inline(always)]
     fn is_far(&self, event: &Event) -> bool
         ensures { result ≡ rule.is_far (stored_box self.now) self.now.place.column self.now.place.band event.now }
     {
@@ -342,6 +359,7 @@ impl MlTerm {
     }
 
     /// Whether a definition gave the selected register a colour.
+    #[inline(always)]
     fn has_colour(&self) -> bool
         ensures { result ≡ slice_index_or self.now.coloured self.now.selected false }
     {
@@ -352,6 +370,7 @@ impl MlTerm {
     }
 
     /// Whether it paints in a register above 255 without a colour.
+    #[inline(always)]
     fn is_chance(&self, event: &Event) -> bool
         ensures { result ≡ rule.is_chance self.now.selected
             (slice_index_or self.now.coloured self.now.selected false) event.now }
@@ -360,6 +379,7 @@ impl MlTerm {
     }
 
     /// Whether it is the first that leaves the box, right of it and below it.
+    #[inline(always)]
     fn is_corner(&self, event: &Event) -> bool
         ensures { result ≡ rule.is_corner (stored_box self.now) self.now.has_left self.now.place.column
             self.now.place.band event.now }
@@ -373,10 +393,15 @@ impl Reading for MlTerm {
 
     ghost has_seen = { HasSeenMlTerm };
 
+    #[inline(always)]
     fn read(&mut self, event: &Event, _next: Option<&Event>) -> Reads {
         let reads = self.reads(event);
         self.see(event);
         reads
+    }
+
+    fn waits(&self, _event: &Event) -> bool {
+        false
     }
 
     fn plain_sixels(&self) -> usize {

@@ -1,7 +1,7 @@
 //! Draws what a model makes of a document, while the document is read.
 
-ghost use Rattle.std.specs.Prelude.{◌≡◌, ◌<◌, ◌≤◌, ◌+◌, ◌-◌, ◌++◌, ◌∷◌, [], ℕ, IfOk, IsTrue, List, Some, length};
-ghost use Rattle.std.specs.Prelude.{slice_index, take};
+ghost use Rattle.std.specs.Prelude.{◌≡◌, ◌<◌, ◌≤◌, ◌+◌, ◌-◌, ◌++◌, ◌∷◌, [], ℕ, IfOk, IsTrue, List, None, Option};
+ghost use Rattle.std.specs.Prelude.{Some, length, slice_index, take};
 ghost use Rattle.sixel_grammar.specs.Bytes.{is_data};
 ghost use Rattle.sixel_grammar.specs.Document.{most_bytes};
 ghost use Rattle.sixel_grammar.specs.Stretches.{sixels_from};
@@ -11,7 +11,7 @@ ghost use Rattle.sixel_grammar.specs.declared.command.Event.TheVariants.{Step};
 ghost use Rattle.sixel_grammar.specs.declared.command.Placed.{Placed as Place};
 ghost use Rattle.sixel_terminal.specs.Drawings.{HasDrawn};
 ghost use Rattle.sixel_models.specs.Modelled.{AreUnsaidBy, HasFollowed, HasFollowedOn, ModelGives, opening_of};
-ghost use Rattle.sixel_models.specs.Modelled.{placed_at};
+ghost use Rattle.sixel_models.specs.Modelled.{placed_at, with_waiting};
 ghost use Rattle.sixel_models.specs.Readings.{Model as AModel, is_unsaid_control};
 
 use crate::progress::Progress;
@@ -48,7 +48,7 @@ impl UnsaidControls {
 #[derive(Debug, Drop)]
 pub struct Modelled<R> {
     waiting: Waiting<R>,
-    /// The offset of the event that waits. 0 if none does.
+    /// The offset of the event that waits, if one does.
     place: u64,
     progress: Progress,
     controls: UnsaidControls,
@@ -116,19 +116,85 @@ impl<R: Reading> Modelled<R> {
         }
     }
 
-    /// Takes the event that comes next, with its offset, and reads the one before it.
+    /// Reads the event that waits, if there is one. `next` comes after it. None waits then.
+    #[inline(never)]
+    fn settle_waiting(&mut self, next: &Event)
+        ensures terminal { self.new.progress.drawing.terminal ≡ self.old.progress.drawing.terminal }
+        ensures pending { self.new.waiting.pending ≡ None }
+        ensures followed { (opening : List AnEvent) (before : List Place) (place : ℕ)
+            → HasFollowed R.model R.has_seen self.old opening before
+            → HasFollowed R.model R.has_seen (with_waiting self.new place next.now) opening
+            (before ++ placed_at place next.now ∷ []) }
+    {
+        let is_unsaid = self.waits_at_unsaid();
+        let reads = self.waiting.settle(Some(next));
+        self.progress.read_one(self.place, is_unsaid, reads);
+    }
+
+    /// The same, and fast if none waits.
+    #[inline(always)]
+    fn settle(&mut self, next: &Event)
+        ensures terminal { self.new.progress.drawing.terminal ≡ self.old.progress.drawing.terminal }
+        ensures pending { self.new.waiting.pending ≡ None }
+        ensures followed { (opening : List AnEvent) (before : List Place) (place : ℕ)
+            → HasFollowed R.model R.has_seen self.old opening before
+            → HasFollowed R.model R.has_seen (with_waiting self.new place next.now) opening
+            (before ++ placed_at place next.now ∷ []) }
+    {
+        match &self.waiting.pending {
+            Some(_) => self.settle_waiting(next),
+            None => {}
+        }
+    }
+
+    /// Reads the event that comes next, with its offset, where none waits. What the terminal makes of it doesn't hang
+    /// on the one after it.
+    #[inline(always)]
+    fn read_now(&mut self, place: u64, event: &Event)
+        requires none { self.old.waiting.pending ≡ None }
+        requires alone { (before : List AnEvent) (next : Option AnEvent)
+            → R.model.rule before event.now next ≡ R.model.rule before event.now None }
+        ensures terminal { self.new.progress.drawing.terminal ≡ self.old.progress.drawing.terminal }
+        ensures followed { (opening : List AnEvent) (before : List Place)
+            → HasFollowed R.model R.has_seen (with_waiting self.old place event.now) opening
+            (before ++ placed_at place event.now ∷ [])
+            → HasFollowed R.model R.has_seen self.new opening (before ++ placed_at place event.now ∷ []) }
+    {
+        let is_unsaid = self.controls.has(event);
+        let reads = self.waiting.reading.read(event, None);
+        self.progress.read(place, is_unsaid, reads);
+    }
+
+    /// Takes the event that comes next, with its offset, where none waits.
+    #[inline(always)]
+    fn add(&mut self, place: u64, event: Event)
+        requires { self.old.waiting.pending ≡ None }
+        ensures terminal { self.new.progress.drawing.terminal ≡ self.old.progress.drawing.terminal }
+        ensures followed { (opening : List AnEvent) (before : List Place)
+            → HasFollowed R.model R.has_seen (with_waiting self.old place event) opening
+            (before ++ placed_at place event ∷ [])
+            → HasFollowed R.model R.has_seen self.new opening (before ++ placed_at place event ∷ []) }
+    {
+        if self.waiting.reading.waits(&event) {
+            self.waiting.pending = Some(event);
+            self.place = place;
+        } else {
+            self.read_now(place, &event);
+        }
+    }
+
+    /// Takes the event that comes next, with its offset.
+    ///
+    /// It is inlined, so that a caller that knows the kind of the event keeps only the code for that kind.
+    #[inline(always)]
     fn push(&mut self, place: u64, event: Event)
         ensures terminal { self.new.progress.drawing.terminal ≡ self.old.progress.drawing.terminal }
-        ensures place { self.new.place ≡ place }
-        ensures waits { self.new.waiting.pending ≡ Some event }
         ensures followed { (opening : List AnEvent) (before : List Place)
             → HasFollowed R.model R.has_seen self.old opening before
             → HasFollowed R.model R.has_seen self.new opening (before ++ placed_at place event ∷ []) }
     {
-        let is_unsaid = self.waits_at_unsaid();
-        let reads = self.waiting.take(event);
-        self.progress.read_one(self.place, is_unsaid, reads);
-        self.place = place;
+        self.settle(&event);
+        self.add(place, event);
     }
 
     /// Takes the first of these sixels, and those after it that are drawn as they are. Gives how many these are.
@@ -142,13 +208,15 @@ impl<R: Reading> Modelled<R> {
             → HasFollowed R.model R.has_seen self.old opening before
             → HasFollowed R.model R.has_seen self.new opening (before ++ sixels_from place (take result bytes.now)) }
     {
-        self.push(place, sixel(bytes[0]));
+        let first = sixel(bytes[0]);
+        self.settle(&first);
         let plain = self.waiting.reading.plain_sixels().min(bytes.len());
         if plain == 0 {
+            self.add(place, first);
             return 1;
         }
         self.progress.read_sixels(&bytes[..plain]);
-        self.waiting.pass(&bytes[..plain]);
+        self.waiting.reading.note_sixels(&bytes[..plain]);
         plain
     }
 
@@ -182,7 +250,7 @@ impl<R: Reading + Drop> Modelled<R> {
             mut progress,
             controls: _,
         } = self;
-        let reads = waiting.finish();
+        let reads = waiting.settle(None);
         progress.read_one(place, is_unsaid, reads);
         progress.finish()
     }

@@ -15,6 +15,7 @@ pub(crate) struct Place {
 }
 
 /// The columns of a repeat. A repeat of 0 has `zero_columns`.
+#[inline(always)]
 fn columns_of(count: u16, zero_columns: u16) -> u16
     ensures { result ≡ (if count == 0 then zero_columns else count) }
 {
@@ -30,6 +31,7 @@ impl Place {
     }
 
     /// The place so many columns further right.
+    #[inline(always)]
     fn right(self, columns: u16) -> Place
         ensures { result ≡ moved columns self }
     {
@@ -40,6 +42,7 @@ impl Place {
     }
 
     /// The place after so many sixels.
+    #[inline(always)]
     pub(crate) fn after_sixels(self, count: usize) -> Place
         ensures { (zero_columns : ℕ) (before : List AnEvent) (bytes : List ℕ) → length bytes ≡ count
             → IsPlaceAfter zero_columns self before
@@ -53,6 +56,7 @@ impl Place {
     }
 
     /// The place after one more event. A repeat of 0 has `zero_columns`.
+    #[inline(always)]
     fn moved_by(self, event: &Event, zero_columns: u16) -> Place
         ensures column { result.column ≡ next_column zero_columns self event.now }
         ensures band { result.band ≡ next_band self event.now }
@@ -72,6 +76,7 @@ impl Place {
     }
 
     /// The place after one more event. A repeat of 0 has `zero_columns`.
+    #[inline(always)]
     pub(crate) fn after(self, event: &Event, zero_columns: u16) -> Place
         ensures { (before : List AnEvent) → IsPlaceAfter zero_columns self before
             → IsPlaceAfter zero_columns result (before ++ event.now ∷ []) }

@@ -37,6 +37,7 @@ fn open(drawing: &mut Drawing, opening: Option<Command>)
 }
 
 /// Draws what a terminal makes of an event.
+#[inline(always)]
 fn draw(drawing: &mut Drawing, reads: Reads)
     ensures terminal { drawing.new.terminal ≡ drawing.old.terminal }
     ensures drawn { (before : List AnEvent) → HasDrawn drawing.old before
@@ -79,6 +80,7 @@ impl Progress {
     }
 
     /// Reads the event with this offset, where the model hasn't ended.
+    #[inline(always)]
     fn go_on(&mut self, place: u64, is_unsaid: bool, reads: Reads)
         ensures terminal { self.new.drawing.terminal ≡ self.old.drawing.terminal }
         ensures come { (m : AModel) (opening : List AnEvent) (placed : List Place) (n : ℕ) (e : AnEvent)
@@ -93,7 +95,10 @@ impl Progress {
 
     /// Reads one more event, one with this offset, of which the terminal makes this. `is_unsaid` tells whether it is an
     /// 8-bit control that the model doesn't say.
-    fn read(&mut self, place: u64, is_unsaid: bool, reads: Reads)
+    ///
+    /// It is inlined, so that a caller that knows the kind of the event keeps only the code for that kind.
+    #[inline(always)]
+    pub(crate) fn read(&mut self, place: u64, is_unsaid: bool, reads: Reads)
         ensures terminal { self.new.drawing.terminal ≡ self.old.drawing.terminal }
         ensures come { (m : AModel) (opening : List AnEvent) (placed : List Place) (n : ℕ) (e : AnEvent)
             → IsAt m (events_of placed) n e reads → is_unsaid ≡ is_unsaid_control m e → HasPlace placed n place
@@ -106,6 +111,7 @@ impl Progress {
     }
 
     /// The same, if an event is read.
+    #[inline(always)]
     pub(crate) fn read_one(&mut self, place: u64, is_unsaid: bool, reads: Option<Reads>)
         ensures terminal { self.new.drawing.terminal ≡ self.old.drawing.terminal }
         ensures none { reads ≡ None → self.new ≡ self.old }
@@ -120,6 +126,7 @@ impl Progress {
     }
 
     /// Reads the sixels of these data bytes, which the terminal draws as they are where the course goes on.
+    #[inline(always)]
     pub(crate) fn read_sixels(&mut self, bytes: &[u8])
         requires { (k : ℕ) → k < length bytes.now → IsTrue (is_data (slice_index bytes.now k)) }
         ensures terminal { self.new.drawing.terminal ≡ self.old.drawing.terminal }

@@ -1,6 +1,7 @@
 //! What a named terminal makes of the events of a string, one by one.
 
-ghost use Rattle.std.specs.Prelude.{◌≡◌, ◌<◌, ◌++◌, ◌∷◌, [], ℕ, IsTrue, List, length, slice_index};
+ghost use Rattle.std.specs.Prelude.{◌≡◌, ◌<◌, ◌++◌, ◌∷◌, [], ℕ, IsTrue, List, None, Option, false, length};
+ghost use Rattle.std.specs.Prelude.{slice_index};
 ghost use Rattle.std.specs.Option.{option_map};
 ghost use Rattle.sixel_grammar.specs.Bytes.{is_data};
 ghost use Rattle.sixel_grammar.specs.declared.command.Event.{Event as AnEvent};
@@ -38,6 +39,11 @@ pub trait Reading {
             → result ≡ model.rule before event.now (option_map (λ e. e.now) next.entry) }
         ensures seen { (before : List AnEvent) → has_seen self.old before
             → has_seen self.new (before ++ event.now ∷ []) };
+
+    /// Whether what it makes of the event hangs on the one after it.
+    fn waits(&self, event: &Event) -> bool
+        ensures { result ≡ false → (before : List AnEvent) (next : Option AnEvent)
+            → model.rule before event.now next ≡ model.rule before event.now None };
 
     /// How many sixels that come next it draws as they are, whatever follows.
     fn plain_sixels(&self) -> usize

@@ -52,6 +52,7 @@ impl Reach {
     }
 
     /// The columns that are reached with one more event, if the next sixel stands in this column then.
+    #[inline(always)]
     fn reached_columns(self, event: &Event, column: u32) -> u32
         ensures { result ≡ reached_columns self event.now column }
     {
@@ -63,6 +64,7 @@ impl Reach {
     }
 
     /// The row where the band ends.
+    #[inline(always)]
     fn band_end(self) -> u32
         ensures { result ≡ min (6 * self.place.band + 6) most }
     {
@@ -73,6 +75,7 @@ impl Reach {
     }
 
     /// The rows that are reached with one more event.
+    #[inline(always)]
     fn reached_rows(self, event: &Event) -> u32
         ensures { result ≡ reached_rows self event.now }
     {
@@ -84,6 +87,7 @@ impl Reach {
     }
 
     /// With so many sixels more, at least one.
+    #[inline(always)]
     fn with_sixels(self, count: usize) -> Reach
         requires { 0 < count }
         ensures { (drawing : List AnEvent) (bytes : List ℕ) → length bytes ≡ count → IsReach self drawing
@@ -98,6 +102,7 @@ impl Reach {
     }
 
     /// With one more command.
+    #[inline(always)]
     fn with(self, command: Command) -> Reach
         ensures { (drawing : List AnEvent) → IsReach self drawing → IsReach result (drawing ++ AStep command ∷ []) }
     {
@@ -111,6 +116,7 @@ impl Reach {
     }
 
     /// With what is drawn of one more event.
+    #[inline(always)]
     fn with_drawn(self, reads: Reads) -> Reach
         ensures { (drawing : List AnEvent) → IsReach self drawing → IsReach result (drawing ++ drawn_by reads) }
     {
@@ -134,6 +140,7 @@ impl KonsoleMeasure {
     }
 
     /// Measures one more event. `next` is the one after it, if there is one.
+    #[inline(always)]
     pub fn take(&mut self, event: &Event, next: Option<&Event>)
         ensures { (before : List AnEvent) → HasMeasured self.old before (Some event.now)
             → HasMeasured self.new (before ++ event.now ∷ []) (option_map (λ e. e.now) next.entry) }
@@ -142,19 +149,33 @@ impl KonsoleMeasure {
         self.reach = self.reach.with_drawn(reads);
     }
 
-    /// Measures the sixels of these data bytes, at least one. Another sixel comes after them.
+    /// The same, whatever follows: what konsole makes of the event doesn't hang on the one after it.
+    #[inline(always)]
+    pub(crate) fn take_alone(&mut self, event: &Event)
+        requires { (before : List AnEvent) (next : Option AnEvent)
+            → rule.konsole before event.now next ≡ rule.konsole before event.now None }
+        ensures { (before : List AnEvent) (next : Option AnEvent) → HasMeasured self.old before (Some event.now)
+            → HasMeasured self.new (before ++ event.now ∷ []) next }
+    {
+        let reads = self.reading.read(event, None);
+        self.reach = self.reach.with_drawn(reads);
+    }
+
+    /// Measures the sixels of these data bytes, at least one, whatever follows.
+    #[inline(always)]
     pub fn take_sixels(&mut self, bytes: &[u8])
         requires sixels { (k : ℕ) → k < length bytes.now → IsTrue (is_data (slice_index bytes.now k)) }
         requires some { 0 < length bytes.now }
-        ensures { (before : List AnEvent) (last : ℕ)
+        ensures { (before : List AnEvent) (next : Option AnEvent)
             → HasMeasured self.old before (Some (AStep (Sixel (slice_index bytes.now 0 - 63))))
-            → HasMeasured self.new (before ++ sixels_of bytes.now) (Some (AStep (Sixel last))) }
+            → HasMeasured self.new (before ++ sixels_of bytes.now) next }
     {
         self.reach = self.reach_after(bytes.len());
         self.reading.note_sixels(bytes);
     }
 
     /// How far so many sixels more reach, at least one.
+    #[inline(always)]
     fn reach_after(&self, count: usize) -> Reach
         requires { 0 < count }
         ensures { (drawing : List AnEvent) (bytes : List ℕ) → length bytes ≡ count → IsReach self.now.reach drawing

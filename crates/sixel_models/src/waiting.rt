@@ -1,13 +1,11 @@
 //! Reads events once the one after them is known.
 
-ghost use Rattle.std.specs.Prelude.{◌≡◌, ◌<◌, ◌++◌, ℕ, IsTrue, None, Some, List, length, slice_index};
+ghost use Rattle.std.specs.Prelude.{◌≡◌, ◌++◌, None, List};
 ghost use Rattle.std.specs.Option.{option_map, option_to_list};
-ghost use Rattle.sixel_grammar.specs.Bytes.{is_data};
 ghost use Rattle.sixel_grammar.specs.declared.command.Event.{Event as AnEvent};
-ghost use Rattle.sixel_terminal.specs.Stretches.{sixels_of};
 
 use crate::reading::{Reading, Reads};
-use sixel_grammar::Event;
+use sixel_grammar::{Command, Event};
 
 /// A reading, and the event that it reads next, once the one after it has come.
 #[derive(Debug, Drop)]
@@ -28,43 +26,23 @@ impl<R: Reading> Waiting<R> {
         }
     }
 
-    /// Takes the next event. Gives what the terminal makes of the one before it, if there is one.
-    pub fn take(&mut self, event: Event) -> Option<Reads>
+    /// Gives what the terminal makes of the event that waits, if there is one. `next` is the one after it, if there is
+    /// one. None waits then.
+    #[inline(always)]
+    pub fn settle(&mut self, next: Option<&Event>) -> Option<Reads>
         ensures reads { (before : List AnEvent) → R.has_seen self.old.reading before
-            → result ≡ option_map (λ last. R.model.rule before last (Some event)) self.old.pending }
-        ensures seen { (before : List AnEvent) → R.has_seen self.old.reading before
-            → R.has_seen self.new.reading (before ++ option_to_list self.old.pending) }
-        ensures pending { self.new.pending ≡ Some event }
-    {
-        let reads = match &self.pending {
-            Some(last) => Some(self.reading.read(last, Some(&event))),
-            None => None,
-        };
-        self.pending = Some(event);
-        reads
-    }
-
-    /// Reads the sixels of these data bytes, in place of the event that waits. None waits then.
-    pub fn pass(&mut self, bytes: &[u8])
-        requires { (k : ℕ) → k < length bytes.now → IsTrue (is_data (slice_index bytes.now k)) }
-        ensures seen { (before : List AnEvent) → R.has_seen self.old.reading before
-            → R.has_seen self.new.reading (before ++ sixels_of bytes.now) }
-        ensures pending { self.new.pending ≡ None }
-    {
-        self.reading.note_sixels(bytes);
-        self.pending = None;
-    }
-
-    /// Gives what the terminal makes of the last event, if there is one.
-    pub fn finish(&mut self) -> Option<Reads>
-        ensures reads { (before : List AnEvent) → R.has_seen self.old.reading before
-            → result ≡ option_map (λ last. R.model.rule before last None) self.old.pending }
+            → result ≡ option_map (λ last. R.model.rule before last (option_map (λ e. e.now) next.entry))
+            self.old.pending }
         ensures seen { (before : List AnEvent) → R.has_seen self.old.reading before
             → R.has_seen self.new.reading (before ++ option_to_list self.old.pending) }
         ensures pending { self.new.pending ≡ None }
     {
         let reads = match &self.pending {
-            Some(last) => Some(self.reading.read(last, None)),
+            Some(Event::Step(Command::Select(register))) => {
+                let last = Event::Step(Command::Select(*register));
+                Some(self.reading.read(&last, next))
+            }
+            Some(last) => Some(self.reading.read(last, next)),
             None => None,
         };
         self.pending = None;

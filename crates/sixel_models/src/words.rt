@@ -12,6 +12,7 @@ use sixel_grammar::{Command, Event};
 use sixel_model::{BAND_ROWS, Colour, Parts};
 
 /// The second parameter, if the event is an introducer. 0 if the parameter is missing.
+#[inline(always)]
 pub(crate) fn second_of(event: &Event) -> Option<u16>
     ensures { result ≡ second_of event.now }
 {
@@ -22,6 +23,7 @@ pub(crate) fn second_of(event: &Event) -> Option<u16>
 }
 
 /// The colour of a definition, each coordinate moved to the nearest value in range. There are two colour systems.
+#[inline(always)]
 pub(crate) fn nearest(system: u16, x: u16, y: u16, z: u16) -> Option<Colour>
     ensures { result ≡ nearest system x y z }
 {
@@ -34,6 +36,7 @@ pub(crate) fn nearest(system: u16, x: u16, y: u16, z: u16) -> Option<Colour>
 }
 
 /// The definition of a register that gives it this colour.
+#[inline(always)]
 pub(crate) fn defining(register: u16, colour: Colour) -> Command
     ensures { result ≡ defining_command register colour }
 {
@@ -59,6 +62,7 @@ pub(crate) fn upper(rows: u32, bits: u8) -> u8
 
 /// What is kept of a data command of so many columns with these bits where so many columns and rows are left: the
 /// command itself, if nothing is cut off.
+#[inline(always)]
 pub(crate) fn kept(columns: u16, rows: u32, command: Command, count: u16, bits: u8) -> Command
     ensures { result ≡ kept_command columns rows command count bits }
 {
@@ -73,6 +77,7 @@ pub(crate) fn kept(columns: u16, rows: u32, command: Command, count: u16, bits: 
 }
 
 /// Whether it is a sixel or a repeat.
+#[inline(always)]
 pub(crate) fn is_data_command(event: &Event) -> bool
     ensures { result ≡ said.is_data_command event.now }
 {
@@ -83,6 +88,7 @@ pub(crate) fn is_data_command(event: &Event) -> bool
 }
 
 /// Whether it is a sixel or a repeat with at least one of the six bits set.
+#[inline(always)]
 pub(crate) fn is_painting(event: &Event) -> bool
     ensures { result ≡ said.is_painting event.now }
 {
@@ -93,6 +99,7 @@ pub(crate) fn is_painting(event: &Event) -> bool
 }
 
 /// How many columns a data command has; 0 for any other event.
+#[inline(always)]
 pub(crate) fn columns_of(event: &Event) -> u16
     ensures { result ≡ said.columns_of 0 event.now }
 {
@@ -104,6 +111,7 @@ pub(crate) fn columns_of(event: &Event) -> u16
 }
 
 /// Whether it is raster attributes.
+#[inline(always)]
 pub(crate) fn is_raster(event: &Event) -> bool
     ensures { result ≡ is_some (said.raster_of event.now) }
 {
@@ -111,6 +119,7 @@ pub(crate) fn is_raster(event: &Event) -> bool
 }
 
 /// The register that a select or a definition names.
+#[inline(always)]
 pub(crate) fn named_by(event: &Event) -> Option<u16>
     ensures { result ≡ said.named_by event.now }
 {
@@ -129,6 +138,7 @@ pub(crate) fn is_repeat_of_zero(event: &Event) -> bool
 }
 
 /// Whether it goes to the left margin, in the same band or the next.
+#[inline(always)]
 pub(crate) fn is_return(event: &Event) -> bool
     ensures { result ≡ said.is_return event.now }
 {

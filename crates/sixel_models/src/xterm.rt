@@ -108,6 +108,7 @@ fn read_definition(register: u16, system: u16, x: u16, y: u16, z: u16) -> Reads
     })
 }
 
+#[inline(always)]
 fn read_select(register: u16) -> Reads
     ensures { result ≡ xterm_select register }
 {
@@ -153,6 +154,7 @@ impl XTerm {
     }
 
     /// Whether a data command fills the box.
+    #[inline(always)]
     fn fills(&self) -> bool
         ensures { (before : List AnEvent) → HasSeenXTerm self.now before → result ≡ fills_xterm before }
     {
@@ -193,6 +195,7 @@ impl XTerm {
         kept(self.columns_left(), self.rows_left(), command, count, bits)
     }
 
+    #[inline(always)]
     fn read_data(&self, command: Command, count: u16, bits: u8) -> Reads
         ensures { (before : List AnEvent) → HasSeenXTerm self.now before
             → result ≡ xterm_data before command count bits }
@@ -207,6 +210,7 @@ impl XTerm {
     }
 
     /// What it makes of the event.
+    #[inline(always)]
     fn read_event(&self, event: &Event) -> Reads
         ensures { (before : List AnEvent) (next : Option AnEvent) → HasSeenXTerm self.now before
             → result ≡ xterm before event.now next }
@@ -244,6 +248,7 @@ impl XTerm {
         }
     }
     /// With one more event read.
+    #[inline(always)]
     fn after(self, event: &Event) -> XTerm
         ensures { (before : List AnEvent) → HasSeenXTerm self before
             → HasSeenXTerm result (before ++ event.now ∷ []) }
@@ -260,6 +265,7 @@ impl XTerm {
 
 impl XTerm {
     /// With so many sixels read.
+    #[inline(always)]
     fn after_sixels(self, count: usize) -> XTerm
         ensures { (before : List AnEvent) (bytes : List ℕ) → length bytes ≡ count → HasSeenXTerm self before
             → HasSeenXTerm result (before ++ sixels_of bytes) }
@@ -277,10 +283,15 @@ impl Reading for XTerm {
 
     ghost has_seen = { HasSeenXTerm };
 
+    #[inline(always)]
     fn read(&mut self, event: &Event, _next: Option<&Event>) -> Reads {
         let reads = self.read_event(event);
         *self = self.after(event);
         reads
+    }
+
+    fn waits(&self, _event: &Event) -> bool {
+        false
     }
 
     fn plain_sixels(&self) -> usize {

@@ -1,11 +1,11 @@
 //! What the models draw of documents, and where they end.
 
-use sixel_grammar::InputFault;
+use sixel_grammar::{InputFault, follow_source};
 use sixel_io::{PIECE, SliceSource};
 use sixel_model::{Colour, Parts};
 use sixel_models::{
-    as_foot, as_konsole, as_mlterm, as_xterm, draw, foot_terminal, konsole_terminal,
-    measure_konsole, mlterm_terminal, xterm_terminal,
+    Measuring, as_foot, as_konsole, as_mlterm, as_xterm, draw, foot_terminal, konsole_terminal,
+    mlterm_terminal, xterm_terminal,
 };
 use sixel_terminal::Drawing;
 use std::alloc::Global;
@@ -71,9 +71,11 @@ fn on_mlterm(alloc: Global, text: &[u8]) -> Result<Outcome, Fail> {
 /// What konsole makes of a document, on a white screen of one row of eight pixels.
 fn on_konsole(alloc: Global, text: &[u8]) -> Result<Outcome, Fail> {
     let mut source = SliceSource::new(text, 7, None);
-    let Ok(opening) = measure_konsole(&mut source, &mut [0; PIECE]) else {
+    let mut measuring = Measuring::new();
+    if follow_source(&mut source, &mut [0; PIECE], &mut measuring).is_err() {
         return Ok(Outcome::Refused);
-    };
+    }
+    let opening = measuring.finish();
     let drawing = Drawing::new(alloc, konsole_terminal(alloc, white(), 1, 8, 1)?)?;
     let mut again = SliceSource::new(text, 7, None);
     outcome_of(

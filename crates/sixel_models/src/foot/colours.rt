@@ -40,6 +40,7 @@ impl Colours {
     }
 
     /// The colour of the register with this number.
+    #[inline(always)]
     pub(crate) fn colour_of(&self, number: u16) -> Option<Colour>
         ensures { (before : List AnEvent) → HasColours self.now before
             → result ≡ foot_colour before (foot_register number) }
@@ -72,6 +73,7 @@ impl Colours {
     }
 
     /// Notes the colour that the command gives, if it gives one.
+    #[inline(always)]
     fn note_command(&mut self, command: Command)
         ensures { (before : List AnEvent) → HasColours self.old before
             → HasColours self.new (before ++ Step command ∷ []) }
@@ -89,6 +91,7 @@ impl Colours {
     }
 
     /// Notes the colour that the event gives, if it gives one.
+    #[inline(always)]
     pub(crate) fn note(&mut self, event: &Event)
         ensures { (before : List AnEvent) → HasColours self.old before
             → HasColours self.new (before ++ event.now ∷ []) }

@@ -72,6 +72,7 @@ impl Growing {
     }
 
     /// With a data command. `place` is the one after it.
+    #[inline(always)]
     fn widened(self, place: Place) -> Growing
         ensures { (before : List AnEvent) (e : AnEvent) → is_data_command e ≡ true → HasGrown self before
             → IsPlaceAfter 1 place (before ++ e ∷ []) → HasGrown result (before ++ e ∷ []) }
@@ -80,6 +81,7 @@ impl Growing {
     }
 
     /// As wide as the place.
+    #[inline(always)]
     fn widened_to(self, place: Place) -> Growing
         ensures { result ≡ record self { place = place; width = max self.width place.column } }
     {
@@ -91,6 +93,7 @@ impl Growing {
     }
 
     /// With so many sixels.
+    #[inline(always)]
     pub(crate) fn after_sixels(self, count: usize) -> Growing
         ensures { (before : List AnEvent) (bytes : List ℕ) → length bytes ≡ count → HasGrown self before
             → HasGrown result (before ++ sixels_of bytes) }
@@ -125,6 +128,7 @@ impl Growing {
     }
 
     /// With any other event. `place` is the one after it.
+    #[inline(always)]
     fn moved(self, place: Place) -> Growing
         ensures { (before : List AnEvent) (e : AnEvent) → grows_not e ≡ true → HasGrown self before
             → IsPlaceAfter 1 place (before ++ e ∷ []) → HasGrown result (before ++ e ∷ []) }
@@ -133,6 +137,7 @@ impl Growing {
     }
 
     /// With one more command. `place` is the one after it.
+    #[inline(always)]
     fn after_command(self, place: Place, command: Command) -> Growing
         ensures { (before : List AnEvent) → HasGrown self before → IsPlaceAfter 1 place (before ++ Step command ∷ [])
             → HasGrown result (before ++ Step command ∷ []) }
@@ -148,6 +153,7 @@ impl Growing {
     }
 
     /// With one more event.
+    #[inline(always)]
     pub(crate) fn after(self, event: &Event) -> Growing
         ensures { (before : List AnEvent) → HasGrown self before → HasGrown result (before ++ event.now ∷ []) }
     {

@@ -6,8 +6,8 @@ use Rattle.sixel_models.specs.Konsole.{has_begun, has_late, is_stuck, konsole_dr
 use Rattle.sixel_models.proofs.laws.konsole_on_strings.Goals as goal
 
 pub returns : goal.returns
-unfolding band column any_below since any_followed counting first_below first_followed greatest_at greatest_below has_begun
-    has_late is_stuck konsole_drawing
+unfolding band column any_below since any_followed counting first_below first_followed greatest_at greatest_below
+    has_begun has_late is_stuck konsole_drawing
 returns c = record {
   dropped_select = refl;
   late_raster = refl;

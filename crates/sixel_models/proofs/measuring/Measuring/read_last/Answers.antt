@@ -12,6 +12,6 @@ none_waits : (m : KonsoleMeasure) (read : List Event) (o next : Option Event) �
 none_waits m read None next is h = subst (λ (es : List Event). HasMeasured m es next) (sym (append-nil read)) (h next)
 none_waits m read (Some e) next is h = absurd cc
 
-pub returns-in_default-clause-measures : goal.returns-in_default-clause-measures
-returns-in_default-clause-measures c = λ read h.
-    none_waits c.args.self.now.measure read c.args.self.now.pending _ c.in_default.is h
+pub returns-in-None-clause-measures : goal.returns-in-None-clause-measures
+returns-in-None-clause-measures c = λ read h.
+    none_waits c.args.self.now.measure read c.args.self.now.pending _ c.in-None.is h

@@ -16,11 +16,11 @@ returns g c = record {
       (all_read g.R.Reading.model g.R.Reading.has_seen c.args.self opening placed c.read_one.new.self
       (λ is.
       c.read_one.ensures.none
-      (c.finish-reads.ensures.reads (events_of h.read) h.seen
+      (c.settle-reads.ensures.reads (events_of h.read) h.seen
       ∙ ap (option_map (λ last. g.R.Reading.model.rule (events_of h.read) last None)) is))
       (λ e is read seen controls first all n at has come.
       c.read_one.ensures.come (g.R.Reading.model.rule read e None)
-      (c.finish-reads.ensures.reads read seen
+      (c.settle-reads.ensures.reads read seen
       ∙ ap (option_map (λ last. g.R.Reading.model.rule read last None)) is)
       g.R.Reading.model first all n e at
       (c.waits_at_unsaid-is_unsaid.ensures g.R.Reading.model e controls is) has come)

@@ -1,6 +1,6 @@
-use Rattle.std.proofs.Common.{◌∙◌, ◌≤◌, ◌++◌, ◌∷◌, [], Some, length, ap, arith, subst}
+use Rattle.std.proofs.Common.{◌≤◌, ◌++◌, ◌∷◌, [], length, arith, subst}
 use Rattle.sixel_grammar.specs.declared.command.Event.{Event}
-use Rattle.sixel_models.specs.Modelled.{HasFollowed, placed_at}
+use Rattle.sixel_models.specs.Modelled.{HasFollowed, placed_at, with_waiting}
 use Rattle.sixel_models.proofs.ModelledLemmas.{follows_taken}
 use Rattle.sixel_models.proofs.modelled.Modelled.push_some.Goals as goal
 
@@ -9,9 +9,10 @@ returns-clause-followed g c = λ opening before h.
     let k = c.min-plain.result in
     let within : k ≤ length c.args.bytes.now = omega (arith, c.min-plain.ensures) in
     let enough : k ≤ c.plain_sixels.result = omega (arith, c.min-plain.ensures) in
-    follows_taken g.R.Reading.model g.R.Reading.has_seen c.push.new.self opening before c.args.place c.args.bytes.now k
-    c.plain_sixels.result c.pass.new.self c.read_sixels.new.self c.if-plain-eq0.false c.requires.some
-    (c.push.ensures.waits ∙ ap (λ (e : Event). Some e) c.sixel.ensures) c.push.ensures.place c.plain_sixels.ensures
-    enough within c.pass.ensures.seen c.pass.ensures.pending (c.read_sixels.ensures.come g.R.Reading.model)
-    (subst (λ (e : Event). HasFollowed g.R.Reading.model g.R.Reading.has_seen c.push.new.self opening
-    (before ++ placed_at c.args.place e ∷ [])) c.sixel.ensures (c.push.ensures.followed opening before h))
+    follows_taken g.R.Reading.model g.R.Reading.has_seen c.settle.new.self opening before c.args.place
+    c.args.bytes.now k c.plain_sixels.result c.note_sixels.new.self c.read_sixels.new.self c.if-plain-eq0.false
+    c.requires.some c.settle.ensures.pending c.plain_sixels.ensures enough within c.note_sixels.ensures
+    (c.read_sixels.ensures.come g.R.Reading.model)
+    (subst (λ (e : Event). HasFollowed g.R.Reading.model g.R.Reading.has_seen
+    (with_waiting c.settle.new.self c.args.place e) opening (before ++ placed_at c.args.place e ∷ []))
+    c.sixel-first.ensures (c.settle.ensures.followed opening before c.args.place h))
