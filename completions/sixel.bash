@@ -1,12 +1,13 @@
 # Completions of sixel for bash, by `completions/check --write`.
 
 _sixel() {
-    local IFS=$' \t\n' command= ended= operands=0 options= names= i
+    local IFS=$' \t\n' command= ended= operands=0 options= names= valued= i
     # The words before the one at the cursor. bash splits `--width=8` at the =.
     for ((i = 1; i < COMP_CWORD; i++)); do
         if [[ ! $ended && ${COMP_WORDS[i]} == -- ]]; then
             ended=yes
         elif [[ ! $ended && ${COMP_WORDS[i]} == @(--width|--height|--on|--background) ]]; then
+            valued=${COMP_WORDS[i]}
             ((++i))
             [[ ${COMP_WORDS[i]} != = ]] || ((++i))
         elif [[ ! $ended && ${COMP_WORDS[i]} == -?* ]]; then
@@ -17,8 +18,14 @@ _sixel() {
             ((++operands))
         fi
     done
-    # The word at the cursor is the value of an option: a number, a colour, or the name of a terminal.
-    ((i == COMP_CWORD)) || return
+    # The word at the cursor is the value of an option: one of a few, or a number or a colour.
+    if ((i != COMP_CWORD)); then
+        case $valued in
+            --on) options='xterm mlterm foot konsole' ;;
+        esac
+        [[ ! $options ]] || mapfile -t COMPREPLY < <(compgen -W "$options" -- "${2#=}")
+        return
+    fi
     # For a command that takes any number of files or names the operands don't count.
     case $command in
         '') options='-h --help -V --version'

@@ -69,7 +69,7 @@ complete -c sixel -n '__fish_sixel_is show' -l define-selects -d 'Let a colour d
 complete -c sixel -n '__fish_sixel_is show' -l width -x -d 'The screen\'s width in pixels, 1 to 4096 [default: 800]'
 complete -c sixel -n '__fish_sixel_is show' -l height -x -d 'The screen\'s height in pixels, 1 to 4096 [default: 480]'
 complete -c sixel -n '__fish_sixel_is show' -l box -d 'Make the screen as large as the declared box'
-complete -c sixel -n '__fish_sixel_is show' -l on -x -d 'Draw as this terminal does: xterm, mlterm, foot or konsole'
+complete -c sixel -n '__fish_sixel_is show' -l on -x -a 'xterm mlterm foot konsole' -d 'Draw as this terminal does: xterm, mlterm, foot or konsole'
 complete -c sixel -n '__fish_sixel_is show' -l background -x -d 'With --on: the screen before the picture, in percent, or \'#RRGGBB\' [default: 100,100,100]'
 complete -c sixel -n '__fish_sixel_is show' -s h -l help -d 'Print help'
 complete -c sixel -n '__fish_sixel_is show' -s V -l version -d 'Print version'
