@@ -153,8 +153,10 @@ def palette(words):
 def mlterm(events):
     """A definition selects. The box is never filled. Register 0 starts as the text's colour, others as the background;
     but those from 448 on have colours of chance. So have pixels that aren't painted, if the first sixel past the box is
-    both right of it and below it. Of several boxes the least width and height count here."""
-    given, defined, register, x, band, box, grown, widest, passed = [], set(), 0, 0, 0, None, False, 0, False
+    both right of it and below it. Of several boxes the least width and height count here. Colour system 3 gives
+    samples."""
+    given, defined, sampled, register, x, band, box = [], set(), set(), 0, 0, 0, None
+    grown, widest, passed = False, 0, False
     if second(events) == 5:
         raise Unsaid(0, "it mixes")
     for number, event in enumerate(events):
@@ -171,11 +173,12 @@ def mlterm(events):
             register = numbers[0] if numbers[0] < 1024 else 0
             if kind == "define":
                 if numbers[1] == 3:
-                    raise Unsaid(number, "colour system 3")
+                    sampled.add(register)
                 plain = nearest((kind, register, *numbers[1:]))
                 if plain:
                     given.append(plain)
                     defined.add(register)
+                    sampled.discard(register)
             given.append(("select", register))
         elif kind == "sixel":
             count, bits = numbers
@@ -187,6 +190,8 @@ def mlterm(events):
             wide, high = box or (0, 0)
             if bits and (x > wide + 512 or 6 * (band + 1) > high + 512):
                 raise Unsaid(number, "paint more than 512 columns or rows past the box: the terminal may end")
+            if bits and register in sampled:
+                raise Unsaid(number, "paint in a colour of samples, by colour system 3")
             if bits and register > 255 and register not in defined:
                 raise Unsaid(number, "paint in a register above 255 that isn't defined")
             right, below = x > wide, 6 * band >= high

@@ -2,11 +2,11 @@
 use Rattle.std.proofs.Common.{◌≡◌, ◌==◌, ◌<◌, ◌+◌, ◌*◌, ◌^◌, ◌&&◌, ◌||◌, ℕ, Bool, true, false, Option, Some, None}
 use Rattle.std.proofs.Common.{List, [], ◌∷◌, ◌++◌, length, get_or, set, replicate, min, refl, sym, ap, ap₂, ◌∙◌}
 use Rattle.std.proofs.Common.{subst, arith, max, zero, suc, not, ◌-◌, ◌≤◌, append-nil}
-use Rattle.std.specs.Prelude.{IfSome, is_some, nat_lt, nat_le, if◌then◌else◌}
+use Rattle.std.specs.Prelude.{IfSome, is_some, nat_lt, nat_le, unwrap_or, if◌then◌else◌}
 use Rattle.std.specs.List.{list_any}
 use Rattle.sixel_model.specs.declared.colour.Parts.{Parts}
-use Rattle.sixel_model.specs.Rules.{is_that}
-use Rattle.std.specs.Option.{option_map, option_map_or, option_or}
+use Rattle.std.specs.Bool.{then_some}
+use Rattle.std.specs.Option.{option_and_then, option_map, option_map_or, option_or}
 use Rattle.std.proofs.lemmas.List.{get_or-replicate}
 use Rattle.std.proofs.Math.Bool.{or_comm}
 use Rattle.std.proofs.lemmas.Bool.{eqb-false, eqb-true, lt-ltb, or_parts}
@@ -28,12 +28,12 @@ use Rattle.sixel_models.proofs.PlainLemmas.{band_over, data_over, first_before, 
 use Rattle.sixel_models.specs.declared.place.Place.{Place}
 use Rattle.sixel_models.specs.declared.mlterm.MlTerm.{MlTerm}
 use Rattle.sixel_models.specs.declared.mlterm.Sides.{Sides}
-use Rattle.sixel_models.specs.MlTerm.{Box, coloured_by, declared_width, has_data, has_left_mlterm, height_of}
-use Rattle.sixel_models.specs.MlTerm.{is_below, is_coloured_mlterm, is_unsaid_data, least_box}
+use Rattle.sixel_models.specs.MlTerm.{Box, declared_width, given_by, has_data, has_left_mlterm, height_of}
+use Rattle.sixel_models.specs.MlTerm.{is_below, is_said_colour, is_unsaid_data, least_box, said_by}
 use Rattle.sixel_models.specs.MlTerm.{leaves_from, leaves_mlterm, mlterm, mlterm_box, mlterm_box_of, mlterm_data}
 use Rattle.sixel_models.specs.MlTerm.{mlterm_register, mlterm_selected, width_of}
 use Rattle.sixel_models.specs.MlTermSeen.{AreNarrow, HasSeenMlTerm, box_of_sides, columns_said, data_in, mlterm_in}
-use Rattle.sixel_models.specs.MlTermSeen.{next_coloured, next_data, next_left, next_selected, next_widest}
+use Rattle.sixel_models.specs.MlTermSeen.{next_data, next_left, next_said, next_selected, next_widest, said_in}
 use Rattle.sixel_models.specs.MlTermSeen.{stored_box}
 use Rattle.sixel_models.specs.declared.reading.Reads.TheVariants.{Draws, Unsaid}
 use Rattle.sixel_models.specs.Places.{IsPlaceAfter, most}
@@ -45,18 +45,18 @@ use Rattle.sixel_models.proofs.WordLemmas.{greatest_push}
 pub seen_none : (place : Place) → IsPlaceAfter 0 place [] → HasSeenMlTerm (record {
   place = place;
   selected = 0;
-  coloured = replicate 1024 false;
+  said = replicate 1024 None;
   sides = None;
   has_left = false;
   widest = 0;
   has_data = false;
 }) []
-unfolding latest is_coloured_mlterm mlterm_box has_left_mlterm greatest any_at any_below
+unfolding latest mlterm_box has_left_mlterm greatest any_at any_below
 seen_none place is = record {
   place_is = is;
   selected_is = refl;
   registers = refl;
-  coloured_is = λ r lt. get_or-replicate 1024 r false false lt;
+  said_is = λ r lt. get_or-replicate 1024 r None None lt;
   box_is = refl;
   narrow = tt;
   left_is = refl;
@@ -111,25 +111,18 @@ box_push (x ∷ xs) e =
     ap (least_box (mlterm_box_of x)) (box_push xs e)
     ∙ sym (least_least (mlterm_box_of x) (mlterm_box xs) (mlterm_box_of e))
 
--- ---- the registers with a colour
+-- ---- the colours that the model says
 
 or_false : (b : Bool) → (b || false) ≡ b
 or_false true = refl
 or_false false = refl
 
-pub coloured_push : (before : List Event) (e : Event) (r : ℕ)
-    → is_coloured_mlterm (before ++ e ∷ []) r ≡ (is_coloured_mlterm before r || is_that r (coloured_by e))
-unfolding is_coloured_mlterm
-coloured_push before e r =
-    list_any-append (λ (d : Event). is_that r (coloured_by d)) before (e ∷ [])
-    ∙ ap (λ b. list_any (λ (d : Event). is_that r (coloured_by d)) before || b) (or_false (is_that r (coloured_by e)))
-
-set_is : (b : Bool) (q r : ℕ) (xs : List Bool) → (q == r) ≡ b → q < length xs
-    → get_or (set xs q true) r false ≡ (b || get_or xs r false)
-set_is true q r xs e lt =
+set_is : (b : Bool) (q r : ℕ) (v : Bool) (xs : List (Option Bool)) → (q == r) ≡ b → q < length xs
+    → get_or (set xs q (Some v)) r None ≡ option_or (then_some b v) (get_or xs r None)
+set_is true q r v xs e lt =
     let same : q ≡ r = eqb-true q r e in
-    ap (λ (i : ℕ). get_or (set xs q true) i false) (sym same) ∙ get_or-set_same xs q true false lt
-set_is false q r xs e lt = get_or-set_other xs q r true false (λ d. eqb-false q r e (sym d))
+    ap (λ (i : ℕ). get_or (set xs q (Some v)) i None) (sym same) ∙ get_or-set_same xs q (Some v) None lt
+set_is false q r v xs e lt = get_or-set_other xs q r (Some v) None (λ d. eqb-false q r e (sym d))
 
 pub register_below : (number : ℕ) → mlterm_register number < 1024
 register_below number = grind (arith, nat_tests)
@@ -138,25 +131,30 @@ pub selected_below : (o : Option ℕ) → option_map_or mlterm_register o 0 < 10
 selected_below None = omega arith
 selected_below (Some r) = register_below r
 
-length_marked : (o : Option ℕ) (marks : List Bool)
-    → length (option_map_or (λ r. set marks r true) o marks) ≡ length marks
+length_marked : (o : Option (ℕ × Bool)) (marks : List (Option Bool))
+    → length (option_map_or (λ (g : ℕ × Bool). set marks g.0 (Some g.1)) o marks) ≡ length marks
 length_marked None marks = refl
-length_marked (Some r) marks = length-set marks r true
+length_marked (Some g) marks = length-set marks g.0 (Some g.1)
 
-mark_is : (o : Option ℕ) (r : ℕ) (marks : List Bool) → length marks ≡ 1024 → IfSome o (λ q. q < 1024)
-    → get_or (option_map_or (λ q. set marks q true) o marks) r false ≡ (get_or marks r false || is_that r o)
-mark_is None r marks long low = sym (or_false (get_or marks r false))
-mark_is (Some q) r marks long low =
-    set_is (q == r) q r marks refl (omega (arith, long, low)) ∙ or_comm (q == r) (get_or marks r false)
+mark_is : (o : Option (ℕ × Bool)) (r : ℕ) (marks : List (Option Bool)) → length marks ≡ 1024
+    → IfSome o (λ g. g.0 < 1024)
+    → get_or (option_map_or (λ (g : ℕ × Bool). set marks g.0 (Some g.1)) o marks) r None
+    ≡ option_or (option_and_then (λ (g : ℕ × Bool). then_some (g.0 == r) g.1) o) (get_or marks r None)
+mark_is None r marks long low = refl
+mark_is (Some g) r marks long low = set_is (g.0 == r) g.0 r g.1 marks refl (omega (arith, long, low))
 
-mapped_below : (number : ℕ) (o : Option Parts)
-    → IfSome (option_map (λ (c : Parts). mlterm_register number) o) (λ q. q < 1024)
-mapped_below number None = tt
-mapped_below number (Some c) = register_below number
+sampled_below : (number : ℕ) (samples : Bool) (o : Option Parts)
+    → IfSome
+    (if samples
+    then Some (mlterm_register number, false)
+    else option_map (λ (c : Parts). (mlterm_register number, true)) o) (λ (g : ℕ × Bool). g.0 < 1024)
+sampled_below number true o = register_below number
+sampled_below number false None = tt
+sampled_below number false (Some c) = register_below number
 
-coloured_below : (e : Event) → IfSome (coloured_by e) (λ q. q < 1024)
-coloured_below (Step (Define number system x y z)) = mapped_below number (nearest system x y z)
-coloured_below _ = tt
+given_below : (e : Event) → IfSome (given_by e) (λ g. g.0 < 1024)
+given_below (Step (Define number system x y z)) = sampled_below number (system == 3) (nearest system x y z)
+given_below _ = tt
 
 -- ---- what leaves the box
 
@@ -207,7 +205,7 @@ pub seen_push : (m : MlTerm) (place : Place) (sides : Option Sides) (before : Li
     → HasSeenMlTerm (record {
       place = place;
       selected = next_selected m e;
-      coloured = next_coloured m.coloured e;
+      said = next_said m.said e;
       sides = sides;
       has_left = next_left m e;
       widest = next_widest m e;
@@ -219,9 +217,9 @@ seen_push m place sides before e s at sides_are narrow = record {
       ap (option_map_or mlterm_register (named_by e)) s.selected_is
       ∙ map_or_or mlterm_register (named_by e) (latest named_by before) 0
       ∙ ap (λ o. option_map_or mlterm_register o 0) (sym (latest_push named_by before e));
-  registers = length_marked (coloured_by e) m.coloured ∙ s.registers;
-  coloured_is = λ r lt. mark_is (coloured_by e) r m.coloured s.registers (coloured_below e)
-      ∙ ap (λ b. b || is_that r (coloured_by e)) (s.coloured_is r lt) ∙ sym (coloured_push before e r);
+  registers = length_marked (given_by e) m.said ∙ s.registers;
+  said_is = λ r lt. mark_is (given_by e) r m.said s.registers (given_below e)
+      ∙ ap (option_or (said_by r e)) (s.said_is r lt) ∙ sym (latest_push (said_by r) before e);
   box_is =
       sides_are ∙ ap (λ b. least_box b (mlterm_box_of e)) s.box_is ∙ sym (box_push before e);
   narrow = narrow;
@@ -235,10 +233,10 @@ seen_push m place sides before e s at sides_are narrow = record {
 
 -- ---- what it makes of an event
 
-unsaid_capped : (b : Option Box) (left_before : Bool) (c l selected : ℕ) (coloured : Bool) (e : Event) → IsSmall b
-    → is_unsaid_data b left_before (min c most) (min l most) selected coloured e
-    ≡ is_unsaid_data b left_before c l selected coloured e
-unsaid_capped b left_before c l selected coloured e small =
+unsaid_capped : (b : Option Box) (left_before : Bool) (c l : ℕ) (said : Bool) (e : Event) → IsSmall b
+    → is_unsaid_data b left_before (min c most) (min l most) said e
+    ≡ is_unsaid_data b left_before c l said e
+unsaid_capped b left_before c l said e small =
     let n = columns_of 0 e in
     let past = column_test 32767 c n (omega arith) in
     let deep = past_test l in
@@ -248,19 +246,21 @@ unsaid_capped b left_before c l selected coloured e small =
     let below = top_test (height_of b) l small.height in
     rw (past, deep, far, low, right, below) refl
 
-coloured_selected : {m : MlTerm} {before : List Event} → HasSeenMlTerm m before
-    → get_or m.coloured m.selected false ≡ is_coloured_mlterm before (mlterm_selected before)
-coloured_selected {m} {before} s =
-    ap (λ (r : ℕ). get_or m.coloured r false) s.selected_is
-    ∙ s.coloured_is (mlterm_selected before) (selected_below (latest named_by before))
+said_selected : {m : MlTerm} {before : List Event} → HasSeenMlTerm m before
+    → said_in m ≡ is_said_colour before (mlterm_selected before)
+unfolding is_said_colour
+said_selected {m} {before} s =
+    ap (λ (r : ℕ). unwrap_or (get_or m.said r None) (nat_le r 255)) s.selected_is
+    ∙ ap (λ (o : Option Bool). unwrap_or o (nat_le (mlterm_selected before) 255))
+    (s.said_is (mlterm_selected before) (selected_below (latest named_by before)))
 
 data_is : {m : MlTerm} {before : List Event} (command : Command) → HasSeenMlTerm m before
     → data_in m command ≡ mlterm_data before command
 data_is {m} {before} command s =
-    rw (coloured_selected s, s.box_is, s.left_is, s.place_is.column_is, s.place_is.band_is, s.selected_is)
+    rw (said_selected s, s.box_is, s.left_is, s.place_is.column_is, s.place_is.band_is)
     (ap (λ (b : Bool). if b then Unsaid else Draws command)
-    (unsaid_capped (mlterm_box before) (has_left_mlterm before) (column 0 before) (band before) (mlterm_selected before)
-    (is_coloured_mlterm before (mlterm_selected before)) (Step command) (seen_small s)))
+    (unsaid_capped (mlterm_box before) (has_left_mlterm before) (column 0 before) (band before)
+    (is_said_colour before (mlterm_selected before)) (Step command) (seen_small s)))
 
 pub mlterm_is : {m : MlTerm} {before : List Event} (e : Event) (next : Option Event) → HasSeenMlTerm m before
     → mlterm_in m e ≡ mlterm before e next
@@ -288,11 +288,10 @@ selected_over before bytes =
     (λ es bits. ap (λ (o : Option ℕ). option_map_or mlterm_register o 0) (latest_push named_by es (Step (Sixel bits))))
     before bytes
 
-coloured_over : (before : List Event) (bytes : List ℕ) (r : ℕ)
-    → is_coloured_mlterm (before ++ sixels_of bytes) r ≡ is_coloured_mlterm before r
-coloured_over before bytes r =
-    same_over (λ es. is_coloured_mlterm es r)
-    (λ es bits. coloured_push es (Step (Sixel bits)) r ∙ or_false (is_coloured_mlterm es r)) before bytes
+colours_over : (before : List Event) (bytes : List ℕ) (r : ℕ)
+    → latest (said_by r) (before ++ sixels_of bytes) ≡ latest (said_by r) before
+colours_over before bytes r =
+    same_over (latest (said_by r)) (λ es bits. latest_push (said_by r) es (Step (Sixel bits))) before bytes
 
 widest_over : (before : List Event) (bytes : List ℕ)
     → greatest declared_width (before ++ sixels_of bytes) ≡ greatest declared_width before
@@ -379,7 +378,7 @@ mlterm_over {m} p before (b ∷ bs) some s moved = record {
   place_is = moved;
   selected_is = s.selected_is ∙ sym (selected_over before (b ∷ bs));
   registers = s.registers;
-  coloured_is = λ r lt. s.coloured_is r lt ∙ sym (coloured_over before (b ∷ bs) r);
+  said_is = λ r lt. s.said_is r lt ∙ sym (colours_over before (b ∷ bs) r);
   box_is = s.box_is ∙ sym (box_over before (b ∷ bs));
   narrow = s.narrow;
   left_is = rw (s.left_is, s.box_is, s.place_is.column_is, s.place_is.band_is)
@@ -419,14 +418,14 @@ no_corner b left c l (suc j) h = passed (is_some b) left (is_below b l)
     passed s a below far further = grind (arith, nat_tests)
 
 -- a sixel further right is said, if one here is
-said_on : (b : Option Box) (left : Bool) (c l selected : ℕ) (coloured : Bool) (j bits : ℕ) (later : Bool)
-    → is_unsaid_data b left c l selected coloured (Step (Sixel 63)) ≡ false → j < columns_said b c
+said_on : (b : Option Box) (left : Bool) (c l : ℕ) (said : Bool) (j bits : ℕ) (later : Bool)
+    → is_unsaid_data b left c l said (Step (Sixel 63)) ≡ false → j < columns_said b c
     → later ≡ (left || (nat_lt 0 j && leave b c l j))
-    → is_unsaid_data b later (c + j) l selected coloured (Step (Sixel bits)) ≡ false
-said_on b left c l selected coloured j bits later first lt is =
+    → is_unsaid_data b later (c + j) l said (Step (Sixel bits)) ≡ false
+said_on b left c l said j bits later first lt is =
     let past = or_parts (nat_lt 32767 (c + 1) || nat_lt 32767 (6 * l)) _ first in
     let far = or_parts (nat_lt (width_of b + 512) (c + 1) || nat_lt (height_of b + 512) (6 * l + 6)) _ past.1 in
-    let chance = or_parts (nat_lt 255 selected && not coloured) _ far.1 in
+    let chance = or_parts (not said) _ far.1 in
     let deep = (or_parts (nat_lt 32767 (c + 1)) (nat_lt 32767 (6 * l)) past.0).1 in
     let low = (or_parts (nat_lt (width_of b + 512) (c + 1)) (nat_lt (height_of b + 512) (6 * l + 6)) far.0).1 in
     rw (
@@ -434,7 +433,7 @@ said_on b left c l selected coloured j bits later first lt is =
       not_past c j (nat_lt 32767 (6 * l)) (omega (arith, lt)) deep,
       not_far (is_painting (Step (Sixel bits))) (width_of b) c j (nat_lt (height_of b + 512) (6 * l + 6))
           (omega (arith, lt)) low,
-      and_false (is_painting (Step (Sixel bits))) (nat_lt 255 selected && not coloured) chance.0,
+      and_false (is_painting (Step (Sixel bits))) (not said) chance.0,
       no_corner b left c l j chance.1,
     ) refl
 
@@ -446,21 +445,18 @@ some_more : (n : ℕ) → nat_lt 0 (suc n) ≡ true
 some_more n = grind (arith, nat_tests)
 
 pub said_after : {m : MlTerm} (before : List Event) (earlier : List ℕ) (bits : ℕ) → HasSeenMlTerm m before
-    → is_unsaid_data (stored_box m) m.has_left m.place.column m.place.band m.selected
-    (get_or m.coloured m.selected false) (Step (Sixel 63)) ≡ false
+    → is_unsaid_data (stored_box m) m.has_left m.place.column m.place.band (said_in m) (Step (Sixel 63)) ≡ false
     → length earlier < columns_said (stored_box m) m.place.column
     → mlterm_data (before ++ sixels_of earlier) (Sixel bits) ≡ Draws (Sixel bits)
 said_after {m} before [] bits s first lt =
     let here : m.place.column + 0 ≡ m.place.column = omega arith in
-    let said : is_unsaid_data (stored_box m) m.has_left (m.place.column + 0) m.place.band m.selected
-    (get_or m.coloured m.selected false) (Step (Sixel bits)) ≡ false =
-    said_on (stored_box m) m.has_left m.place.column m.place.band m.selected (get_or m.coloured m.selected false) 0 bits
+    let said : is_unsaid_data (stored_box m) m.has_left (m.place.column + 0) m.place.band (said_in m) (Step (Sixel bits)) ≡ false =
+    said_on (stored_box m) m.has_left m.place.column m.place.band (said_in m) 0 bits
     m.has_left first lt (sym (or_false m.has_left)) in
     ap (λ (es : List Event). mlterm_data es (Sixel bits)) (append-nil before)
     ∙ (sym (data_is (Sixel bits) s)
     ∙ draws_if_said _ (Sixel bits)
-    (subst (λ (n : ℕ). is_unsaid_data (stored_box m) m.has_left n m.place.band m.selected
-    (get_or m.coloured m.selected false) (Step (Sixel bits)) ≡ false) here said))
+    (subst (λ (n : ℕ). is_unsaid_data (stored_box m) m.has_left n m.place.band (said_in m) (Step (Sixel bits)) ≡ false) here said))
 said_after {m} before (b ∷ bs) bits s first lt =
     let n : ℕ = suc (length bs) in
     let left : Bool = m.has_left || leave (stored_box m) m.place.column m.place.band n in
@@ -469,13 +465,11 @@ said_after {m} before (b ∷ bs) bits s first lt =
     (before ++ sixels_of (b ∷ bs)) =
     mlterm_over p before (b ∷ bs) (omega arith) s (place_over 0 m.place p (b ∷ bs) s.place_is refl refl) in
     let at : m.place.column + n ≡ min (m.place.column + n) most = omega (arith, lt) in
-    let said : is_unsaid_data (stored_box m) left (m.place.column + n) m.place.band m.selected
-    (get_or m.coloured m.selected false) (Step (Sixel bits)) ≡ false =
-    said_on (stored_box m) m.has_left m.place.column m.place.band m.selected (get_or m.coloured m.selected false) n bits
+    let said : is_unsaid_data (stored_box m) left (m.place.column + n) m.place.band (said_in m) (Step (Sixel bits)) ≡ false =
+    said_on (stored_box m) m.has_left m.place.column m.place.band (said_in m) n bits
     left first lt
     (ap (λ (x : Bool). m.has_left || (x && leave (stored_box m) m.place.column m.place.band n))
     (sym (some_more (length bs)))) in
     sym (data_is (Sixel bits) later)
     ∙ draws_if_said _ (Sixel bits)
-    (subst (λ (k : ℕ). is_unsaid_data (stored_box m) left k m.place.band m.selected
-    (get_or m.coloured m.selected false) (Step (Sixel bits)) ≡ false) at said)
+    (subst (λ (k : ℕ). is_unsaid_data (stored_box m) left k m.place.band (said_in m) (Step (Sixel bits)) ≡ false) at said)

@@ -84,6 +84,12 @@ PenKeepsItsColour =
 abbrev pub ChanceIsUnsaid : Type 0
 ChanceIsUnsaid = ReadsAs mlterm (Step (Select 1022) ∷ []) (Step (Sixel 47)) Unsaid
 
+-- q#1;3;100;0;0#2~ has a colour of samples, and paints in another; with a sixel right after the definition it is seen
+abbrev pub SamplesAreUnsaid : Type 0
+SamplesAreUnsaid =
+    ReadsAs mlterm (Step (Define 1 3 100 0 0) ∷ Step (Select 2) ∷ []) (Step (Sixel 63)) (Draws (Sixel 63))
+    × ReadsAs mlterm (Step (Define 1 3 100 0 0) ∷ []) (Step (Sixel 63)) Unsaid
+
 -- q"1;1;8;6-!31@: the repeat is right of the box and below it
 abbrev pub CornerIsUnsaid : Type 0
 CornerIsUnsaid = ReadsAs mlterm (Step (Raster 1 1 8 6) ∷ Step NextLine ∷ []) (Step (Repeat 31 1)) Unsaid

@@ -1,9 +1,10 @@
 -- What mlterm 3.9.0 makes of the events of a string. A definition selects its register. Raster attributes fill nothing,
 -- so they only say where the box ends.
-use Rattle.std.specs.Prelude.{◌==◌, ◌&&◌, ◌||◌, ℕ, ◌+◌, ◌*◌, Bool, false, not, is_some, nat_le, nat_lt, min}
-use Rattle.std.specs.Prelude.{List, [], ◌∷◌, Option, Some, None, slice_index_or, if◌then◌else◌}
+use Rattle.std.specs.Prelude.{◌==◌, ◌&&◌, ◌||◌, ℕ, ◌+◌, ◌*◌, Bool, true, false, not, is_some, nat_le, nat_lt, min}
+use Rattle.std.specs.Prelude.{List, [], ◌∷◌, Option, Some, None, slice_index_or, unwrap_or, if◌then◌else◌}
 use Rattle.std.specs.List.{list_any}
-use Rattle.std.specs.Option.{option_map, option_map_or}
+use Rattle.std.specs.Bool.{then_some}
+use Rattle.std.specs.Option.{option_and_then, option_map, option_map_or}
 use Rattle.sixel_grammar.specs.declared.command.Command.{Command}
 use Rattle.sixel_grammar.specs.declared.command.Command.TheVariants.{Sixel, Repeat, Raster, Select, Define}
 use Rattle.sixel_grammar.specs.declared.command.Command.TheVariants.{CarriageReturn, NextLine}
@@ -14,7 +15,6 @@ use Rattle.sixel_model.specs.Events.{Attributes, columns_of, is_data_command, is
 use Rattle.sixel_model.specs.Events.{named_by, raster_of}
 use Rattle.sixel_model.specs.Geometry.{band, band_rows, column}
 use Rattle.sixel_model.specs.Positions.{any_at, latest}
-use Rattle.sixel_model.specs.Rules.{is_that}
 use Rattle.sixel_models.specs.declared.reading.Reads.{Reads}
 use Rattle.sixel_models.specs.declared.reading.Reads.TheVariants.{Nothing, Draws, DrawsTwo, Unsaid}
 use Rattle.sixel_models.specs.Readings.{Model, Rule, no_opening}
@@ -30,15 +30,23 @@ mlterm_register number = if nat_lt number 1024 then number else 0
 abbrev pub mlterm_selected : List Event → ℕ
 mlterm_selected before = option_map_or mlterm_register (latest named_by before) 0
 
--- the register to which the event gives a colour
-abbrev pub coloured_by : Event → Option ℕ
-coloured_by (Step (Define number system x y z)) =
-    option_map (λ (colour : Parts). mlterm_register number) (nearest system x y z)
-coloured_by _ = None
+-- the register to which the event gives a colour, and whether the model says which: a definition in colour system 3 gives
+-- samples, and no percentages
+abbrev pub given_by : Event → Option (ℕ × Bool)
+given_by (Step (Define number system x y z)) =
+    if system == 3
+    then Some (mlterm_register number, false)
+    else option_map (λ (colour : Parts). (mlterm_register number, true)) (nearest system x y z)
+given_by _ = None
 
--- some event gives the register a colour
-unfoldable pub is_coloured_mlterm : List Event → ℕ → Bool
-is_coloured_mlterm before register = list_any (λ e. is_that register (coloured_by e)) before
+-- whether the model says the colour that the event gives the register, if it gives it one
+abbrev pub said_by : ℕ → Event → Option Bool
+said_by register e = option_and_then (λ (g : ℕ × Bool). then_some (g.0 == register) g.1) (given_by e)
+
+-- whether the model says the colour of the register: that of the last event that gives it one. Without one it is the
+-- background or the text's colour, but above register 255 it is one of chance
+unfoldable pub is_said_colour : List Event → ℕ → Bool
+is_said_colour before register = unwrap_or (latest (said_by register) before) (nat_le register 255)
 
 -- ---- the box
 
@@ -105,9 +113,9 @@ is_far box left line e =
     && (nat_lt (width_of box + 512) (left + columns_of 0 e)
     || nat_lt (height_of box + 512) (band_rows * line + band_rows))
 
--- it paints in a register above 255 without a colour: such registers start with colours of chance
-abbrev pub is_chance : ℕ → Bool → Event → Bool
-is_chance selected coloured e = is_painting e && (nat_lt 255 selected && not coloured)
+-- it paints in a register of which the model doesn't say the colour
+abbrev pub is_chance : Bool → Event → Bool
+is_chance said e = is_painting e && not said
 
 -- it is the first that leaves the box, ends right of it, and is in a band below it: pixels that aren't painted have
 -- colours of chance
@@ -116,16 +124,16 @@ is_corner box left_before left line e =
     is_some box && (not left_before && (ends_right box left e && is_below box line))
 
 -- the model doesn't say what mlterm does at a data command, by: the box, whether a command left it, the column and the
--- band of the command, the selected register, and whether that has a colour
-abbrev pub is_unsaid_data : Option Box → Bool → ℕ → ℕ → ℕ → Bool → Event → Bool
-is_unsaid_data box left_before left line selected coloured e =
-    is_repeat_of_zero e || (is_past_all left line e || (is_far box left line e || (is_chance selected coloured e
+-- band of the command, and whether the model says the colour of the selected register
+abbrev pub is_unsaid_data : Option Box → Bool → ℕ → ℕ → Bool → Event → Bool
+is_unsaid_data box left_before left line said e =
+    is_repeat_of_zero e || (is_past_all left line e || (is_far box left line e || (is_chance said e
     || is_corner box left_before left line e)))
 
 abbrev pub mlterm_data : List Event → Command → Reads
 mlterm_data before command =
     if is_unsaid_data (mlterm_box before) (has_left_mlterm before) (column 0 before) (band before)
-    (mlterm_selected before) (is_coloured_mlterm before (mlterm_selected before)) (Step command)
+    (is_said_colour before (mlterm_selected before)) (Step command)
     then Unsaid
     else Draws command
 
@@ -155,7 +163,6 @@ define_and_select register (Some colour) = DrawsTwo (defining register colour) (
 -- - an introducer whose P2 is 5: mlterm mixes colours;
 -- - raster attributes of zeros only: if their numbers are missing, they swallow a byte;
 -- - raster attributes below the first band that are wider than those before, if no data command came;
--- - a definition in colour system 3;
 -- - the data commands above
 abbrev pub mlterm : Rule
 mlterm before (Start eight parameters) next = if slice_index_or parameters.items 1 0 == 5 then Unsaid else Nothing
@@ -165,7 +172,7 @@ mlterm before (Step (Raster pan pad width height)) next =
     then Unsaid
     else Nothing
 mlterm before (Step (Define register system x y z)) next =
-    if system == 3 then Unsaid else define_and_select (mlterm_register register) (nearest system x y z)
+    define_and_select (mlterm_register register) (nearest system x y z)
 mlterm before (Step (Select register)) next = Draws (Select (mlterm_register register))
 mlterm before (Step (Sixel bits)) next = mlterm_data before (Sixel bits)
 mlterm before (Step (Repeat count bits)) next = mlterm_data before (Repeat count bits)

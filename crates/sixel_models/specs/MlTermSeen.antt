@@ -1,6 +1,6 @@
 -- What the automaton of mlterm stores, and how an event changes it.
-use Rattle.std.specs.Prelude.{max, ◌≡◌, ◌==◌, ◌<◌, ◌&&◌, ◌||◌, ◌^◌, ℕ, ◌+◌, ◌-◌, Bool, true, false, not, min}
-use Rattle.std.specs.Prelude.{nat_lt}
+use Rattle.std.specs.Prelude.{max, ◌≡◌, ◌==◌, ◌<◌, ◌&&◌, ◌||◌, ◌^◌, ℕ, ◌+◌, ◌-◌, Bool, not, min}
+use Rattle.std.specs.Prelude.{nat_le, nat_lt, unwrap_or}
 use Rattle.std.specs.Prelude.{List, Option, Some, None, length, slice_index_or, slice_set, if◌then◌else◌}
 use Rattle.std.specs.Option.{option_map, option_map_or}
 use Rattle.sixel_grammar.specs.declared.command.Command.{Command}
@@ -9,14 +9,15 @@ use Rattle.sixel_grammar.specs.declared.command.Command.TheVariants.{CarriageRet
 use Rattle.sixel_grammar.specs.declared.command.Event.{Event}
 use Rattle.sixel_grammar.specs.declared.command.Event.TheVariants.{Start, Step, Finish}
 use Rattle.sixel_model.specs.Events.{is_data_command, named_by}
+use Rattle.sixel_model.specs.Positions.{latest}
 use Rattle.sixel_models.specs.declared.reading.Reads.{Reads}
 use Rattle.sixel_models.specs.declared.reading.Reads.TheVariants.{Nothing, Draws, Unsaid}
 use Rattle.sixel_models.specs.Places.{IsPlaceAfter}
 use Rattle.sixel_models.specs.Words.{greatest, nearest}
 use Rattle.sixel_models.specs.declared.mlterm.MlTerm.{MlTerm}
 use Rattle.sixel_models.specs.declared.mlterm.Sides.{Sides}
-use Rattle.sixel_models.specs.MlTerm.{Box, coloured_by, declared_width, define_and_select, has_data, has_left_mlterm}
-use Rattle.sixel_models.specs.MlTerm.{is_coloured_mlterm}
+use Rattle.sixel_models.specs.MlTerm.{Box, declared_width, define_and_select, given_by, has_data, has_left_mlterm}
+use Rattle.sixel_models.specs.MlTerm.{said_by}
 use Rattle.sixel_models.specs.MlTerm.{is_unsaid_data, leaves_from, mlterm_box}
 use Rattle.sixel_models.specs.MlTerm.{mlterm_register, mlterm_selected, width_of}
 
@@ -35,8 +36,8 @@ AreNarrow (Some s) = (s.width < 2 ^ 16) × (s.height < 2 ^ 16)
 pub record HasSeenMlTerm (m : MlTerm) (before : List Event) : Type 0 where
   pub place_is : IsPlaceAfter 0 m.place before
   pub selected_is : m.selected ≡ mlterm_selected before
-  pub registers : length m.coloured ≡ 1024
-  pub coloured_is : (r : ℕ) → r < 1024 → slice_index_or m.coloured r false ≡ is_coloured_mlterm before r
+  pub registers : length m.said ≡ 1024
+  pub said_is : (r : ℕ) → r < 1024 → slice_index_or m.said r None ≡ latest (said_by r) before
   pub box_is : stored_box m ≡ mlterm_box before
   pub narrow : AreNarrow m.sides
   pub left_is : m.has_left ≡ has_left_mlterm before
@@ -48,8 +49,8 @@ pub record HasSeenMlTerm (m : MlTerm) (before : List Event) : Type 0 where
 abbrev pub next_selected : MlTerm → Event → ℕ
 next_selected m e = option_map_or mlterm_register (named_by e) m.selected
 
-abbrev pub next_coloured : List Bool → Event → List Bool
-next_coloured marks e = option_map_or (λ r. slice_set marks r true) (coloured_by e) marks
+abbrev pub next_said : List (Option Bool) → Event → List (Option Bool)
+next_said marks e = option_map_or (λ (g : ℕ × Bool). slice_set marks g.0 (Some g.1)) (given_by e) marks
 
 abbrev pub next_left : MlTerm → Event → Bool
 next_left m e = m.has_left || leaves_from (stored_box m) m.place.column m.place.band e
@@ -62,10 +63,13 @@ next_data m e = m.has_data || is_data_command e
 
 -- ---- what it makes of an event
 
+-- whether the model says the colour of the selected register
+abbrev pub said_in : MlTerm → Bool
+said_in m = unwrap_or (slice_index_or m.said m.selected None) (nat_le m.selected 255)
+
 abbrev pub data_in : MlTerm → Command → Reads
 data_in m command =
-    if is_unsaid_data (stored_box m) m.has_left m.place.column m.place.band m.selected
-    (slice_index_or m.coloured m.selected false) (Step command)
+    if is_unsaid_data (stored_box m) m.has_left m.place.column m.place.band (said_in m) (Step command)
     then Unsaid
     else Draws command
 
@@ -77,7 +81,7 @@ mlterm_in m (Step (Raster pan pad width height)) =
     then Unsaid
     else Nothing
 mlterm_in m (Step (Define register system x y z)) =
-    if system == 3 then Unsaid else define_and_select (mlterm_register register) (nearest system x y z)
+    define_and_select (mlterm_register register) (nearest system x y z)
 mlterm_in m (Step (Select register)) = Draws (Select (mlterm_register register))
 mlterm_in m (Step (Sixel bits)) = data_in m (Sixel bits)
 mlterm_in m (Step (Repeat count bits)) = data_in m (Repeat count bits)

@@ -6,7 +6,8 @@ ghost use Rattle.sixel_models.specs.Laws.{EndsAtAnEvent, EndsAtOnePosition, FarB
 ghost use Rattle.sixel_models.specs.Laws.{GoesToTheEnd, GreatestSidesFill, KonsoleIsRead, LargeSideStops};
 ghost use Rattle.sixel_models.specs.Laws.{LastPositionIsRead, LateBoxIsUnsaid, LateRasterDoesNotCount};
 ghost use Rattle.sixel_models.specs.Laws.{NarrowBoxDoesNotCount, NoWidthStops, PenKeepsItsColour, PositionsAreRead};
-ghost use Rattle.sixel_models.specs.Laws.{RatioIsTall, ShownDoesNotEnd, ShowsOneScreen, ShowsOrEnds, StopsAtAnEvent};
+ghost use Rattle.sixel_models.specs.Laws.{RatioIsTall, SamplesAreUnsaid, ShownDoesNotEnd, ShowsOneScreen, ShowsOrEnds};
+ghost use Rattle.sixel_models.specs.Laws.{StopsAtAnEvent};
 ghost use Rattle.sixel_models.specs.Laws.{TwoBoxesBelowAreUnsaid, UndefinedIsDrawn, UnknownSystemSticks, WideBoxCuts};
 
 /// What xterm makes of strings that were shown on it.
@@ -30,6 +31,7 @@ pub fn foot_on_strings()
 /// What mlterm makes of strings that were shown on it.
 pub fn mlterm_on_strings()
     ensures chance { ChanceIsUnsaid }
+    ensures samples { SamplesAreUnsaid }
     ensures corner { CornerIsUnsaid }
     ensures far_blank { FarBlankIsUnsaid }
     ensures two_boxes { TwoBoxesBelowAreUnsaid }

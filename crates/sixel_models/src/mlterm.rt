@@ -1,16 +1,14 @@
 //! What mlterm makes of the events of a string.
 
 ghost use Rattle.std.specs.Prelude.{◌≡◌, ◌<◌, ◌+◌, ◌&&◌, ◌++◌, ◌∷◌, [], ℕ, IfSome, List, false, length, nat_lt, not};
-ghost use Rattle.std.specs.Prelude.{slice_index_or};
 ghost use Rattle.std.specs.Option.{option_map};
 ghost use Rattle.sixel_grammar.specs.declared.command.Event.{Event as AnEvent};
 ghost use Rattle.sixel_grammar.specs.declared.command.Event.TheVariants.{Step as AStep};
 ghost use Rattle.sixel_terminal.specs.Stretches.{sixels_of};
 ghost use Rattle.sixel_models.specs.MlTerm as rule;
 ghost use Rattle.sixel_models.specs.MlTermSeen.{AreNarrow, HasSeenMlTerm, box_of_sides, columns_said, data_in};
-ghost use Rattle.sixel_models.specs.MlTermSeen.{mlterm_in};
-ghost use Rattle.sixel_models.specs.MlTermSeen.{next_coloured, next_data, next_left, next_selected, next_widest};
-ghost use Rattle.sixel_models.specs.MlTermSeen.{stored_box};
+ghost use Rattle.sixel_models.specs.MlTermSeen.{mlterm_in, next_data, next_left, next_said, next_selected};
+ghost use Rattle.sixel_models.specs.MlTermSeen.{next_widest, said_in, stored_box};
 
 use crate::place::Place;
 use crate::reading::{Reading, Reads};
@@ -43,8 +41,8 @@ pub struct MlTerm {
     place: Place,
     /// The selected register.
     selected: u16,
-    /// Whether a definition gave it a colour, for each register.
-    coloured: [bool; REGISTERS],
+    /// Whether the model says the colour that a definition gave last, for each register that has one.
+    said: [Option<bool>; REGISTERS],
     /// The least width and the least height of the boxes that raster attributes declared.
     sides: Option<Sides>,
     /// Whether a data command left the box.
@@ -99,12 +97,19 @@ fn least(one: Option<Sides>, other: Option<Sides>) -> Option<Sides>
     }
 }
 
-/// The register that the event gives a colour, if it is a definition that gives one.
-fn coloured_by(event: &Event) -> Option<u16>
-    ensures value { result ≡ rule.coloured_by event.now }
-    ensures below { IfSome result (λ r. r < 1024) }
+/// The register to which the event gives a colour, and whether the model says which.
+fn given_by(event: &Event) -> Option<(u16, bool)>
+    ensures value { result ≡ rule.given_by event.now }
+    ensures below { IfSome result (λ given. given.0 < 1024) }
 {
     match event {
+        Event::Step(
+            Command::Define {
+                register,
+                system: 3,
+                ..
+            },
+        ) => Some((register_of(*register), false)),
         Event::Step(
             Command::Define {
                 register,
@@ -113,7 +118,7 @@ fn coloured_by(event: &Event) -> Option<u16>
                 y,
                 z,
             },
-        ) if nearest(*system, *x, *y, *z).is_some() => Some(register_of(*register)),
+        ) if nearest(*system, *x, *y, *z).is_some() => Some((register_of(*register), true)),
         _ => None,
     }
 }
@@ -136,7 +141,7 @@ impl MlTerm {
         MlTerm {
             place: Place::new(),
             selected: 0,
-            coloured: [false; REGISTERS],
+            said: [None; REGISTERS],
             sides: None,
             has_left: false,
             widest: 0,
@@ -214,14 +219,14 @@ impl MlTerm {
     fn name(&mut self, event: &Event)
         ensures { self.new ≡ record self.old {
           selected = next_selected self.old event.now;
-          coloured = next_coloured self.old.coloured event.now;
+          said = next_said self.old.said event.now;
         } }
     {
         if let Some(number) = named_by(event) {
             self.selected = register_of(number);
         }
-        if let Some(register) = coloured_by(event) {
-            self.coloured[register as usize] = true;
+        if let Some((register, is_said)) = given_by(event) {
+            self.said[register as usize] = Some(is_said);
         }
     }
 
@@ -229,8 +234,7 @@ impl MlTerm {
     #[inline(always)]
     fn is_unsaid_data(&self, event: &Event) -> bool
         ensures { result ≡ rule.is_unsaid_data (stored_box self.now) self.now.has_left self.now.place.column
-            self.now.place.band self.now.selected (slice_index_or self.now.coloured self.now.selected false)
-            event.now }
+            self.now.place.band (said_in self.now) event.now }
     {
         is_repeat_of_zero(event)
             || self.is_past_all(event)
@@ -267,7 +271,6 @@ impl MlTerm {
             Command::Raster { width, .. } if self.is_fragile(width) => Reads::Unsaid,
             Command::Raster { .. } => Reads::Nothing,
             Command::Select(number) => Reads::Draws(Command::Select(register_of(number))),
-            Command::Define { system: 3, .. } => Reads::Unsaid,
             Command::Define {
                 register,
                 system,
@@ -358,24 +361,24 @@ impl MlTerm {
             && (u64::from(width) + MARGIN < right || u64::from(height) + MARGIN < bottom)
     }
 
-    /// Whether a definition gave the selected register a colour.
+    /// Whether the model says the colour of the selected register.
     #[inline(always)]
-    fn has_colour(&self) -> bool
-        ensures { result ≡ slice_index_or self.now.coloured self.now.selected false }
+    fn is_said(&self) -> bool
+        ensures { result ≡ said_in self.now }
     {
-        self.coloured
+        self.said
             .get(usize::from(self.selected))
             .copied()
-            .unwrap_or(false)
+            .flatten()
+            .unwrap_or(self.selected <= 255)
     }
 
-    /// Whether it paints in a register above 255 without a colour.
+    /// Whether it paints in a register of which the model doesn't say the colour.
     #[inline(always)]
     fn is_chance(&self, event: &Event) -> bool
-        ensures { result ≡ rule.is_chance self.now.selected
-            (slice_index_or self.now.coloured self.now.selected false) event.now }
+        ensures { result ≡ rule.is_chance (said_in self.now) event.now }
     {
-        is_painting(event) && self.selected > 255 && !self.has_colour()
+        is_painting(event) && !self.is_said()
     }
 
     /// Whether it is the first that leaves the box, right of it and below it.

@@ -102,7 +102,7 @@ fn registers_have_first_colours(rt: HostRuntime) -> Result<(), Fail> {
     Ok(())
 }
 
-/// A colour system that there isn't stops xterm, and ends the model of mlterm.
+/// A colour system that there isn't stops xterm, and ends the model of mlterm where its colour is painted.
 #[test]
 fn an_unknown_colour_system_ends_a_model(rt: HostRuntime) -> Result<(), Fail> {
     let alloc = rt.alloc();
@@ -111,7 +111,7 @@ fn an_unknown_colour_system_ends_a_model(rt: HostRuntime) -> Result<(), Fail> {
     assert_eq!(rt; shown(alloc, Named::XTerm, text)?, Ok(stopped));
     assert_eq!(rt;
         shown(alloc, Named::MlTerm, text)?,
-        Err(ShowFault::Unmodelled(11))
+        Err(ShowFault::Unmodelled(23))
     );
     Ok(())
 }

@@ -94,12 +94,12 @@ fn konsole_drops_what_waits(rt: HostRuntime) -> Result<(), Fail> {
     Ok(())
 }
 
-/// At an unknown colour system xterm draws nothing more, and the model of mlterm ends.
+/// At an unknown colour system xterm draws nothing more, and the model of mlterm ends where a sixel paints in it.
 #[test]
 fn a_model_ends_at_a_place(rt: HostRuntime) -> Result<(), Fail> {
     let bytes = b"\x1bPq\"1;1;1;6#0;3;9;9;9#0~\x1b\\";
     assert!(rt; shows(rt.alloc(), Named::XTerm, bytes, WHITE_BOX));
-    let fault = RunFault::Unmodelled { place: 11 };
+    let fault = RunFault::Unmodelled { place: 23 };
     assert!(rt; refuses(rt.alloc(), Named::MlTerm, bytes, fault));
     Ok(())
 }
@@ -117,7 +117,7 @@ fn a_model_ends_before_a_box_is_missed(rt: HostRuntime) -> Result<(), Fail> {
             )
         );
     }
-    let fault = RunFault::Unmodelled { place: 3 };
+    let fault = RunFault::Unmodelled { place: 15 };
     assert!(rt;
         refuses(
             rt.alloc(),
