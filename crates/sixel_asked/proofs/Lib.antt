@@ -1,0 +1,9 @@
+pub mod NotesLemmas
+pub mod StaleLemmas
+pub mod CountsLemmas
+pub mod FirstLemmas
+pub mod AskingLemmas
+pub mod CalmLemmas
+pub mod TakingLemmas
+pub mod LawLemmas
+pub mod WitnessLemmas

@@ -1,0 +1,210 @@
+//! Asks while a document is read: the first rule that is broken, of those that a set of terminals asks for.
+
+ghost use Rattle.std.specs.Prelude.{◌≡◌, ◌++◌, ◌∷◌, ◌<◌, ◌+◌, ◌≤◌, [], ℕ, IsTrue, List, length, slice_index, take};
+ghost use Rattle.std.specs.Option.{option_map};
+ghost use Rattle.sixel_grammar.specs.Bytes.{is_data};
+ghost use Rattle.sixel_grammar.specs.Document.{most_bytes};
+ghost use Rattle.sixel_grammar.specs.Stretches.{sixels_from};
+ghost use Rattle.sixel_grammar.specs.declared.command.Event.{Event as AnEvent};
+ghost use Rattle.sixel_grammar.specs.declared.command.Placed.{Placed as PlacedValue};
+ghost use Rattle.sixel_asked.specs.Asking.{HasAsked, HasAskedOn, IsAnswer, TakesOn, found_at, placed_at};
+ghost use Rattle.sixel_asked.specs.Counts.{asked_in, first_in, is_calm_in};
+ghost use Rattle.sixel_asked.specs.Notes.{IsNotesAfter};
+
+use crate::notes::Notes;
+use crate::rule::AskedRule;
+use crate::terminals::Terminals;
+use sixel_grammar::{Command, Event, Follower, Placed};
+use std::convert::Infallible;
+
+/// The most sixels that are taken in one step.
+const MOST_AT_ONCE: usize = 32767;
+
+/// A broken rule, and the offset of the event that breaks it.
+#[derive(Clone, Copy, Debug, PartialEq, Eq)]
+pub struct AskedFinding {
+    pub rule: AskedRule,
+    pub place: u64,
+}
+
+/// Takes the events of a document, and finds the first one that breaks a rule that one of the terminals asks for.
+#[derive(Debug, Drop)]
+pub struct Asking {
+    terminals: Terminals,
+    notes: Notes,
+    finding: Option<AskedFinding>,
+}
+
+impl Asking {
+    /// No event has come.
+    pub fn new(terminals: Terminals) -> Asking
+        ensures asked { HasAsked result [] }
+        ensures terminals { result.terminals ≡ terminals }
+    {
+        Asking {
+            terminals,
+            notes: Notes::new(),
+            finding: None,
+        }
+    }
+
+    /// The first event that breaks a rule that is asked for. It is exact if no select or definition before names a
+    /// register above 255.
+    pub fn finding(&self) -> Option<AskedFinding>
+        ensures { (placed : List PlacedValue) → HasAsked self.now placed
+            → IsAnswer self.now.terminals placed result }
+    {
+        self.finding
+    }
+
+    /// Whether the rule is asked for, and the event breaks it.
+    #[inline(always)]
+    fn breaks(&self, rule: AskedRule, event: &Event) -> bool
+        ensures { result ≡ asked_in self.now.terminals self.now.notes event.now rule }
+    {
+        self.terminals.asks_for(rule) && self.notes.breaks(rule, event)
+    }
+
+    /// The rule with the least number that is asked for and that the event breaks.
+    #[inline(always)]
+    fn first_broken(&self, event: &Event) -> Option<AskedRule>
+        ensures { result ≡ first_in self.now.terminals self.now.notes event.now }
+    {
+        if self.breaks(AskedRule::RasterLate, event) {
+            Some(AskedRule::RasterLate)
+        } else if self.breaks(AskedRule::Dropped, event) {
+            Some(AskedRule::Dropped)
+        } else if self.breaks(AskedRule::Stale, event) {
+            Some(AskedRule::Stale)
+        } else if self.breaks(AskedRule::Large, event) {
+            Some(AskedRule::Large)
+        } else if self.breaks(AskedRule::Rows, event) {
+            Some(AskedRule::Rows)
+        } else if self.breaks(AskedRule::Past, event) {
+            Some(AskedRule::Past)
+        } else if self.breaks(AskedRule::Hue, event) {
+            Some(AskedRule::Hue)
+        } else if self.breaks(AskedRule::Far, event) {
+            Some(AskedRule::Far)
+        } else if self.breaks(AskedRule::Mixed, event) {
+            Some(AskedRule::Mixed)
+        } else {
+            None
+        }
+    }
+
+    /// Finds the rule that the event breaks, if it breaks one.
+    #[inline(always)]
+    fn find(&mut self, place: u64, event: &Event)
+        ensures { self.new ≡ record self.old {
+          finding =
+              option_map (found_at place) (first_in self.old.terminals self.old.notes event.now);
+        } }
+    {
+        self.finding = match self.first_broken(event) {
+            Some(rule) => Some(AskedFinding { rule, place }),
+            None => None,
+        };
+    }
+
+    /// Takes the next event while nothing is found.
+    #[inline(always)]
+    fn look(&mut self, place: u64, event: &Event)
+        ensures terminals { self.new.terminals ≡ self.old.terminals }
+        ensures finding { self.new.finding
+            ≡ option_map (found_at place) (first_in self.old.terminals self.old.notes event.now) }
+        ensures notes { (before : List AnEvent) → IsNotesAfter self.old.notes before
+            → IsNotesAfter self.new.notes (before ++ event.now ∷ []) }
+    {
+        self.find(place, event);
+        self.notes.take(event);
+    }
+
+    /// Takes the next event.
+    ///
+    /// It is inlined, so that a caller that knows the kind of the event keeps only the code for that kind.
+    #[inline(always)]
+    fn push(&mut self, place: u64, event: &Event)
+        ensures terminals { self.new.terminals ≡ self.old.terminals }
+        ensures taken { (seen : List PlacedValue) → HasAsked self.old seen
+            → HasAsked self.new (seen ++ placed_at place event.now ∷ []) }
+    {
+        match &self.finding {
+            Some(_) => {}
+            None => self.look(place, event),
+        }
+    }
+
+    /// Takes sixels one by one.
+    #[inline(never)]
+    fn push_each(&mut self, place: u64, stretch: &[u8])
+        requires sixels { (k : ℕ) → k < length stretch.now → IsTrue (is_data (slice_index stretch.now k)) }
+        requires place { place + length stretch.now ≤ most_bytes }
+        ensures { TakesOn self.old self.new (sixels_from place stretch.now) }
+    {
+        for (index, byte) in stretch.iter().enumerate() {
+            let event = Event::Step(Command::Sixel(byte - b'?'));
+            self.push(place + index as u64, &event);
+        }
+    }
+
+    /// Whether none of so many sixels can break a rule that is asked for.
+    #[inline(always)]
+    fn is_calm(&self, columns: u32) -> bool
+        ensures { result ≡ is_calm_in self.now.terminals self.now.notes columns }
+    {
+        self.notes.is_near(columns)
+            && !(self.terminals.asks_for(AskedRule::Stale) && self.notes.is_stale())
+    }
+
+    /// Takes the sixels of the first `count` of these bytes.
+    #[inline(always)]
+    fn push_stretch(&mut self, place: u64, bytes: &[u8], count: usize)
+        requires sixels { (k : ℕ) → k < count → IsTrue (is_data (slice_index bytes.now k)) }
+        requires within { (0 < count) × (count ≤ length bytes.now) }
+        requires limit { place + count ≤ most_bytes }
+        ensures { TakesOn self.old self.new (sixels_from place (take count bytes.now)) }
+    {
+        if self.finding.is_some() {
+            return;
+        }
+        if count <= MOST_AT_ONCE && self.is_calm(count as u32) {
+            self.notes.pass(count as u32);
+            return;
+        }
+        self.push_each(place, &bytes[..count]);
+    }
+}
+
+impl Follower for Asking {
+    type Stop = Infallible;
+
+    ghost has_taken = { HasAskedOn };
+
+    ghost may_stop = { λ first now stop seen. ⊥ };
+
+    fn take(&mut self, placed: &Placed) -> Result<(), Infallible> {
+        self.push(placed.place, &placed.event);
+        Ok(())
+    }
+
+    fn take_command(&mut self, place: u64, command: Command) -> Result<(), Infallible> {
+        self.push(place, &Event::Step(command));
+        Ok(())
+    }
+
+    fn take_select(&mut self, place: u64, register: u16) -> Result<(), Infallible> {
+        self.push(place, &Event::Step(Command::Select(register)));
+        Ok(())
+    }
+
+    fn take_repeat(&mut self, place: u64, count: u16, bits: u8) -> Result<(), Infallible> {
+        self.push(place, &Event::Step(Command::Repeat { count, bits }));
+        Ok(())
+    }
+
+    fn take_stretch(&mut self, place: u64, bytes: &[u8], count: usize) -> Result<(), Infallible> {
+        self.push_stretch(place, bytes, count);
+        Ok(())
+    }
+}

@@ -1,0 +1,15 @@
+//! The rules that named terminals ask for, besides those of portable pictures.
+#![tactic(auto)]
+
+mod asking;
+mod events;
+pub mod laws;
+mod notes;
+mod rule;
+mod rules;
+mod shade;
+mod terminals;
+
+pub use asking::{AskedFinding, Asking};
+pub use rule::AskedRule;
+pub use terminals::Terminals;
