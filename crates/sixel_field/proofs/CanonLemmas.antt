@@ -20,7 +20,8 @@ use Rattle.sixel_encode.specs.Canon.{canon_commands, canon_start, define_command
 use Rattle.sixel_encode.specs.Canon.{register_commands, run_commands, runs}
 use Rattle.sixel_encode.proofs.LengthLemmas.{defines_from}
 use Rattle.sixel_encode.proofs.OpeningLemmas.{raster}
-use Rattle.sixel_field.specs.Laws.{CanonDefinesFirst, DefinesFirst}
+use Rattle.sixel_field.specs.Laws.{CanonDefinesFirst}
+use Rattle.sixel_field.specs.Stale.{DefinesFirst}
 use Rattle.sixel_field.proofs.FirstLemmas.{IsNoDefinition, IsNoSelect, parts_define_first}
 
 -- each command holds a property

@@ -10,7 +10,7 @@ use Rattle.sixel_model.specs.Events.{definition_where, select_of}
 use Rattle.sixel_model.specs.Positions.{HoldsAtPosition, latest}
 use Rattle.sixel_model.proofs.PositionLemmas.{holds_before, holds_end, holds_within}
 use Rattle.sixel_judge.proofs.AlarmLemmas.{taken_there, taken_twice}
-use Rattle.sixel_field.specs.Laws.{DefinesFirst, IsLateDefinition}
+use Rattle.sixel_field.specs.Stale.{DefinesFirst, IsLateDefinition}
 
 -- ---- prefixes
 

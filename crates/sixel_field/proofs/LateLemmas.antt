@@ -1,5 +1,9 @@
 -- A list in which a definition comes after a select.
-use Rattle.std.proofs.Common.{◌≡◌, ◌≢◌, ℕ, refl, lit≤}
+use Rattle.std.proofs.Common.{◌≡◌, ℕ, List, [], ◌∷◌, refl, ap, ◌∙◌, lit≤}
+use Rattle.sixel_grammar.specs.declared.command.Command.TheVariants.{Define, Select, Sixel}
+use Rattle.sixel_grammar.specs.declared.command.Event.{Event}
+use Rattle.sixel_grammar.specs.declared.command.Event.TheVariants.{Step}
+use Rattle.sixel_model.specs.declared.colour.Parts.{Parts}
 use Rattle.sixel_model.specs.declared.colour.Parts.TheVariants.{Rgb}
 use Rattle.sixel_model.specs.Rules.{Breaks, BreaksNone, BreaksOutside, BreaksUncovered, breaks_box_size}
 use Rattle.sixel_model.specs.Rules.{breaks_eight_bit, breaks_colour_value, breaks_ratio, breaks_raster_first}
@@ -23,8 +27,14 @@ use Rattle.sixel_judge.proofs.DecideLemmas.{broken_decided, broken_or_none}
 use Rattle.sixel_judge.proofs.OnePixel.{second_of}
 use Rattle.sixel_judge.proofs.SearchLemmas.{decide_true, least_here, least_more, least_below, in_row}
 use Rattle.sixel_judge.proofs.SearchLemmas.{row_decided, first_point}
-use Rattle.sixel_field.specs.AtSelection.{loaded_on, shown_at_selection}
+use Rattle.sixel_models.specs.Foot.{foot_model}
+use Rattle.sixel_models.specs.Readings.{IsReading}
+use Rattle.sixel_models.specs.Settings.{foot_display}
+use Rattle.sixel_models.specs.Words.{after_each, after_first}
+use Rattle.sixel_models.proofs.NamedLemmas.{reading_once}
 use Rattle.sixel_field.specs.Laws.{LateDefinitionsCanDiffer, late_red}
+use Rattle.sixel_field.proofs.DrawingLemmas.{drawing_is_reading, foot_drawing}
+use Rattle.sixel_field.proofs.SaidLemmas.{all_is_said}
 
 -- by computation, each rule is tested at each event
 unbroken : (profile : Profile) → BreaksNone (count_of profile) last_rule late_red
@@ -71,17 +81,25 @@ unfolding shown_on last_at last_below at_position is_seen_on paints_on is_kept_o
 red_at_painting Registers16 = refl
 red_at_painting Registers256 = refl
 
-black_at_selection : (profile : Profile) → shown_at_selection (one_white (count_of profile)) late_red 0 0 ≡ Rgb 0 0 0
-unfolding shown_at_selection loaded_on last_at last_below at_position is_seen_on paints_on is_kept_on touches_on touches
-    covers any_below height_of selected_on map_on latest earliest raster_before band column since
-black_at_selection Registers16 = refl
-black_at_selection Registers256 = refl
+-- what foot draws: black is given to what was never defined, and that is selected
+late_drawing : foot_drawing late_red ≡ Step (Define 1 2 0 0 0) ∷ Step (Select 1) ∷ Step (Sixel 1) ∷ []
+unfolding after_each after_first latest band column since
+late_drawing = refl
 
-not_red : (profile : Profile) → shown_at_selection (one_white (count_of profile)) late_red 0 0 ≢ Rgb 100 0 0
-not_red profile red =
-    let black : shown_at_selection (one_white (count_of profile)) late_red 0 0 ≡ Rgb 0 0 0
-    = black_at_selection profile in
-    cc
+black_drawn : (background : Parts)
+    → shown_on (foot_display background 1 1) (Step (Define 1 2 0 0 0) ∷ Step (Select 1) ∷ Step (Sixel 1) ∷ []) 0 0
+    ≡ Rgb 0 0 0
+unfolding shown_on last_at last_below at_position is_seen_on paints_on is_kept_on touches_on touches covers any_below
+    height_of selected_on map_on latest earliest raster_before band column since
+black_drawn background = refl
+
+black_on_foot : (background : Parts) (drawing : List Event) → IsReading foot_model late_red drawing
+    → shown_on (foot_display background 1 1) drawing 0 0 ≡ Rgb 0 0 0
+black_on_foot background drawing reading =
+    ap (λ (es : List Event). shown_on (foot_display background 1 1) es 0 0)
+    (reading_once foot_model late_red drawing (foot_drawing late_red) reading (drawing_is_reading late_red)
+    ∙ late_drawing)
+    ∙ black_drawn background
 
 pub late_definitions_can_differ : (profile : Profile) → LateDefinitionsCanDiffer (count_of profile)
 late_definitions_can_differ profile = (
@@ -91,6 +109,7 @@ late_definitions_can_differ profile = (
     class = in_class profile;
     room = record { across = lit≤ tt; down = lit≤ tt };
     red = red_at_painting profile;
-    other = not_red profile;
+    said = all_is_said (count_of profile) late_red (unbroken profile);
+    black = black_on_foot;
   },
 )

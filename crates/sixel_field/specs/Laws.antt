@@ -1,47 +1,63 @@
 -- What the laws say.
-use Rattle.std.specs.Prelude.{◌≢◌, ◌∷◌, [], ◌≡◌, ◌<◌, ◌+◌, ℕ, true, false, IsSome, List, Some}
+use Rattle.std.specs.Prelude.{◌∷◌, [], ◌≡◌, ◌≤◌, ℕ, false, IsTrue, List}
 use Rattle.sixel_grammar.specs.declared.command.Command.TheVariants.{Define, Raster, Select, Sixel}
 use Rattle.sixel_grammar.specs.declared.command.Event.{Event}
 use Rattle.sixel_grammar.specs.declared.command.Event.TheVariants.{Start, Step, Finish}
+use Rattle.sixel_grammar.specs.Document.{AreWhole}
+use Rattle.sixel_model.specs.declared.colour.Parts.{Parts}
 use Rattle.sixel_model.specs.declared.colour.Parts.TheVariants.{Rgb}
-use Rattle.sixel_model.specs.Colours.{palette_at}
-use Rattle.sixel_model.specs.Events.{definition_where, select_of}
-use Rattle.sixel_model.specs.Pictures.{PictureValue, IsPicture, register_of}
-use Rattle.sixel_model.specs.Positions.{HoldsNowhere, latest}
-use Rattle.sixel_model.specs.Rules.{BreaksNone, last_rule}
+use Rattle.sixel_model.specs.Pictures.{PictureValue, IsPicture}
+use Rattle.sixel_model.specs.Positions.{HoldsNowhere}
+use Rattle.sixel_model.specs.Rules.{BreaksNone, last_rule, picture_left}
 use Rattle.sixel_terminal.specs.Displays.{Display, HasRoom, IsInClass}
 use Rattle.sixel_terminal.specs.Drawing.{shown_on}
+use Rattle.sixel_models.specs.declared.named.Named.{Named}
+use Rattle.sixel_models.specs.declared.named.Named.TheVariants.{Foot}
+use Rattle.sixel_models.specs.Foot.{foot_model}
+use Rattle.sixel_models.specs.Named.{model_of, terminal_on}
+use Rattle.sixel_models.specs.Readings.{IsReading, IsSaid}
+use Rattle.sixel_models.specs.Settings.{foot_display}
+use Rattle.sixel_judge.specs.Portable.{Shows}
 use Rattle.sixel_encode.specs.Canon.{canon}
-use Rattle.sixel_field.specs.AtSelection.{at_painting, shown_at_selection}
+use Rattle.sixel_asked.specs.Asked.{BreaksAsked, asks}
+use Rattle.sixel_asked.specs.declared.rule.AskedRule.{AskedRule}
+use Rattle.sixel_field.specs.Stale.{DefinesFirst, NoneIsStale}
 
--- the event is a definition, and a select comes before it
-pub record IsLateDefinition (before : List Event) (e : Event) : Type 0 where
-  pub after : IsSome (latest select_of before)
-  pub defines : IsSome (definition_where (λ r. true) e)
+-- the model of the terminal says all. On a screen of the background with these sides, it shows the picture at the
+-- origin, and nothing is painted outside the picture
+pub record IsShownOn (named : Named) (background : Parts) (sides : ℕ × ℕ) (events : List Event) (p : PictureValue)
+    : Type 0 where
+  pub said : IsSaid (model_of named) events
+  pub drawing : List Event
+  pub is_reading : IsReading (model_of named) events drawing
+  pub shows : Shows (terminal_on named background ((model_of named).opening events) sides) drawing p
 
--- no definition comes after a select
-abbrev pub DefinesFirst : List Event → Type 0
-DefinesFirst events = HoldsNowhere IsLateDefinition events
+-- no event breaks a rule that the terminal asks for, besides those of portable pictures
+abbrev pub BreaksNoneOf : Named → List Event → Type 0
+BreaksNoneOf named events = (rule : AskedRule) → IsTrue (asks named rule) → HoldsNowhere (BreaksAsked rule) events
 
--- if a list breaks no rule, and no definition comes after a select, a terminal that binds at selection shows the same
--- as the one that binds at painting
-abbrev pub SameAtSelection : ℕ → Type 0
-SameAtSelection registers =
-    (t : Display) (events : List Event) (x y : ℕ) → BreaksNone registers last_rule events → DefinesFirst events
-    → shown_at_selection t events x y ≡ shown_on (at_painting t) events x y
+-- if a list breaks no rule, and none of those that the terminal asks for, the terminal shows the picture that the
+-- events leave on each screen with room
+abbrev pub ShowsPortable : Named → ℕ → Type 0
+ShowsPortable named registers =
+    (background : Parts) (width height : ℕ) (events : List Event) → AreWhole events
+    → BreaksNone registers last_rule events → BreaksNoneOf named events
+    → (picture_left registers events).width ≤ width → (picture_left registers events).height ≤ height
+    → IsShownOn named background (width, height) events (picture_left registers events)
+
+-- no painting command is in a colour that its register got after it was selected, if no definition comes after a select
+abbrev pub FirstIsNotStale : Type 0
+FirstIsNotStale = (events : List Event) → DefinesFirst events → NoneIsStale events
 
 -- in the canonical list of a picture no definition comes after a select
 abbrev pub CanonDefinesFirst : Type 0
 CanonDefinesFirst = (p : PictureValue) → DefinesFirst (canon p)
 
--- after the canonical list of a picture, a terminal that binds at selection and makes its other choices as one of the
--- class shows each pixel of the picture, if it has room
-abbrev pub CanonShownAtSelection : ℕ → Type 0
-CanonShownAtSelection registers =
-    (p : PictureValue) (t : Display) (x y : ℕ) → IsPicture registers p → IsInClass registers t
-    → HasRoom t p.width p.height → x < p.width → y < p.height
-    → palette_at p.palette (register_of p x y)
-    ≡ Some (shown_at_selection t (canon p) (t.choices.origin_x + x) (t.choices.origin_y + y))
+-- foot shows a picture by its canonical list, on each screen with room
+abbrev pub CanonShownOnFoot : ℕ → Type 0
+CanonShownOnFoot registers =
+    (background : Parts) (width height : ℕ) (p : PictureValue) → IsPicture registers p → p.width ≤ width
+    → p.height ≤ height → IsShownOn Foot background (width, height) (canon p) p
 
 -- one pixel, painted in a register that is selected and then defined as red
 abbrev pub late_red : List Event
@@ -49,13 +65,15 @@ late_red =
     Start false (record { items = 0 ∷ [] }) ∷ Step (Raster 1 1 1 1) ∷ Step (Select 0) ∷ Step (Define 0 2 100 0 0)
     ∷ Step (Sixel 1) ∷ Finish false ∷ []
 
--- the list breaks no rule; on some terminal with room the pixel is red, but not if it binds at selection
-pub record IsRedExceptAtSelection (registers : ℕ) (t : Display) : Type 0 where
+-- the list breaks no rule; the pixel is red on a terminal of the class with room, and black on foot
+pub record IsRedExceptOnFoot (registers : ℕ) (t : Display) : Type 0 where
   pub unbroken : BreaksNone registers last_rule late_red
   pub class : IsInClass registers t
   pub room : HasRoom t 1 1
   pub red : shown_on t late_red 0 0 ≡ Rgb 100 0 0
-  pub other : shown_at_selection t late_red 0 0 ≢ Rgb 100 0 0
+  pub said : IsSaid foot_model late_red
+  pub black : (background : Parts) (drawing : List Event) → IsReading foot_model late_red drawing
+      → shown_on (foot_display background 1 1) drawing 0 0 ≡ Rgb 0 0 0
 
 abbrev pub LateDefinitionsCanDiffer : ℕ → Type 0
-LateDefinitionsCanDiffer registers = (t : Display) × IsRedExceptAtSelection registers t
+LateDefinitionsCanDiffer registers = (t : Display) × IsRedExceptOnFoot registers t

@@ -1,2 +1,2 @@
-pub mod AtSelection
+pub mod Stale
 pub mod Laws

@@ -1,24 +1,32 @@
-//! Laws about a terminal that takes a register's colour when the register is selected. It is outside the class. Each
-//! function's contract is the law.
+//! Laws about the portable pictures that the named terminals show. Each function's contract is the law.
 
 ghost use Rattle.sixel_model.specs.Profiles.{count_of};
 ghost use Rattle.sixel_model.specs.declared.profile.Profile.{Profile};
-ghost use Rattle.sixel_field.specs.Laws.{CanonDefinesFirst, CanonShownAtSelection, LateDefinitionsCanDiffer};
-ghost use Rattle.sixel_field.specs.Laws.{SameAtSelection};
+ghost use Rattle.sixel_models.specs.declared.named.Named.{Named};
+ghost use Rattle.sixel_field.specs.Laws.{CanonDefinesFirst, CanonShownOnFoot, FirstIsNotStale, ShowsPortable};
+ghost use Rattle.sixel_field.specs.Laws.{LateDefinitionsCanDiffer};
 
-/// If a list breaks no rule, and no definition comes after a selection, such a terminal shows the same as one that
-/// takes the colour at painting.
-pub fn early_definitions_show_the_same()
-    ensures { (profile : Profile) → SameAtSelection (count_of profile) }
+/// If a list breaks no rule, and none of those that a named terminal asks for, that terminal shows the picture.
+pub fn named_terminals_show_portable_pictures()
+    ensures xterm { (profile : Profile) → ShowsPortable Named.XTerm (count_of profile) }
+    ensures mlterm { (profile : Profile) → ShowsPortable Named.MlTerm (count_of profile) }
+    ensures foot { (profile : Profile) → ShowsPortable Named.Foot (count_of profile) }
+    ensures konsole { (profile : Profile) → ShowsPortable Named.Konsole (count_of profile) }
 {}
 
-/// In the canonical list of a picture no definition comes after a selection, and such a terminal shows the picture.
+/// Each painting command is in the colour that its register had when it was selected, as foot asks, if no definition
+/// comes after a selection.
+pub fn early_definitions_are_not_stale()
+    ensures { FirstIsNotStale }
+{}
+
+/// In the canonical list of a picture no definition comes after a selection, and foot shows the picture.
 pub fn canonical_lists_define_first()
     ensures first { CanonDefinesFirst }
-    ensures shown { (profile : Profile) → CanonShownAtSelection (count_of profile) }
+    ensures shown { (profile : Profile) → CanonShownOnFoot (count_of profile) }
 {}
 
-/// A list that breaks no rule can show another colour on such a terminal, if a definition comes after a selection.
+/// A list that breaks no rule can show another colour on foot, if a definition comes after a selection.
 pub fn late_definitions_can_differ()
     ensures { (profile : Profile) → LateDefinitionsCanDiffer (count_of profile) }
 {}

@@ -1,4 +1,4 @@
-//! Laws about terminals outside the class.
+//! Laws about the portable pictures that named terminals show.
 #![tactic(auto)]
 
 pub mod laws;
