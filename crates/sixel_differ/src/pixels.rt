@@ -1,0 +1,46 @@
+//! The first pixel in which two screens differ.
+
+ghost use Rattle.std.specs.Prelude.{◌≡◌, ◌<◌, ◌*◌, ◌/◌, ◌%◌, ◌^◌, ℕ, length};
+ghost use Rattle.std.specs.Option.{MatchOption};
+ghost use Rattle.sixel_differ.specs.Pixels.{AreAlike, AreSameBelow, DifferFirstAt, IsFirstUnlike};
+
+use sixel_terminal::{Pixel, Screen};
+
+/// The index of the first pixel that isn't the same in both, if there is one.
+fn first_index(a: &[Pixel], b: &[Pixel]) -> Option<usize>
+    requires { length a.now ≡ length b.now }
+    ensures { MatchOption result (AreSameBelow a.now b.now (length a.now)) (IsFirstUnlike a.now b.now) }
+{
+    for at in 0..a.len() {
+        if !a[at].is_same(&b[at]) {
+            return Some(at);
+        }
+    }
+    None
+}
+
+/// The column and the row of the pixel with this index.
+fn place_of(at: usize, width: u32) -> (u32, u32)
+    requires { (height : ℕ) × (height < 2 ^ 32) × (at < width * height) }
+    ensures { (result.0 ≡ at % width) × (result.1 ≡ at / width) }
+{
+    let width = width as usize;
+    ((at % width) as u32, (at / width) as u32)
+}
+
+/// The column and the row of the first pixel, row by row, in which two screens of the same sides differ. `None`: they
+/// are equal at each pixel.
+pub fn first_unlike(a: &Screen, b: &Screen) -> Option<(u32, u32)>
+    requires width { a.now.width ≡ b.now.width }
+    requires height { a.now.height ≡ b.now.height }
+    requires whole { length a.now.colours ≡ a.now.width * a.now.height }
+    requires whole_other { length b.now.colours ≡ b.now.width * b.now.height }
+    ensures { MatchOption result (AreAlike a.now b.now) (λ pixel. DifferFirstAt a.now b.now pixel.0 pixel.1) }
+{
+    // It is a `u32`, so the row is one.
+    let _height = a.height();
+    match first_index(a.pixels(), b.pixels()) {
+        None => None,
+        Some(at) => Some(place_of(at, a.width())),
+    }
+}

@@ -1,0 +1,175 @@
+//! What the named terminals show of a document.
+
+ghost use Rattle.std.specs.Prelude.{◌≡◌, ◌≢◌, ◌≤◌, ◌&&◌, ℕ, Err, IfErr, IfOk, IsTrue, List, MatchResult};
+ghost use Rattle.sixel_grammar.specs.declared.command.Placed.{Placed as Place};
+ghost use Rattle.sixel_grammar.specs.Document.{Document, events_of};
+ghost use Rattle.sixel_model.specs.Pictures.{is_side};
+ghost use Rattle.sixel_terminal.specs.Limits.{is_screen_side};
+ghost use Rattle.sixel_models.specs.Modelled.{opening_of};
+ghost use Rattle.sixel_models.specs.declared.named.Named.{Named as ANamed};
+ghost use Rattle.sixel_models.specs.Named.{model_of};
+ghost use Rattle.sixel_mend.specs.declared.mending.Mending.{Mending as AMending};
+ghost use Rattle.sixel_mend.specs.Measuring.{HasMeasured};
+ghost use Rattle.sixel_mend.specs.Mended.{Mends};
+ghost use Rattle.sixel_mend.specs.Sizes.{IsSize};
+ghost use Rattle.sixel_differ.specs.declared.view.Views.{Views as SomeViews};
+ghost use Rattle.sixel_differ.specs.Comparisons.{IsComparison};
+ghost use Rattle.sixel_differ.specs.Faults.{IsDifferFault, IsReadingFault};
+ghost use Rattle.sixel_differ.specs.Views.{AreViews, HaveSides, IsInBands, IsView, view_in};
+
+use crate::comparison::Comparison;
+use crate::fault::DifferFault;
+use crate::view::{View, Views};
+use sixel_grammar::{Command, follow_document};
+use sixel_mend::{Measurer, MendFault, size_of};
+use sixel_model::{BAND_ROWS, Colour};
+use sixel_models::{Measuring, Named, ShowFault, show_on};
+use std::alloc::Global;
+
+/// The same fault. No size has too many colours.
+fn fault_of_size(fault: MendFault) -> DifferFault
+    requires { (bytes : List ℕ) × ((registers : ℕ) (mending : AMending) → Mends registers mending bytes (Err fault)) }
+    ensures { (bytes : List ℕ) → ((registers : ℕ) (mending : AMending) → Mends registers mending bytes (Err fault))
+        → (mending : AMending) → IsDifferFault mending bytes result }
+{
+    match fault {
+        MendFault::Grammar(fault) => DifferFault::Grammar(fault),
+        MendFault::Empty => DifferFault::Empty,
+        MendFault::TooLarge => DifferFault::TooLarge,
+        MendFault::TooManyColours => unreachable!(),
+        MendFault::OutOfMemory => DifferFault::OutOfMemory,
+    }
+}
+
+/// The width and the height of the mended picture of what was measured.
+fn sides_of(measurer: &Measurer) -> Result<(u32, u32), DifferFault>
+    requires { (bytes : List ℕ) × HasMeasured measurer.now bytes }
+    ensures sides { IfOk result (λ sides. IsTrue (is_side sides.0 && is_side sides.1)) }
+    ensures sized { IfOk result (λ sides. (bytes : List ℕ) → HasMeasured measurer.now bytes
+        → (placed : List Place) × Document placed bytes
+        × ((mending : AMending) → IsSize mending (events_of placed) sides.0 sides.1)) }
+    ensures refused { IfErr result (λ fault. (bytes : List ℕ) → HasMeasured measurer.now bytes
+        → (mending : AMending) → IsDifferFault mending bytes fault) }
+{
+    match size_of(measurer) {
+        Ok(sides) => Ok(sides),
+        Err(fault) => Err(fault_of_size(fault)),
+    }
+}
+
+/// The least height of whole bands that isn't less.
+fn in_bands(height: u32) -> u32
+    requires { IsTrue (is_side height) }
+    ensures bands { IsInBands height result }
+    ensures side { IsTrue (is_screen_side result) }
+{
+    height.div_ceil(BAND_ROWS) * BAND_ROWS
+}
+
+/// What konsole's model draws before the first event of a document.
+fn opening_for_konsole(bytes: &[u8]) -> Result<Option<Command>, DifferFault>
+    ensures opening { IfOk result (λ opening. (placed : List Place) × Document placed bytes.now
+        × (opening_of opening ≡ (model_of Named.Konsole).opening (events_of placed))) }
+    ensures refused { IfErr result (IsReadingFault bytes.now) }
+{
+    let mut measuring = Measuring::new();
+    follow_document(bytes, &mut measuring)?;
+    Ok(Named::Konsole.opening(measuring))
+}
+
+/// What a named terminal shows of a document. `opening` is what its model draws before the first event.
+fn view_on(
+    alloc: Global,
+    named: Named,
+    background: Colour,
+    width: u32,
+    height: u32,
+    opening: Option<Command>,
+    bytes: &[u8],
+) -> Result<View, DifferFault>
+    requires { IsTrue (is_screen_side width && is_screen_side height) }
+    ensures view { IfOk result (λ view. (placed : List Place) → Document placed bytes.now
+        → opening_of opening ≡ (model_of named).opening (events_of placed)
+        → IsView named background (width, height) placed view) }
+    ensures refused { IfErr result (IsReadingFault bytes.now) }
+{
+    match show_on(alloc, named, background, width, height, opening, bytes) {
+        Ok(screen) => Ok(View::Screen(screen)),
+        Err(ShowFault::Grammar(fault)) => Err(DifferFault::Grammar(fault)),
+        Err(ShowFault::Unmodelled(place)) => Ok(View::Unmodelled(place)),
+        Err(ShowFault::OutOfMemory) => Err(DifferFault::OutOfMemory),
+    }
+}
+
+/// What each named terminal shows of a document, on screens of these sides.
+fn views_on(
+    alloc: Global,
+    background: Colour,
+    width: u32,
+    height: u32,
+    bytes: &[u8],
+) -> Result<Views, DifferFault>
+    requires { IsTrue (is_screen_side width && is_screen_side height) }
+    ensures width { IfOk result (λ views. views.width ≡ width) }
+    ensures height { IfOk result (λ views. views.height ≡ height) }
+    ensures views { IfOk result (λ views. (named : ANamed) (placed : List Place) → Document placed bytes.now
+        → IsView named background (width, height) placed (view_in views named)) }
+    ensures refused { IfErr result (IsReadingFault bytes.now) }
+{
+    let opening = opening_for_konsole(bytes)?;
+    Ok(Views {
+        width,
+        height,
+        xterm: view_on(alloc, Named::XTerm, background, width, height, None, bytes)?,
+        mlterm: view_on(alloc, Named::MlTerm, background, width, height, None, bytes)?,
+        foot: view_on(alloc, Named::Foot, background, width, height, None, bytes)?,
+        konsole: view_on(
+            alloc,
+            Named::Konsole,
+            background,
+            width,
+            height,
+            opening,
+            bytes,
+        )?,
+    })
+}
+
+/// What each named terminal shows of a document that this measurer has read. Each screen has the size of the mended
+/// picture, with the height rounded up to whole bands, and the background before; the picture begins at its top left.
+///
+/// The string is read once more for konsole's rectangle, and once for each terminal.
+pub fn views_measured(
+    alloc: Global,
+    background: Colour,
+    measurer: &Measurer,
+    bytes: &[u8],
+) -> Result<Views, DifferFault>
+    requires { HasMeasured measurer.now bytes.now }
+    ensures views { IfOk result (AreViews background bytes.now) }
+    ensures sides { IfOk result HaveSides }
+    ensures refused { IfErr result (λ fault. (mending : AMending) → IsDifferFault mending bytes.now fault) }
+{
+    let (width, height) = sides_of(measurer)?;
+    views_on(alloc, background, width, in_bands(height), bytes)
+}
+
+/// As `views_measured`, of any bytes.
+pub fn views(alloc: Global, background: Colour, bytes: &[u8]) -> Result<Views, DifferFault>
+    ensures views { IfOk result (AreViews background bytes.now) }
+    ensures sides { IfOk result HaveSides }
+    ensures refused { IfErr result (λ fault. (mending : AMending) → IsDifferFault mending bytes.now fault) }
+{
+    let mut measurer = Measurer::new();
+    measurer.feed(bytes)?;
+    views_measured(alloc, background, &measurer, bytes)
+}
+
+/// Compares what the named terminals show of a document, on screens of its size.
+pub fn differ(alloc: Global, background: Colour, bytes: &[u8]) -> Result<Comparison, DifferFault>
+    ensures compared { IfOk result (λ comparison. (views : SomeViews) × AreViews background bytes.now views
+        × IsComparison views comparison) }
+    ensures refused { IfErr result (λ fault. (mending : AMending) → IsDifferFault mending bytes.now fault) }
+{
+    Ok(views(alloc, background, bytes)?.compare())
+}
