@@ -1,11 +1,13 @@
 -- Drawings: one more event, and the screen at the end.
-use Rattle.std.proofs.Common.{◌≡◌, ℕ, zero, suc, ◌+◌, ◌*◌, ◌<◌, Bool, true, false, ◌||◌, List, [], ◌∷◌, ◌++◌, length}
-use Rattle.std.proofs.Common.{replicate, take, drop, set, get_or, map, refl, sym, ap, ap₂, ◌∙◌, add-one, arith}
+use Rattle.std.proofs.Common.{◌≡◌, ℕ, zero, suc, ◌+◌, ◌*◌, ◌%◌, ◌<◌, Bool, true, false, ◌||◌, List, [], ◌∷◌, ◌++◌}
+use Rattle.std.proofs.Common.{length, replicate, take, drop, set, get_or, map, refl, sym, ap, ap₂, ◌∙◌, add-one, arith}
 use Rattle.std.specs.Prelude.{if◌then◌else◌, unwrap_or}
 use Rattle.std.specs.List.{list_any}
 use Rattle.std.specs.Option.{option_map}
 use Rattle.std.proofs.lemmas.List.{ext_get_or, get_or-map, length-map, length-replicate}
 use Rattle.std.proofs.lemmas.List.Folds.{list_any-append}
+use Rattle.std.proofs.lemmas.Nat.{mod_below}
+use Rattle.std.proofs.Math.Nat.{mod-eq_of_lt}
 use Rattle.sixel_grammar.specs.declared.command.Event.{Event}
 use Rattle.sixel_model.specs.declared.colour.Parts.{Parts}
 use Rattle.sixel_model.specs.declared.colour.Parts.TheVariants.{Rgb}
@@ -15,12 +17,12 @@ use Rattle.sixel_terminal.specs.declared.pen.Pen.{Pen}
 use Rattle.sixel_terminal.specs.declared.pixel.Ink.{Ink}
 use Rattle.sixel_terminal.specs.declared.pixel.Ink.TheVariants.{Fixed, Bound}
 use Rattle.sixel_terminal.specs.Canvases.{black}
-use Rattle.sixel_terminal.specs.Displays.{Display}
+use Rattle.sixel_terminal.specs.Displays.{Display, registers_of}
 use Rattle.sixel_terminal.specs.Drawing.{is_seen_on, map_on, paints_on, screen_on}
 use Rattle.sixel_terminal.specs.Drawings.{Drawn, HasDrawn}
 use Rattle.sixel_terminal.specs.Screens.{IsAllFixed, colour_in_ink}
-use Rattle.sixel_terminal.specs.Standing.{StandsAfter, ink_at_point, ink_in_register, inked_by, shown_in}
-use Rattle.sixel_terminal.proofs.InkLemmas.{map_same}
+use Rattle.sixel_terminal.specs.Standing.{IsInkBelow, StandsAfter, ink_at_point, ink_in_register, inked_by, shown_in}
+use Rattle.sixel_terminal.proofs.InkLemmas.{map_same, paints_below}
 use Rattle.sixel_terminal.proofs.RunLemmas.{Runs}
 use Rattle.sixel_terminal.proofs.ShownLemmas.{all_shown, map_last, map_map, unseen_screen, unwrap_map}
 
@@ -147,6 +149,53 @@ painted_fixed t events p colours inks plain s k d lt =
     default_is (x ∷ xs) zero d lt = refl
     default_is (x ∷ xs) (suc k) d lt = default_is xs k d (omega (arith, lt))
 
+-- ---- the registers of pixels
+
+-- the ink with its register modulo n
+abbrev wrapped : ℕ → Ink → Ink
+wrapped n (Fixed colour) = Fixed colour
+wrapped n (Bound register) = Bound (register % n)
+
+wrapped_below : (n : ℕ) (ink : Ink) → 0 < n → wrapped n ink ≡ ink → IsInkBelow n ink
+wrapped_below n (Fixed colour) some same = tt
+wrapped_below n (Bound register) some same =
+    let is : register % n ≡ register = cc in
+    omega (arith, is, mod_below register n some)
+
+ink_wrapped : (binds : Bool) (t : Display) (before : List Event) (r : ℕ) → r < registers_of t
+    → wrapped (registers_of t) (if binds then Bound r else Fixed (map_on t before r))
+    ≡ (if binds then Bound r else Fixed (map_on t before r))
+ink_wrapped true t before r lt = ap (λ n. Bound n) (mod-eq_of_lt lt)
+ink_wrapped false t before r lt = refl
+
+painted_wrapped : (t : Display) (x y : ℕ) (before : List Event) (e : Event) → Runs t
+    → option_map (wrapped (registers_of t)) (inked_by t x y before e) ≡ inked_by t x y before e
+painted_wrapped t x y before e runs =
+    map_map (wrapped (registers_of t)) (ink_in_register t before) (paints_on t before e x y)
+    ∙ map_same _ _ (paints_on t before e x y)
+    (λ r h. ink_wrapped t.choices.binds_at_showing t before r (paints_below t before e x y r runs h))
+
+point_wrapped : (t : Display) (events : List Event) (x y : ℕ) → Runs t
+    → wrapped (registers_of t) (ink_at_point t events x y) ≡ ink_at_point t events x y
+unfolding ink_at_point
+point_wrapped t events x y runs =
+    unwrap_map (wrapped (registers_of t)) (last_at (inked_by t x y) events) _
+    ∙ ap (λ o. unwrap_or o (Fixed (get_or t.screen (y * t.choices.screen_width + x) (Rgb 0 0 0))))
+    (map_last (wrapped (registers_of t)) (inked_by t x y) (inked_by t x y) events
+    (λ before e. painted_wrapped t x y before e runs))
+
+-- the register of each pixel is one of the terminal's
+pub stands_below : (t : Display) (events : List Event) (p : Pen) (colours : List Parts) (inks : List Ink) (i : ℕ)
+    → Runs t → StandsAfter t events p colours inks → i < length inks
+    → IsInkBelow (length colours) (get_or inks i black)
+stands_below t events p colours inks i runs s lt =
+    let below : i < t.choices.screen_width * t.choices.screen_height = omega (arith, lt, s.pixels) in
+    let some : 0 < registers_of t = omega (arith, runs.in_class.enough) in
+    rw (s.registers, s.inks_are i below)
+    (wrapped_below (registers_of t) (ink_at_point t events _ _) some (point_wrapped t events _ _ runs))
+
+-- ---- the screen
+
 pub painted_shown : (t : Display) (events : List Event) (p : Pen) (colours : List Parts) (inks : List Ink) → Runs t
     → is_seen_on t events ≡ true → t.choices.binds_at_showing ≡ false → StandsAfter t events p colours inks
     → map colour_in_ink inks ≡ screen_on t events
@@ -161,14 +210,14 @@ pub bound_shown : (t : Display) (events : List Event) (p : Pen) (colours : List 
 bound_shown t events p colours inks runs seen s =
     colours_back (shown_in colours) inks ∙ all_shown t events p colours inks runs seen s
 
-same_list : (xs : List Parts) → map (λ c. c) xs ≡ xs
-same_list [] = refl
-same_list (x ∷ xs) = ap (λ (ys : List _). x ∷ ys) (same_list xs)
+-- the colours that pixels show which were made of them
+pub colours_of_fixed : (colours : List Parts) → map colour_in_ink (map (λ c. Fixed c) colours) ≡ colours
+colours_of_fixed [] = refl
+colours_of_fixed (c ∷ rest) = ap (λ (cs : List _). c ∷ cs) (colours_of_fixed rest)
 
 pub unseen_shown : (t : Display) (events : List Event) → Runs t → is_seen_on t events ≡ false
     → map colour_in_ink (map (λ c. Fixed c) t.screen) ≡ screen_on t events
-unseen_shown t events runs unseen =
-    colours_back (λ c. c) t.screen ∙ same_list t.screen ∙ unseen_screen t events runs unseen
+unseen_shown t events runs unseen = colours_of_fixed t.screen ∙ unseen_screen t events runs unseen
 
 -- whether a terminal sees a string, by what it kept of the controls
 pub unseen_by : (t : Display) (events : List Event) (bit : Bool) → bit ≡ list_any is_eight_bit events → bit ≡ true

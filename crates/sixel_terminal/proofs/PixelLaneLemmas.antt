@@ -1,5 +1,5 @@
 -- The codes of four pixels at once.
-use Rattle.std.proofs.Common.{◌≡◌, ◌==◌, ℕ, ◌*◌, ◌%◌, ◌^◌, ◌<◌, Bool, false, cond, List, length, get_or, map}
+use Rattle.std.proofs.Common.{◌≡◌, ◌==◌, ℕ, ◌*◌, ◌^◌, ◌<◌, Bool, false, cond, List, length, get_or, map}
 use Rattle.std.proofs.Common.{replicate, w32, inl, inr, ◌≢◌, sym, ap, ap₂, ◌∙◌, arith}
 use Rattle.std.specs.Int.{bit_at}
 use Rattle.std.specs.Int.Bits.{bit_and}
@@ -66,5 +66,6 @@ painted_lane bit mask ink j codes sixels long whole lt alone =
     ap (λ ms. get_or (sel_l ms codes (replicate 4 ink)) j 0)
     (tops_compared w32 (λ a b. a == b) (zip2 bit_and sixels (replicate 4 mask)) (replicate 4 0))
     ∙ get_or-sel_l (without mask sixels) codes (replicate 4 ink) j 0 (omega arith) (omega arith) (omega arith)
-    ∙ (λ i. cond (get_or-without bit mask sixels j alone long lt i) (get_or codes j 0) (get_or-replicate 4 j ink 0 lt i))
+    ∙ (λ i. cond (get_or-without bit mask sixels j alone long lt i) (get_or codes j 0)
+    (get_or-replicate 4 j ink 0 lt i))
     ∙ chosen (get_or sixels j 0) bit (get_or codes j 0) ink

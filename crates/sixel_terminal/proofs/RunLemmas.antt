@@ -8,7 +8,8 @@ use Rattle.sixel_terminal.specs.declared.choices.Choices.{Choices}
 use Rattle.sixel_terminal.specs.declared.choices.Ground.{Ground}
 use Rattle.sixel_terminal.specs.declared.choices.Ground.TheVariants.{Kept, Filled}
 use Rattle.sixel_terminal.specs.Displays.{Display, IsGroundBelow, IsInClass, registers_of}
-use Rattle.sixel_terminal.specs.Limits.{display_of, is_ground_below, is_screen_side, most_registers, terminal_fault, most_screen_side}
+use Rattle.sixel_terminal.specs.Limits.{display_of, is_ground_below, is_screen_side, most_registers, most_screen_side}
+use Rattle.sixel_terminal.specs.Limits.{terminal_fault}
 
 -- the terminal is in the class, and its screen isn't larger than a `Terminal` may have
 pub record Runs (t : Display) : Type 0 where

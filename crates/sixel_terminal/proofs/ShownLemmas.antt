@@ -3,7 +3,6 @@ use Rattle.std.proofs.Common.{◌≡◌, ℕ, zero, suc, ◌+◌, ◌*◌, ◌/�
 use Rattle.std.proofs.Common.{List, length, take, get_or, map, refl, sym, ap, ◌∙◌, arith}
 use Rattle.std.specs.Prelude.{slice_get, unwrap_or, IsSome, if◌then◌else◌}
 use Rattle.std.specs.Option.{option_or, option_map, option_and_then}
-use Rattle.std.proofs.Math.Nat.{mod-eq_of_lt}
 use Rattle.std.proofs.lemmas.List.{get_or-map, length-map}
 use Rattle.std.proofs.lemmas.Nat.{div-add-mod'}
 use Rattle.sixel_grammar.specs.declared.command.Event.{Event}
@@ -58,23 +57,20 @@ pub map_map : {A B C : Type 0} (f : B → C) (g : A → B) (o : Option A)
 map_map f g None = refl
 map_map f g (Some a) = refl
 
-pub unwrap_map : {A B : Type 0} (f : A → B) (o : Option A) (d : A) → f (unwrap_or o d) ≡ unwrap_or (option_map f o) (f d)
+pub unwrap_map : {A B : Type 0} (f : A → B) (o : Option A) (d : A)
+    → f (unwrap_or o d) ≡ unwrap_or (option_map f o) (f d)
 unwrap_map f None d = refl
 unwrap_map f (Some a) d = refl
 
 -- the colours of the registers at the end
 abbrev AreAtEnd : Display → List Event → List Parts → Type 0
-AreAtEnd t events colours =
-    (length colours ≡ registers_of t)
-    × ((r : ℕ) → r < registers_of t → get_or colours r (Rgb 0 0 0) ≡ map_on t events r)
+AreAtEnd t events colours = (r : ℕ) → r < registers_of t → get_or colours r (Rgb 0 0 0) ≡ map_on t events r
 
 ink_shows : (binds : Bool) (t : Display) (events before : List Event) (colours : List Parts) (r : ℕ)
     → AreAtEnd t events colours → r < registers_of t
     → shown_in colours (if binds then Bound r else Fixed (map_on t before r))
     ≡ map_on t (if binds then events else before) r
-ink_shows true t events before colours r s lt =
-    let below : r < length colours = omega (arith, s.0, lt) in
-    ap (λ n. get_or colours n (Rgb 0 0 0)) (mod-eq_of_lt below) ∙ s.1 r lt
+ink_shows true t events before colours r s lt = s r lt
 ink_shows false t events before colours r s lt = refl
 
 painting_shows : (t : Display) (events : List Event) (colours : List Parts) (x y : ℕ) (before : List Event) (e : Event)
@@ -109,7 +105,7 @@ all_shown t events p colours inks runs seen s =
     get_or-map (shown_in colours) inks i black (Rgb 0 0 0) (omega (arith, s.pixels, lt))
     ∙ ap (shown_in colours) (s.inks_are i lt)
     ∙ pixel_shows t events colours (i % t.choices.screen_width) (i / t.choices.screen_width) runs seen
-    (s.registers, s.colours_are))
+    s.colours_are)
 
 -- ---- strings that a terminal doesn't see
 

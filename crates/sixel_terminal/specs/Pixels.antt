@@ -1,6 +1,6 @@
 -- The pixels of a screen as numbers of four bytes.
 use Rattle.std.specs.Prelude.{◌≡◌, ◌==◌, ◌<◌, ◌^◌, ◌+◌, ◌-◌, ◌*◌, ◌/◌, ◌%◌, ◌∷◌, [], ℕ, Bool, true, false, List}
-use Rattle.std.specs.Prelude.{if◌then◌else◌}
+use Rattle.std.specs.Prelude.{Option, Some, None, if◌then◌else◌}
 use Rattle.sixel_model.specs.declared.colour.Parts.TheVariants.{Rgb, Hls}
 use Rattle.sixel_model.specs.Colours.{IsColour}
 use Rattle.sixel_terminal.specs.declared.pixel.Ink.{Ink}
@@ -38,6 +38,11 @@ abbrev pub is_rgb_ink : Ink → Bool
 is_rgb_ink (Fixed (Rgb red green blue)) = true
 is_rgb_ink (Fixed (Hls hue lightness saturation)) = false
 is_rgb_ink (Bound register) = false
+
+-- the register whose colour an ink shows, if it shows one
+abbrev pub register_in_ink : Ink → Option ℕ
+register_in_ink (Fixed colour) = None
+register_in_ink (Bound register) = Some register
 
 -- the colour is in range, and the register a `u16`
 abbrev pub IsInk : Ink → Type 0

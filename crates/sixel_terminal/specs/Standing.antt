@@ -52,4 +52,9 @@ pub record StandsAfter (t : Display) (before : List Event) (p : Pen) (colours : 
 -- the colour that an ink shows if the registers have these colours
 abbrev pub shown_in : List Parts → Ink → Parts
 shown_in colours (Fixed c) = c
-shown_in colours (Bound r) = slice_index_or colours (r % length colours) (Rgb 0 0 0)
+shown_in colours (Bound r) = slice_index_or colours r (Rgb 0 0 0)
+
+-- the register of an ink is one of the first n
+abbrev pub IsInkBelow : ℕ → Ink → Type 0
+IsInkBelow n (Fixed colour) = Unit {0}
+IsInkBelow n (Bound register) = register < n

@@ -10,10 +10,10 @@ ghost use Rattle.sixel_terminal.specs.Stretches.{sixels_of};
 
 use crate::pen::Pen;
 use crate::pixel::Pixel;
+use crate::registers::Registers;
 use crate::screen::Screen;
 use crate::terminal::Terminal;
 use sixel_grammar::{Command, Event};
-use sixel_model::Colour;
 use std::alloc::{AllocError, Global};
 use std::marker::Model;
 
@@ -25,7 +25,7 @@ use std::marker::Model;
 pub struct Drawing {
     terminal: Terminal,
     pen: Pen,
-    colours: Vec<Colour>,
+    colours: Registers,
     pixels: Vec<Pixel>,
     /// Whether a start or a finish was 8-bit.
     has_eight_bit: bool,
@@ -43,7 +43,7 @@ impl Model for Drawing {
     ghost view = { λ d. record {
       terminal = d.terminal;
       pen = d.pen;
-      colours = d.colours.items;
+      colours = d.colours;
       inks = d.pixels.items;
       has_eight_bit = d.has_eight_bit;
     } };
@@ -51,7 +51,7 @@ impl Model for Drawing {
     ghost invariant = { λ d. (events : List AnEvent) × HasDrawn (record {
       terminal = d.terminal;
       pen = d.pen;
-      colours = d.colours.items;
+      colours = d.colours;
       inks = d.pixels.items;
       has_eight_bit = d.has_eight_bit;
     }) events };

@@ -8,6 +8,7 @@ mod following;
 pub mod laws;
 mod pen;
 mod pixel;
+mod registers;
 mod screen;
 mod starts;
 mod stretch;

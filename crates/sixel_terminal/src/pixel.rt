@@ -1,15 +1,16 @@
 //! The pixels of a screen during drawing, in four bytes each.
 
-ghost use Rattle.std.specs.Prelude.{◌≡◌, ◌==◌, ◌≤◌, ◌<◌, ◌↔◌, ◌&&◌, ◌+◌, ◌-◌, ℕ, EachIndex, IsTrue, length, nat_le};
-ghost use Rattle.std.specs.Prelude.{nat_lt, slice_index, slice_index_or, if◌then◌else◌};
+ghost use Rattle.std.specs.Prelude.{◌≡◌, ◌==◌, ◌≤◌, ◌<◌, ◌↔◌, ◌&&◌, ◌+◌, ◌-◌, ℕ, EachIndex, IfOk, IsTrue, length, map};
+ghost use Rattle.std.specs.Prelude.{nat_le, nat_lt, slice_index, slice_index_or, if◌then◌else◌};
 ghost use Rattle.std.specs.Int.{bit_at};
 ghost use Rattle.sixel_model.specs.Geometry.{band_rows};
 ghost use Rattle.sixel_terminal.specs.Canvases.{black};
-ghost use Rattle.sixel_terminal.specs.Pixels.{bytes_of, is_rgb_ink, packed};
+ghost use Rattle.sixel_terminal.specs.Pixels.{bytes_of, is_rgb_ink, packed, register_in_ink};
 ghost use Rattle.sixel_terminal.specs.Screens.{colour_in_ink};
 ghost use Rattle.sixel_terminal.specs.declared.pixel.Ink.TheVariants.{Fixed as FixedInk, Bound as BoundInk};
 
 use sixel_model::{Colour, Parts};
+use std::alloc::{AllocError, Global};
 use std::marker::Model;
 use std::simd::prelude::*;
 
@@ -28,10 +29,13 @@ pub enum Ink {
 /// The highest byte of a register's code.
 const BOUND: u8 = 3;
 
+/// The least code of a register. Those of colours are below it.
+const LEAST_BOUND: u32 = 50_331_648;
+
 /// A pixel, which contracts see as its ink.
 ///
-/// The bytes of its code, the lowest first: of an RGB colour the percentages and 0; of an HLS colour the hue modulo 256,
-/// lightness, saturation, and 1 or 2 for the rest of the hue; of a register two for its number, then 0 and 3.
+/// The bytes of its code, the lowest first: of an RGB colour the percentages and 0; of an HLS colour the hue modulo
+/// 256, lightness, saturation, and 1 or 2 for the rest of the hue; of a register two for its number, then 0 and 3.
 #[derive(Clone, Copy, Debug)]
 pub struct Pixel {
     code: u32,
@@ -99,6 +103,17 @@ pub(crate) fn paint_four(
     pixels[at + 3] = Pixel { code: codes[3] };
 }
 
+/// Pixels of these colours.
+pub(crate) fn fixed_pixels(alloc: Global, colours: &[Colour]) -> Result<Vec<Pixel>, AllocError>
+    ensures { IfOk result (λ pixels. pixels.items ≡ map (λ c. FixedInk c) colours.now) }
+{
+    let mut pixels = Vec::with_capacity(alloc, colours.len())?;
+    for colour in colours {
+        pixels.push(Pixel::fixed(*colour))?;
+    }
+    Ok(pixels)
+}
+
 impl Pixel {
     /// A pixel that shows this colour.
     #[inline(always)]
@@ -126,6 +141,17 @@ impl Pixel {
         Pixel {
             code: packed((register % 256) as u8, (register / 256) as u8, 0, BOUND),
         }
+    }
+
+    /// The register whose colour the pixel shows at the end, if it has no colour of its own.
+    #[inline(always)]
+    pub(crate) fn register(&self) -> Option<u16>
+        ensures { result ≡ register_in_ink self.now }
+    {
+        if self.code < LEAST_BOUND {
+            return None;
+        }
+        Some((self.code % 65_536) as u16)
     }
 
     /// Four bytes: of an RGB colour its percentages of red, green and blue, and 0.

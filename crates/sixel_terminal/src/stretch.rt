@@ -64,8 +64,8 @@ fn paint_row_at(pixels: &mut [Pixel], at: usize, bytes: &[u8], joined: u8, bit: 
     }
 }
 
-/// Paints the first `count` rows of a band, from the row `top` of the screen on, in the columns of the bytes, from `left`
-/// on. In text that is written row by row, a stretch touches one row.
+/// Paints the first `count` rows of a band, from the row `top` of the screen on, in the columns of the bytes, from
+/// `left` on. In text that is written row by row, a stretch touches one row.
 #[inline(never)]
 fn paint_rows(
     pixels: &mut [Pixel],

@@ -13,11 +13,12 @@ ghost use Rattle.sixel_terminal.specs.Canvases.{black};
 ghost use Rattle.sixel_terminal.specs.Drawing.{screen_on};
 ghost use Rattle.sixel_terminal.specs.Screens.{IsAllFixed, colour_in_ink};
 ghost use Rattle.sixel_terminal.specs.Stretches.{sixels_of};
-ghost use Rattle.sixel_terminal.specs.Standing.{IsPenAfter, StandsAfter, shown_in};
+ghost use Rattle.sixel_terminal.specs.Standing.{IsInkBelow, IsPenAfter, StandsAfter, shown_in};
 
 use crate::drawing::Drawing;
 use crate::pen::Pen;
-use crate::pixel::{Ink, Pixel};
+use crate::pixel::{Pixel, fixed_pixels};
+use crate::registers::Registers;
 use crate::terminal::{Backdrop, Terminal};
 use sixel_grammar::{Event, Placed};
 use sixel_model::Colour;
@@ -47,20 +48,9 @@ fn plain_pixels(alloc: Global, count: usize, colour: Colour) -> Result<Vec<Pixel
     vec![in alloc; Pixel::fixed(colour); count]
 }
 
-/// Pixels of these colours.
-fn fixed_pixels(alloc: Global, colours: &[Colour]) -> Result<Vec<Pixel>, AllocError>
-    ensures { IfOk result (λ pixels. pixels.items ≡ map (λ c. Fixed c) colours.now) }
-{
-    let mut pixels = Vec::with_capacity(alloc, colours.len())?;
-    for colour in colours {
-        pixels.push(Pixel::fixed(*colour))?;
-    }
-    Ok(pixels)
-}
-
 /// Gives each pixel the colour that it shows if the registers have these colours.
-fn fix(pixels: &mut [Pixel], colours: &[Colour])
-    requires { 0 < length colours.now }
+fn fix(pixels: &mut [Pixel], colours: &Registers)
+    requires { EachIndex pixels.old (λ i. IsInkBelow (length colours.now) (slice_index_or pixels.old i black)) }
     ensures { pixels.new ≡ map (λ ink. Fixed (shown_in colours.now ink)) pixels.old }
 {
     for index in 0..pixels.len() {
@@ -69,13 +59,14 @@ fn fix(pixels: &mut [Pixel], colours: &[Colour])
 }
 
 /// The pixel in the colour that it shows if the registers have these colours.
-fn fixed(pixel: &Pixel, colours: &[Colour]) -> Pixel
-    requires { 0 < length colours.now }
+#[inline(always)]
+fn fixed(pixel: &Pixel, colours: &Registers) -> Pixel
+    requires { IsInkBelow (length colours.now) pixel.now }
     ensures { result ≡ Fixed (shown_in colours.now pixel.now) }
 {
-    match pixel.ink() {
-        Ink::Fixed(colour) => Pixel::fixed(colour),
-        Ink::Bound(register) => Pixel::fixed(colours[register as usize % colours.len()]),
+    match pixel.register() {
+        Some(register) => colours.pixel(register),
+        None => *pixel,
     }
 }
 
@@ -105,10 +96,10 @@ impl Terminal {
     }
 
     /// The colours of the registers before the drawing.
-    pub(crate) fn first_colours(&self, alloc: Global) -> Result<Vec<Colour>, AllocError>
-        ensures { IfOk result (λ colours. colours.items ≡ self.now.colours) }
+    pub(crate) fn first_colours(&self, alloc: Global) -> Result<Registers, AllocError>
+        ensures { IfOk result (λ colours. colours ≡ self.now.colours) }
     {
-        Vec::from_slice(alloc, &self.colours)
+        Registers::new(alloc, &self.colours)
     }
 
     /// The pixels before the drawing.
@@ -129,7 +120,7 @@ impl Terminal {
     pub(crate) fn draw(
         &self,
         pen: Pen,
-        colours: &mut [Colour],
+        colours: &mut Registers,
         inks: &mut [Pixel],
         event: &Event,
     ) -> Pen
@@ -149,13 +140,13 @@ impl Terminal {
         }
     }
 
-    /// Draws the sixels of these data bytes, if a sixel pixel is one pixel high. Returns the pen's column after them. They
-    /// change nothing else of the pen.
+    /// Draws the sixels of these data bytes, if a sixel pixel is one pixel high. Returns the pen's column after them.
+    /// They change nothing else of the pen.
     #[inline(always)]
     pub(crate) fn try_draw_stretch(
         &self,
         pen: Pen,
-        colours: &[Colour],
+        colours: &Registers,
         inks: &mut [Pixel],
         bytes: &[u8],
     ) -> Option<u32>
@@ -178,7 +169,7 @@ impl Terminal {
 
     /// Gives each pixel the colour that it shows after the events. `has_eight_bit` says whether one of them is an 8-bit
     /// start or finish.
-    pub(crate) fn settle(&self, has_eight_bit: bool, colours: &[Colour], inks: &mut [Pixel])
+    pub(crate) fn settle(&self, has_eight_bit: bool, colours: &Registers, inks: &mut [Pixel])
         requires { (pen : APen) × (events : List Event) × StandsAfter self.now events pen colours.now inks.old }
         ensures fixed { IsAllFixed inks.new }
         ensures shown { (pen : APen) (events : List Event) → StandsAfter self.now events pen colours.now inks.old

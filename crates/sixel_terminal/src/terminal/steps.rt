@@ -16,6 +16,7 @@ ghost use Rattle.sixel_terminal.specs.Steps.{next_height, next_selected, pen_cov
 use crate::choices::Ground;
 use crate::pen::{Pen, Sides};
 use crate::pixel::Pixel;
+use crate::registers::Registers;
 use crate::terminal::Terminal;
 use sixel_grammar::Command;
 use sixel_model::Colour;
@@ -149,9 +150,10 @@ impl Terminal {
 
     /// Sets the colour of a definition's register, if the definition gives a colour.
     #[inline(always)]
-    pub(crate) fn define(&self, colours: &mut [Colour], command: Command)
+    pub(crate) fn define(&self, colours: &mut Registers, command: Command)
         requires { length colours.old ≡ registers_of self.now }
-        ensures { EachIndex colours.old (λ r. slice_index_or colours.new r (Rgb 0 0 0)
+        ensures long { length colours.new ≡ length colours.old }
+        ensures defined { EachIndex colours.old (λ r. slice_index_or colours.new r (Rgb 0 0 0)
             ≡ unwrap_or (defined_on self.now r (Step command)) (slice_index_or colours.old r (Rgb 0 0 0))) }
     {
         if let Command::Define {
@@ -163,26 +165,33 @@ impl Terminal {
         } = command
             && let Some(colour) = self.colour_of(system, x, y, z)
         {
-            colours[self.register_of(register) as usize] = colour;
+            colours.set(self.register_of(register), colour);
         }
     }
 
     /// The ink for painting in this register.
     #[inline(always)]
-    pub(crate) fn ink(&self, colours: &[Colour], register: u16) -> Pixel
+    pub(crate) fn ink(&self, colours: &Registers, register: u16) -> Pixel
         requires { register < length colours.now }
         ensures { result ≡ ink_by_colours self.now colours.now register }
     {
         if self.choices.binds_at_showing {
             Pixel::bound(register)
         } else {
-            Pixel::fixed(colours[register as usize])
+            colours.pixel(register)
         }
     }
 
     /// Paints the set bits of `count` columns, from the pen on, in the selected register. Most long repeats are blank.
     #[inline(always)]
-    fn paint_selected(&self, pen: Pen, colours: &[Colour], inks: &mut [Pixel], count: u16, bits: u8)
+    fn paint_selected(
+        &self,
+        pen: Pen,
+        colours: &Registers,
+        inks: &mut [Pixel],
+        count: u16,
+        bits: u8,
+    )
         requires selected { pen.selected < length colours.now }
         requires screen { length inks.old ≡ self.now.choices.screen_width * self.now.choices.screen_height }
         ensures { EachIndex inks.old (λ i. slice_index_or inks.new i black
@@ -198,7 +207,7 @@ impl Terminal {
 
     /// Paints what the command paints, with the pen and the colours before the command.
     #[inline(always)]
-    pub(crate) fn paint(&self, pen: Pen, colours: &[Colour], inks: &mut [Pixel], command: Command)
+    pub(crate) fn paint(&self, pen: Pen, colours: &Registers, inks: &mut [Pixel], command: Command)
         requires selected { pen.selected < length colours.now }
         requires colours_are { length colours.now ≡ registers_of self.now }
         requires screen { length inks.old ≡ self.now.choices.screen_width * self.now.choices.screen_height }

@@ -13,8 +13,8 @@ returns-clause-shown c = λ events known.
     let inks : take inside.pixels.len (c.settle.new.inks ++ drop (length c.settle.new.inks) inside.pixels.items)
     ≡ c.settle.new.inks =
     take_at c.settle.new.inks _ _ (c.settle.auto.inks ∙ c.deref_mut.ensures.len) in
-    let before : StandsAfter inside.terminal events inside.pen c.deref.result.now c.deref_mut.result.now =
-    rw (c.deref.ensures.value, c.deref_mut.ensures.value) drawn.stands in
+    let before : StandsAfter inside.terminal events inside.pen inside.colours c.deref_mut.result.now =
+    rw c.deref_mut.ensures.value drawn.stands in
     rw (inks, sym terminal) (c.settle.ensures.shown inside.pen events before drawn.controls)
 
 pub returns-clause-whole : goal.returns-clause-whole

@@ -10,17 +10,13 @@ invariant_of-self c =
     let inside = c.self.inside in
     let events = c.self.invariant.0 in
     let drawn = c.self.invariant.1 in
-    let colours : take inside.colours.len
-    (c.draw-self-inside.new.colours ++ drop (length c.draw-self-inside.new.colours) inside.colours.items)
-    ≡ c.draw-self-inside.new.colours =
-    take_at c.draw-self-inside.new.colours _ _ (c.draw-self-inside.auto.colours ∙ c.deref_mut.ensures.len) in
     let inks : take inside.pixels.len
     (c.draw-self-inside.new.inks ++ drop (length c.draw-self-inside.new.inks) inside.pixels.items)
     ≡ c.draw-self-inside.new.inks =
-    take_at c.draw-self-inside.new.inks _ _ (c.draw-self-inside.auto.inks ∙ c.deref_mut-2.ensures.len) in
-    let before : StandsAfter inside.terminal events inside.pen c.deref_mut.result.now c.deref_mut-2.result.now =
-    rw (c.deref_mut.ensures.value, c.deref_mut-2.ensures.value) drawn.stands in
-    rw (colours, inks) (
+    take_at c.draw-self-inside.new.inks _ _ (c.draw-self-inside.auto.inks ∙ c.deref_mut.ensures.len) in
+    let before : StandsAfter inside.terminal events inside.pen inside.colours c.deref_mut.result.now =
+    rw c.deref_mut.ensures.value drawn.stands in
+    rw inks (
       events ++ c.args.event.now ∷ [],
       drawn_push _ events c.args.event.now _ _ _ _ drawn (c.draw-self-inside.ensures events before)
           c.is_eight_bit.ensures,
@@ -30,16 +26,12 @@ pub returns-clause-drawn : goal.returns-clause-drawn
 returns-clause-drawn c = λ events known.
     let inside = c.self.inside in
     let drawn = subst (λ (d : Drawn). HasDrawn d events) (sym c.self.view_is) known in
-    let colours : take inside.colours.len
-    (c.draw-self-inside.new.colours ++ drop (length c.draw-self-inside.new.colours) inside.colours.items)
-    ≡ c.draw-self-inside.new.colours =
-    take_at c.draw-self-inside.new.colours _ _ (c.draw-self-inside.auto.colours ∙ c.deref_mut.ensures.len) in
     let inks : take inside.pixels.len
     (c.draw-self-inside.new.inks ++ drop (length c.draw-self-inside.new.inks) inside.pixels.items)
     ≡ c.draw-self-inside.new.inks =
-    take_at c.draw-self-inside.new.inks _ _ (c.draw-self-inside.auto.inks ∙ c.deref_mut-2.ensures.len) in
-    let before : StandsAfter inside.terminal events inside.pen c.deref_mut.result.now c.deref_mut-2.result.now =
-    rw (c.deref_mut.ensures.value, c.deref_mut-2.ensures.value) drawn.stands in
-    rw (colours, inks)
+    take_at c.draw-self-inside.new.inks _ _ (c.draw-self-inside.auto.inks ∙ c.deref_mut.ensures.len) in
+    let before : StandsAfter inside.terminal events inside.pen inside.colours c.deref_mut.result.now =
+    rw c.deref_mut.ensures.value drawn.stands in
+    rw inks
     (drawn_push _ events c.args.event.now _ _ _ _ drawn (c.draw-self-inside.ensures events before)
     c.is_eight_bit.ensures)

@@ -15,12 +15,13 @@ invariant_of-self c =
     (c.try_draw_stretch.new.inks ++ drop (length c.try_draw_stretch.new.inks) inside.pixels.items)
     ≡ c.try_draw_stretch.new.inks =
     take_at c.try_draw_stretch.new.inks _ _ (c.try_draw_stretch.auto.inks ∙ c.deref_mut.ensures.len) in
-    let before : StandsAfter inside.terminal events inside.pen c.deref.result.now c.deref_mut.result.now =
-    rw (c.deref.ensures.value, c.deref_mut.ensures.value) drawn.stands in
-    let after = rw c.deref.ensures.value at (c.in-Some.ensures.drawn events before) in
+    let before : StandsAfter inside.terminal events inside.pen inside.colours c.deref_mut.result.now =
+    rw c.deref_mut.ensures.value drawn.stands in
+    let after = c.in-Some.ensures.drawn events before in
     rw inks (
       events ++ sixels_of c.args.bytes.now,
-      drawn_stretch _ events c.args.bytes.now (record inside.pen { column = c.in-Some.column }) c.try_draw_stretch.new.inks drawn after,
+      drawn_stretch _ events c.args.bytes.now (record inside.pen { column = c.in-Some.column })
+          c.try_draw_stretch.new.inks drawn after,
     )
 
 pub returns-in-Some-clause-drawn : goal.returns-in-Some-clause-drawn
@@ -31,10 +32,12 @@ returns-in-Some-clause-drawn c = λ events known.
     (c.try_draw_stretch.new.inks ++ drop (length c.try_draw_stretch.new.inks) inside.pixels.items)
     ≡ c.try_draw_stretch.new.inks =
     take_at c.try_draw_stretch.new.inks _ _ (c.try_draw_stretch.auto.inks ∙ c.deref_mut.ensures.len) in
-    let before : StandsAfter inside.terminal events inside.pen c.deref.result.now c.deref_mut.result.now =
-    rw (c.deref.ensures.value, c.deref_mut.ensures.value) drawn.stands in
-    let after = rw c.deref.ensures.value at (c.in-Some.ensures.drawn events before) in
-    rw inks (drawn_stretch _ events c.args.bytes.now (record inside.pen { column = c.in-Some.column }) c.try_draw_stretch.new.inks drawn after)
+    let before : StandsAfter inside.terminal events inside.pen inside.colours c.deref_mut.result.now =
+    rw c.deref_mut.ensures.value drawn.stands in
+    let after = c.in-Some.ensures.drawn events before in
+    rw inks
+    (drawn_stretch _ events c.args.bytes.now (record inside.pen { column = c.in-Some.column })
+    c.try_draw_stretch.new.inks drawn after)
 
 pub returns-in-None-clause-drawn : goal.returns-in-None-clause-drawn
 returns-in-None-clause-drawn c = λ events known.

@@ -9,7 +9,7 @@ returns-in-Step c = λ before s.
     rw c.in-Step.is
     (stands_push c.args.self.now before c.args.pen c.next_pen.result _ c.args.colours.now c.define.new.colours
     c.args.inks.now c.paint.new.inks known s c.next_pen.ensures.column c.next_pen.ensures.band c.next_pen.ensures.height
-    c.next_pen.ensures.declared c.next_pen.ensures.selected c.define.auto.colours c.define.ensures
+    c.next_pen.ensures.declared c.next_pen.ensures.selected c.define.ensures.long c.define.ensures.defined
     c.paint.auto.inks c.paint.ensures)
 
 pub returns-in_default : goal.returns-in_default

@@ -1,4 +1,5 @@
-use Rattle.std.proofs.Common.{◌≡◌, ◌≤◌, ◌<◌, ◌+◌, ◌-◌, ◌*◌, ◌/◌, ◌%◌, ◌∙◌, Bool, false, cond, get_or, length, min, ap, sym, arith}
+use Rattle.std.proofs.Common.{◌≡◌, ◌≤◌, ◌<◌, ◌+◌, ◌-◌, ◌*◌, ◌/◌, ◌%◌, ◌∙◌, Bool, false, cond, get_or, length, min, ap}
+use Rattle.std.proofs.Common.{sym, arith}
 use Rattle.sixel_terminal.specs.Canvases.{black}
 use Rattle.sixel_terminal.specs.Displays.{Display}
 use Rattle.sixel_terminal.specs.Steps.{bottom_edge, most, right_edge}
@@ -7,7 +8,9 @@ use Rattle.sixel_terminal.proofs.RunLemmas.{Runs, runs_seen}
 use Rattle.sixel_terminal.proofs.StretchLemmas.{before_edges, past_bottom, past_right, stretch_rect}
 use Rattle.sixel_terminal.proofs.terminal.Terminal.paint_stretch.Goals as goal
 use Rattle.sixel_terminal.proofs.terminal.Terminal.paint_stretch.Goals.{then-left-right-via-then-left-right}
-use Rattle.sixel_terminal.proofs.terminal.Terminal.paint_stretch.Goals.{then-left-right-via-else-left-right+then-top-bottom}
+use Rattle.sixel_terminal.proofs.terminal.Terminal.paint_stretch.Goals.{
+  then-left-right-via-else-left-right+then-top-bottom,
+}
 
 pub returns-then-left-right : goal.returns-then-left-right
 returns-then-left-right c = λ i lt.

@@ -4,10 +4,12 @@ use Rattle.sixel_terminal.specs.Canvases.{black}
 use Rattle.sixel_terminal.specs.Standing.{shown_in}
 use Rattle.sixel_model.specs.declared.colour.Parts.TheVariants.{Rgb}
 use Rattle.sixel_terminal.proofs.DrawnLemmas.{all_fixed, bound_shown, painted_fixed, painted_shown, seen_by}
-use Rattle.sixel_terminal.proofs.DrawnLemmas.{seen_by_controls, unseen_by, unseen_shown}
+use Rattle.sixel_terminal.proofs.DrawnLemmas.{seen_by_controls, stands_below, unseen_by, unseen_shown}
 use Rattle.sixel_terminal.proofs.RunLemmas.{Runs, runs_seen}
 use Rattle.sixel_terminal.proofs.terminal.Terminal.settle.Goals as goal
-use Rattle.sixel_terminal.proofs.terminal.Terminal.settle.Goals.{else-has_eight_bit-via-then-has_eight_bit+else-not-self}
+use Rattle.sixel_terminal.proofs.terminal.Terminal.settle.Goals.{
+  else-has_eight_bit-via-then-has_eight_bit+else-not-self,
+}
 use Rattle.sixel_terminal.proofs.terminal.Terminal.settle.Goals.{else-has_eight_bit-via-else-has_eight_bit}
 
 pub returns-then-not-self-clause-fixed : goal.returns-then-not-self-clause-fixed
@@ -22,6 +24,11 @@ returns-then-not-self-clause-shown c = λ pen events s is.
     rw c.lay.ensures
     (unseen_shown c.args.self.now events known
     (unseen_by c.args.self.now events c.args.has_eight_bit is c.if-has_eight_bit.true none))
+
+pub fix-requires : goal.fix-requires
+fix-requires c = λ i lt.
+    let known : Runs c.args.self.now = runs_seen _ _ _ _ c.self.view_is c.self.invariant in
+    stands_below c.args.self.now c.requires.1 c.requires.0 c.args.colours.now c.args.inks.now i known c.requires.2 lt
 
 pub returns-then-self-clause-fixed : goal.returns-then-self-clause-fixed
 returns-then-self-clause-fixed c =
