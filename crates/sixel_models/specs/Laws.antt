@@ -90,7 +90,7 @@ SamplesAreUnsaid =
     ReadsAs mlterm (Step (Define 1 3 100 0 0) ∷ Step (Select 2) ∷ []) (Step (Sixel 63)) (Draws (Sixel 63))
     × ReadsAs mlterm (Step (Define 1 3 100 0 0) ∷ []) (Step (Sixel 63)) Unsaid
 
--- q"1;1;8;6-!31@: the repeat is right of the box and below it
+-- q"1;1;8;6-!31@: the repeat is right of the buffer in a band below it, which is read past its block of memory
 abbrev pub CornerIsUnsaid : Type 0
 CornerIsUnsaid = ReadsAs mlterm (Step (Raster 1 1 8 6) ∷ Step NextLine ∷ []) (Step (Repeat 31 1)) Unsaid
 
@@ -99,7 +99,7 @@ abbrev pub FarBlankIsUnsaid : Type 0
 FarBlankIsUnsaid =
     ReadsAs mlterm (Step (Raster 1 1 1 1) ∷ Step (Select 0) ∷ Step (Sixel 1) ∷ []) (Step (Repeat 32767 0)) Unsaid
 
--- q-"3;2;12;8-"2;2;13;5 ends it
+-- q-"3;2;12;8-"2;2;13;5 ends it: the wider buffer has fewer rows than are copied
 abbrev pub TwoBoxesBelowAreUnsaid : Type 0
 TwoBoxesBelowAreUnsaid =
     ReadsAs mlterm (Step NextLine ∷ Step (Raster 3 2 12 8) ∷ Step NextLine ∷ []) (Step (Raster 2 2 13 5)) Unsaid

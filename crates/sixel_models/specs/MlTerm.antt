@@ -1,8 +1,7 @@
--- What mlterm 3.9.0 makes of the events of a string. A definition selects its register. Raster attributes fill nothing,
--- so they only say where the box ends.
-use Rattle.std.specs.Prelude.{◌==◌, ◌&&◌, ◌||◌, ℕ, ◌+◌, ◌*◌, Bool, true, false, not, is_some, nat_le, nat_lt, min}
-use Rattle.std.specs.Prelude.{List, [], ◌∷◌, Option, Some, None, slice_index_or, unwrap_or, if◌then◌else◌}
-use Rattle.std.specs.List.{list_any}
+-- What mlterm 3.9.0 makes of the events of a string. A definition selects its register. Raster attributes fill nothing:
+-- they only make its buffer larger.
+use Rattle.std.specs.Prelude.{◌==◌, ◌&&◌, ◌||◌, ℕ, ◌+◌, ◌*◌, ◌/◌, ◌%◌, Bool, true, false, not, nat_le, nat_lt, max}
+use Rattle.std.specs.Prelude.{List, Option, Some, None, slice_index_or, unwrap_or, if◌then◌else◌}
 use Rattle.std.specs.Bool.{then_some}
 use Rattle.std.specs.Option.{option_and_then, option_map, option_map_or}
 use Rattle.sixel_grammar.specs.declared.command.Command.{Command}
@@ -11,14 +10,13 @@ use Rattle.sixel_grammar.specs.declared.command.Command.TheVariants.{CarriageRet
 use Rattle.sixel_grammar.specs.declared.command.Event.{Event}
 use Rattle.sixel_grammar.specs.declared.command.Event.TheVariants.{Start, Step, Finish}
 use Rattle.sixel_model.specs.declared.colour.Parts.{Parts}
-use Rattle.sixel_model.specs.Events.{Attributes, columns_of, is_data_command, is_painting, is_repeat_of_zero}
-use Rattle.sixel_model.specs.Events.{named_by, raster_of}
+use Rattle.sixel_model.specs.Events.{columns_of, is_painting, is_repeat_of_zero, named_by}
 use Rattle.sixel_model.specs.Geometry.{band, band_rows, column}
-use Rattle.sixel_model.specs.Positions.{any_at, latest}
+use Rattle.sixel_model.specs.Positions.{latest}
 use Rattle.sixel_models.specs.declared.reading.Reads.{Reads}
 use Rattle.sixel_models.specs.declared.reading.Reads.TheVariants.{Nothing, Draws, DrawsTwo, Unsaid}
 use Rattle.sixel_models.specs.Readings.{Model, Rule, no_opening}
-use Rattle.sixel_models.specs.Words.{defining, greatest, nearest}
+use Rattle.sixel_models.specs.Words.{after_each, defining, nearest}
 
 -- ---- the registers
 
@@ -48,111 +46,172 @@ said_by register e = option_and_then (λ (g : ℕ × Bool). then_some (g.0 == re
 unfoldable pub is_said_colour : List Event → ℕ → Bool
 is_said_colour before register = unwrap_or (latest (said_by register) before) (nat_le register 255)
 
--- ---- the box
+-- ---- the buffer
 
-pub record Box : Type 0 where
+-- the memory that mlterm keeps the pixels of a picture in
+pub record Buffer : Type 0 where
+  -- its columns
   pub width : ℕ
+  -- its rows
   pub height : ℕ
+  -- how many pixels its block of memory has room for
+  pub room : ℕ
+  -- the greatest column at which a data command ended, with set bits or without
+  pub reach : ℕ
+  -- a new line has cut its width, as happens once
+  pub cut : Bool
 
--- the box of raster attributes; those of 0 by 0 have none
-abbrev pub mlterm_box_of : Event → Option Box
-mlterm_box_of (Step (Raster pan pad width height)) =
-    if (width == 0) && (height == 0) then None else Some (record { width = width; height = height })
-mlterm_box_of _ = None
+-- at the start there is none
+abbrev pub no_buffer : Buffer
+no_buffer = record { width = 0; height = 0; room = 0; reach = 0; cut = false }
 
--- the least width and the least height of two boxes; a missing one counts for nothing
-abbrev pub least_box : Option Box → Option Box → Option Box
-least_box None b = b
-least_box (Some a) None = Some a
-least_box (Some a) (Some b) = Some (record { width = min a.width b.width; height = min a.height b.height })
+-- a width and a height have more pixels than the buffer
+abbrev pub has_more : Buffer → ℕ × ℕ → Bool
+has_more b sides = nat_lt (b.width * b.height) (sides.0 * sides.1)
 
--- the box: the least width and the least height of all boxes
-unfoldable pub mlterm_box : List Event → Option Box
-mlterm_box [] = None
-mlterm_box (e ∷ events) = least_box (mlterm_box_of e) (mlterm_box events)
+-- the buffer with these sides: more pixels have a block for just as many, others stay in theirs
+abbrev pub resized : Buffer → ℕ × ℕ → Buffer
+resized b sides =
+    record b { width = sides.0; height = sides.1; room = if has_more b sides then sides.0 * sides.1 else b.room }
 
--- without a box its sides are 0
-abbrev pub width_of : Option Box → ℕ
-width_of box = option_map_or (λ (b : Box). b.width) box 0
+-- if it gets wider and more pixels, so many rows of the old block are copied to a new one: they are written past the
+-- new one, or read past the old one
+abbrev pub copies_past : Buffer → ℕ → ℕ × ℕ → Bool
+copies_past b rows sides =
+    (nat_lt 0 b.width && (nat_lt b.width sides.0 && has_more b sides))
+    && (nat_lt sides.1 rows || nat_lt b.room (rows * b.width))
 
-abbrev pub height_of : Option Box → ℕ
-height_of box = option_map_or (λ (b : Box). b.height) box 0
+-- ---- the sides that raster attributes give it
 
--- ---- data commands that leave the box
+-- a height in whole bands
+abbrev pub in_bands : ℕ → ℕ
+in_bands height = (height + 5) / band_rows * band_rows
 
--- a data command ends right of the box, if it begins in this column
-abbrev pub ends_right : Option Box → ℕ → Event → Bool
-ends_right box left e = nat_lt (width_of box) (left + columns_of 0 e)
+-- the sides that raster attributes of this width and height give the buffer: no less than theirs, if neither is 0
+abbrev pub raster_sides : Buffer → ℕ → ℕ → ℕ × ℕ
+raster_sides b width height =
+    if (width == 0) || (height == 0)
+    then (b.width, b.height)
+    else (max width b.width, max (in_bands height) b.height)
 
--- the band is below the box
-abbrev pub is_below : Option Box → ℕ → Bool
-is_below box line = nat_le (height_of box) (band_rows * line)
+-- ---- the sides that data commands give it
 
--- a data command in this place that ends right of the box, or is in a band below it
-abbrev pub leaves_from : Option Box → ℕ → ℕ → Event → Bool
-leaves_from box left line e = is_data_command e && (ends_right box left e || is_below box line)
+-- the column at which a data command ends that begins in this one
+abbrev pub end_of : ℕ → Event → ℕ
+end_of left e = left + columns_of 0 e
 
-abbrev pub leaves_mlterm : List Event → Event → Bool
-leaves_mlterm before e = leaves_from (mlterm_box before) (column 0 before) (band before) e
+-- the rows down to the end of the band
+abbrev pub rows_to : ℕ → ℕ
+rows_to line = band_rows * line + band_rows
 
--- some data command left the box
-unfoldable pub has_left_mlterm : List Event → Bool
-has_left_mlterm before = any_at leaves_mlterm before
+-- it ends past column 32,767, or its band past row 32,767: mlterm may end
+abbrev pub is_past_all : ℕ → ℕ → Bool
+is_past_all end rows = nat_lt 32767 end || nat_lt 32767 rows
 
--- ---- what isn't said of data commands
+-- the height that it wants: with 516 rows more, if the band ends below the buffer
+abbrev pub wanted_height : Buffer → ℕ → ℕ
+wanted_height b rows = if nat_le rows b.height then b.height else b.height + 516
 
--- it ends past column 32,767, or its band begins past row 32,767: mlterm ends
-abbrev pub is_past_all : ℕ → ℕ → Event → Bool
-is_past_all left line e = nat_lt 32767 (left + columns_of 0 e) || nat_lt 32767 (band_rows * line)
+-- how many rows of 512 columns more the pixels of the buffer are
+abbrev pub wider_rows : Buffer → ℕ
+wider_rows b = b.width * b.height / (b.width + 512)
 
--- it paints, and ends more than 512 columns right of the box, or its band ends more than 512 rows below the box:
--- mlterm may end or hang
-abbrev pub is_far : Option Box → ℕ → ℕ → Event → Bool
-is_far box left line e =
-    is_painting e
-    && (nat_lt (width_of box + 512) (left + columns_of 0 e)
-    || nat_lt (height_of box + 512) (band_rows * line + band_rows))
+-- the height that it gets as it gets wider: that of no more pixels, if they go on for five rows past the band
+abbrev pub wider_height : Buffer → ℕ → ℕ
+wider_height b rows =
+    if nat_le (rows + 5) (wider_rows b) then wider_rows b / band_rows * band_rows else wanted_height b rows
+
+-- the sides that it gives the buffer: 512 columns more, if it ends right of it
+abbrev pub data_sides : Buffer → ℕ → ℕ → ℕ × ℕ
+data_sides b end rows =
+    if nat_le end b.width then (b.width, wanted_height b rows) else (b.width + 512, wider_height b rows)
+
+-- ---- what becomes of the buffer
+
+-- a data command ended at this column
+abbrev pub reaching : Buffer → ℕ → Buffer
+reaching b end = record b { reach = max b.reach end }
+
+-- a data command that may end mlterm leaves it as it is
+abbrev pub with_data : Buffer → ℕ → ℕ → Buffer
+with_data b end rows = if is_past_all end rows then b else reaching (resized b (data_sides b end rows)) end
+
+-- a new line cuts its width to the reach, if that is less and not 0; the block stays
+abbrev pub with_line : Buffer → Buffer
+with_line b =
+    if not b.cut && (nat_lt 0 b.reach && nat_lt b.reach b.width)
+    then record b { width = b.reach; cut = true }
+    else b
+
+-- the buffer with one more event, by the events before
+abbrev pub buffer_with : Buffer → List Event → Event → Buffer
+buffer_with b before (Step (Raster pan pad width height)) = resized b (raster_sides b width height)
+buffer_with b before (Step (Sixel bits)) = with_data b (column 0 before + 1) (rows_to (band before))
+buffer_with b before (Step (Repeat count bits)) = with_data b (column 0 before + count) (rows_to (band before))
+buffer_with b before (Step NextLine) = with_line b
+buffer_with b before _ = b
+
+-- the buffer after the events
+abbrev pub mlterm_buffer : List Event → Buffer
+mlterm_buffer before = after_each buffer_with no_buffer before
+
+-- ---- data commands
 
 -- it paints in a register of which the model doesn't say the colour
 abbrev pub is_chance : Bool → Event → Bool
 is_chance said e = is_painting e && not said
 
--- it is the first that leaves the box, ends right of it, and is in a band below it: pixels that aren't painted have
--- colours of chance
-abbrev pub is_corner : Option Box → Bool → ℕ → ℕ → Event → Bool
-is_corner box left_before left line e =
-    is_some box && (not left_before && (ends_right box left e && is_below box line))
+-- with these sides of the buffer, the band ends below it, and the picture may be lost; or the command paints and ends
+-- right of it, and paints in other rows
+abbrev pub is_outside : ℕ × ℕ → ℕ → ℕ → Event → Bool
+is_outside sides end rows e = nat_lt sides.1 rows || (is_painting e && nat_lt sides.0 end)
 
--- the model doesn't say what mlterm does at a data command, by: the box, whether a command left it, the column and the
--- band of the command, and whether the model says the colour of the selected register
-abbrev pub is_unsaid_data : Option Box → Bool → ℕ → ℕ → Bool → Event → Bool
-is_unsaid_data box left_before left line said e =
-    is_repeat_of_zero e || (is_past_all left line e || (is_far box left line e || (is_chance said e
-    || is_corner box left_before left line e)))
+-- pixels are copied past a block of memory, or the command is outside the buffer after it
+abbrev pub is_lost : Buffer → ℕ → ℕ → Event → Bool
+is_lost b end rows e =
+    copies_past b rows (data_sides b end rows) || is_outside (data_sides b end rows) end rows e
+
+-- the model doesn't say what mlterm does at a data command, by: the buffer, the column and the band of the command, and
+-- whether the model says the colour of the selected register
+abbrev pub is_unsaid_data : Buffer → ℕ → ℕ → Bool → Event → Bool
+is_unsaid_data b left line said e =
+    is_repeat_of_zero e || (is_past_all (end_of left e) (rows_to line)
+    || (is_lost b (end_of left e) (rows_to line) e || is_chance said e))
 
 abbrev pub mlterm_data : List Event → Command → Reads
 mlterm_data before command =
-    if is_unsaid_data (mlterm_box before) (has_left_mlterm before) (column 0 before) (band before)
+    if is_unsaid_data (mlterm_buffer before) (column 0 before) (band before)
     (is_said_colour before (mlterm_selected before)) (Step command)
     then Unsaid
     else Draws command
 
+-- ---- raster attributes
+
+-- at raster attributes of these sides, pixels are copied past a block of memory
+abbrev pub raster_copies_past : List Event → ℕ → ℕ → Bool
+raster_copies_past before width height =
+    copies_past (mlterm_buffer before) (rows_to (band before)) (raster_sides (mlterm_buffer before) width height)
+
+-- ---- the introducer
+
+-- the first digit of a number below 100,000 is 5
+abbrev pub begins_with_five : ℕ → Bool
+begins_with_five n = (n == 5) || ((n / 10 == 5) || ((n / 100 == 5) || ((n / 1000 == 5) || (n / 10000 == 5))))
+
+-- the first two digits of a number of two to five digits
+abbrev pub first_two : ℕ → ℕ
+first_two n =
+    if nat_lt n 100 then n else if nat_lt n 1000 then n / 10 else if nat_lt n 10000 then n / 100 else n / 1000
+
+-- an introducer with these first parameters mixes colours: the first of one digit, and the second begins with 5; or the
+-- second digit of the first is 5
+abbrev pub mixes : ℕ → ℕ → Bool
+mixes first second = if nat_le first 9 then begins_with_five second else first_two first % 10 == 5
+
+abbrev pub mlterm_introducer : ℕ → ℕ → Reads
+mlterm_introducer first second = if mixes first second then Unsaid else Nothing
+
 -- ---- the rule
-
--- the width that the event declares; 0 if it declares none
-abbrev pub declared_width : Event → ℕ
-declared_width e = option_map_or (λ (a : Attributes). a.width) (raster_of e) 0
-
--- a data command is among the events
-abbrev pub has_data : List Event → Bool
-has_data before = list_any is_data_command before
-
--- raster attributes of this width are below the first band and wider than all before, of which one has a width, and no
--- data command came: mlterm may end, or leave colours of chance
-abbrev pub is_fragile : List Event → ℕ → Bool
-is_fragile before width =
-    nat_lt 0 (band before) && (nat_lt 0 (greatest declared_width before)
-    && (nat_lt (greatest declared_width before) width && not (has_data before)))
 
 -- a definition of this register, with this colour if it gives one, selects it
 abbrev pub define_and_select : ℕ → Option Parts → Reads
@@ -160,15 +219,16 @@ define_and_select register None = Draws (Select register)
 define_and_select register (Some colour) = DrawsTwo (defining register colour) (Select register)
 
 -- What mlterm makes of an event. Unsaid are:
--- - an introducer whose P2 is 5: mlterm mixes colours;
+-- - an introducer by which it mixes colours;
 -- - raster attributes of zeros only: if their numbers are missing, they swallow a byte;
--- - raster attributes below the first band that are wider than those before, if no data command came;
+-- - raster attributes at which pixels are copied past a block of memory;
 -- - the data commands above
 abbrev pub mlterm : Rule
-mlterm before (Start eight parameters) next = if slice_index_or parameters.items 1 0 == 5 then Unsaid else Nothing
+mlterm before (Start eight parameters) next =
+    mlterm_introducer (slice_index_or parameters.items 0 0) (slice_index_or parameters.items 1 0)
 mlterm before (Step (Raster pan pad width height)) next =
     if ((pan == 0) && (pad == 0) && (width == 0) && (height == 0))
-    || is_fragile before width
+    || raster_copies_past before width height
     then Unsaid
     else Nothing
 mlterm before (Step (Define register system x y z)) next =

@@ -29,7 +29,7 @@ pub use documents::draw;
 pub use foot::Foot;
 pub use konsole::Konsole;
 pub use measuring::Measuring;
-pub use mlterm::MlTerm;
+pub use mlterm::{MlTerm, mixes};
 pub use modelled::{Modelled, UnsaidControls};
 pub use named::Named;
 pub use reading::{Reading, Reads};

@@ -1,39 +1,26 @@
 //! What mlterm makes of the events of a string.
 
-ghost use Rattle.std.specs.Prelude.{◌≡◌, ◌<◌, ◌+◌, ◌&&◌, ◌++◌, ◌∷◌, [], ℕ, IfSome, List, false, length, nat_lt, not};
-ghost use Rattle.std.specs.Option.{option_map};
+mod buffer;
+
+ghost use Rattle.std.specs.Prelude.{◌≡◌, ◌<◌, ◌≤◌, ◌+◌, ◌++◌, ◌∷◌, [], ℕ, IfSome, IsTrue, List, Option, length};
+ghost use Rattle.std.specs.Prelude.{slice_index};
+ghost use Rattle.sixel_grammar.specs.Bytes.{is_data};
 ghost use Rattle.sixel_grammar.specs.declared.command.Event.{Event as AnEvent};
 ghost use Rattle.sixel_grammar.specs.declared.command.Event.TheVariants.{Step as AStep};
 ghost use Rattle.sixel_terminal.specs.Stretches.{sixels_of};
 ghost use Rattle.sixel_models.specs.MlTerm as rule;
-ghost use Rattle.sixel_models.specs.MlTermSeen.{AreNarrow, HasSeenMlTerm, box_of_sides, columns_said, data_in};
-ghost use Rattle.sixel_models.specs.MlTermSeen.{mlterm_in, next_data, next_left, next_said, next_selected};
-ghost use Rattle.sixel_models.specs.MlTermSeen.{next_widest, said_in, stored_box};
+ghost use Rattle.sixel_models.specs.MlTermSeen.{HasSeenMlTerm, buffer_of, free_columns, next_buffer, next_said};
+ghost use Rattle.sixel_models.specs.MlTermSeen.{next_selected, said_in};
 
+use crate::mlterm::buffer::{Buffer, is_past_all};
 use crate::place::Place;
 use crate::reading::{Reading, Reads};
-use crate::words::{
-    columns_of, defining, is_data_command, is_painting, is_repeat_of_zero, named_by, nearest,
-    second_of,
-};
+use crate::words::{columns_of, defining, is_painting, is_repeat_of_zero, named_by, nearest};
 use sixel_grammar::{Command, Event};
 use sixel_model::{BAND_ROWS, Colour};
 
 /// How many registers mlterm has. A greater number is register 0.
 const REGISTERS: usize = 1024;
-
-/// The last column and the last row at which it goes on.
-const MOST: u64 = 32767;
-
-/// How far past the box it surely paints, in pixels.
-const MARGIN: u64 = 512;
-
-/// The sides of a box, in pixels.
-#[derive(Clone, Copy, Debug, PartialEq, Eq)]
-struct Sides {
-    width: u16,
-    height: u16,
-}
 
 /// The reading of mlterm: what its rule needs to know of the events so far.
 #[derive(Debug, Drop)]
@@ -43,14 +30,7 @@ pub struct MlTerm {
     selected: u16,
     /// Whether the model says the colour that a definition gave last, for each register that has one.
     said: [Option<bool>; REGISTERS],
-    /// The least width and the least height of the boxes that raster attributes declared.
-    sides: Option<Sides>,
-    /// Whether a data command left the box.
-    has_left: bool,
-    /// The greatest width that raster attributes declared.
-    widest: u16,
-    /// Whether a data command came.
-    has_data: bool,
+    buffer: Buffer,
 }
 
 /// The register that mlterm takes for a number.
@@ -59,42 +39,6 @@ fn register_of(number: u16) -> u16
     ensures below { result < 1024 }
 {
     if number < 1024 { number } else { 0 }
-}
-
-/// The box of raster attributes, if the event is such and they aren't 0 by 0.
-fn box_of(event: &Event) -> Option<Sides>
-    ensures value { option_map box_of_sides result ≡ rule.mlterm_box_of event.now }
-    ensures narrow { AreNarrow result }
-{
-    match event {
-        Event::Step(Command::Raster { width, height, .. }) => {
-            if *width == 0 && *height == 0 {
-                None
-            } else {
-                Some(Sides {
-                    width: *width,
-                    height: *height,
-                })
-            }
-        }
-        _ => None,
-    }
-}
-
-/// The least width and the least height of two boxes.
-fn least(one: Option<Sides>, other: Option<Sides>) -> Option<Sides>
-    ensures value { option_map box_of_sides result
-        ≡ rule.least_box (option_map box_of_sides one) (option_map box_of_sides other) }
-    ensures narrow { AreNarrow one → AreNarrow other → AreNarrow result }
-{
-    match (one, other) {
-        (None, other) => other,
-        (Some(one), None) => Some(one),
-        (Some(one), Some(other)) => Some(Sides {
-            width: one.width.min(other.width),
-            height: one.height.min(other.height),
-        }),
-    }
 }
 
 /// The register to which the event gives a colour, and whether the model says which.
@@ -123,13 +67,37 @@ fn given_by(event: &Event) -> Option<(u16, bool)>
     }
 }
 
-/// The width that the event declares; 0 if it declares none.
-fn declared_width(event: &Event) -> u16
-    ensures { result ≡ rule.declared_width event.now }
+/// Whether the first digit of a number is 5.
+fn begins_with_five(number: u16) -> bool
+    ensures { result ≡ rule.begins_with_five number }
 {
-    match event {
-        Event::Step(Command::Raster { width, .. }) => *width,
-        _ => 0,
+    number == 5
+        || number / 10 == 5
+        || number / 100 == 5
+        || number / 1000 == 5
+        || number / 10000 == 5
+}
+
+/// The first two digits of a number of two digits or more.
+fn first_two(number: u16) -> u16
+    ensures { result ≡ rule.first_two number }
+{
+    match number {
+        0..=99 => number,
+        100..=999 => number / 10,
+        1000..=9999 => number / 100,
+        _ => number / 1000,
+    }
+}
+
+/// Whether an introducer with these first parameters mixes colours.
+pub fn mixes(first: u16, second: u16) -> bool
+    ensures { result ≡ rule.mixes first second }
+{
+    if first <= 9 {
+        begins_with_five(second)
+    } else {
+        first_two(first) % 10 == 5
     }
 }
 
@@ -142,76 +110,24 @@ impl MlTerm {
             place: Place::new(),
             selected: 0,
             said: [None; REGISTERS],
-            sides: None,
-            has_left: false,
-            widest: 0,
-            has_data: false,
+            buffer: Buffer::new(),
         }
     }
 
-    /// The width and the height of the box; 0 without one.
+    /// The column at which the event ends.
     #[inline(always)]
-    fn box_sides(&self) -> (u16, u16)
-        ensures { result ≡ (rule.width_of (stored_box self.now), rule.height_of (stored_box self.now)) }
+    fn end(&self, event: &Event) -> u64
+        ensures { result ≡ rule.end_of self.now.place.column event.now }
     {
-        match self.sides {
-            Some(sides) => (sides.width, sides.height),
-            None => (0, 0),
-        }
+        u64::from(self.place.column) + u64::from(columns_of(event))
     }
 
-    /// Whether a data command here ends right of the box.
+    /// The rows down to the end of the band.
     #[inline(always)]
-    fn ends_right(&self, event: &Event) -> bool
-        ensures { result ≡ rule.ends_right (stored_box self.now) self.now.place.column event.now }
+    fn rows(&self) -> u64
+        ensures { result ≡ rule.rows_to self.now.place.band }
     {
-        let (width, _) = self.box_sides();
-        u64::from(width) < u64::from(self.place.column) + u64::from(columns_of(event))
-    }
-
-    /// Whether the band is below the box.
-    #[inline(always)]
-    fn is_below(&self) -> bool
-        ensures { result ≡ rule.is_below (stored_box self.now) self.now.place.band }
-    {
-        let (_, height) = self.box_sides();
-        u64::from(height) <= u64::from(BAND_ROWS) * u64::from(self.place.band)
-    }
-
-    /// Notes whether a data command leaves the box.
-    #[inline(always)]
-    fn leave(&mut self, event: &Event)
-        ensures { self.new ≡ record self.old { has_left = next_left self.old event.now } }
-    {
-        if is_data_command(event) && (self.ends_right(event) || self.is_below()) {
-            self.has_left = true;
-        }
-    }
-
-    /// Notes the width of raster attributes.
-    #[inline(always)]
-    fn widen(&mut self, event: &Event)
-        ensures { self.new ≡ record self.old { widest = next_widest self.old event.now } }
-    {
-        self.widest = self.widest.max(declared_width(event));
-    }
-
-    /// Notes a data command.
-    #[inline(always)]
-    fn pass(&mut self, event: &Event)
-        ensures { self.new ≡ record self.old { has_data = next_data self.old event.now } }
-    {
-        if is_data_command(event) {
-            self.has_data = true;
-        }
-    }
-
-    /// Whether raster attributes of this width may end mlterm, if they come next.
-    fn is_fragile(&self, width: u16) -> bool
-        ensures { result ≡ (nat_lt 0 self.now.place.band && (nat_lt 0 self.now.widest
-            && (nat_lt self.now.widest width && not self.now.has_data))) }
-    {
-        self.place.band > 0 && self.widest > 0 && self.widest < width && !self.has_data
+        u64::from(BAND_ROWS) * u64::from(self.place.band) + u64::from(BAND_ROWS)
     }
 
     /// Notes the register that the event names, and whether it gives that a colour.
@@ -228,137 +144,6 @@ impl MlTerm {
         if let Some((register, is_said)) = given_by(event) {
             self.said[register as usize] = Some(is_said);
         }
-    }
-
-    /// Whether the model doesn't say what mlterm does at a data command.
-    #[inline(always)]
-    fn is_unsaid_data(&self, event: &Event) -> bool
-        ensures { result ≡ rule.is_unsaid_data (stored_box self.now) self.now.has_left self.now.place.column
-            self.now.place.band (said_in self.now) event.now }
-    {
-        is_repeat_of_zero(event)
-            || self.is_past_all(event)
-            || self.is_far(event)
-            || self.is_chance(event)
-            || self.is_corner(event)
-    }
-
-    /// What it makes of a sixel or a repeat.
-    #[inline(always)]
-    fn data(&self, command: Command) -> Reads
-        ensures { result ≡ data_in self.now command }
-    {
-        if self.is_unsaid_data(&Event::Step(command)) {
-            Reads::Unsaid
-        } else {
-            Reads::Draws(command)
-        }
-    }
-
-    /// What it makes of a command.
-    #[inline(always)]
-    fn command(&self, command: Command) -> Reads
-        ensures { result ≡ mlterm_in self.now (AStep command) }
-    {
-        match command {
-            Command::Sixel(_) | Command::Repeat { .. } => self.data(command),
-            Command::Raster {
-                pan: 0,
-                pad: 0,
-                width: 0,
-                height: 0,
-            } => Reads::Unsaid,
-            Command::Raster { width, .. } if self.is_fragile(width) => Reads::Unsaid,
-            Command::Raster { .. } => Reads::Nothing,
-            Command::Select(number) => Reads::Draws(Command::Select(register_of(number))),
-            Command::Define {
-                register,
-                system,
-                x,
-                y,
-                z,
-            } => define_and_select(register_of(register), nearest(system, x, y, z)),
-            Command::CarriageReturn | Command::NextLine => Reads::Draws(command),
-        }
-    }
-
-    /// What it makes of an event.
-    #[inline(always)]
-    fn reads(&self, event: &Event) -> Reads
-        ensures { result ≡ mlterm_in self.now event.now }
-    {
-        match (event, second_of(event)) {
-            (Event::Step(command), _) => self.command(*command),
-            (_, Some(5)) => Reads::Unsaid,
-            _ => Reads::Nothing,
-        }
-    }
-
-    /// Notes one more event.
-    #[inline(always)]
-    fn see(&mut self, event: &Event)
-        ensures { (before : List AnEvent) → HasSeenMlTerm self.old before
-            → HasSeenMlTerm self.new (before ++ event.now ∷ []) }
-    {
-        self.leave(event);
-        self.name(event);
-        self.widen(event);
-        self.pass(event);
-        self.sides = least(self.sides, box_of(event));
-        self.place = self.place.after(event, 0);
-    }
-
-    /// Up to how many columns further right it is said what it paints, if a sixel here is said.
-    #[inline(always)]
-    fn columns_said(&self) -> usize
-        ensures { result ≡ columns_said (stored_box self.now) self.now.place.column }
-    {
-        let (width, _) = self.box_sides();
-        let end = MOST.min(u64::from(width) + MARGIN);
-        end.saturating_sub(u64::from(self.place.column)) as usize
-    }
-
-    /// Notes so many sixels.
-    #[inline(always)]
-    fn see_sixels(&mut self, count: usize)
-        ensures { (before : List AnEvent) (bytes : List ℕ) → length bytes ≡ count → HasSeenMlTerm self.old before
-            → HasSeenMlTerm self.new (before ++ sixels_of bytes) }
-    {
-        if count > 0 {
-            self.has_left |= self.is_below() | self.is_right_after(count);
-            self.has_data = true;
-            self.place = self.place.after_sixels(count);
-        }
-    }
-
-    /// Whether so many sixels end right of the box.
-    #[inline(always)]
-    fn is_right_after(&self, count: usize) -> bool
-        ensures { result ≡ nat_lt (rule.width_of (stored_box self.now)) (self.now.place.column + count) }
-    {
-        let (width, _) = self.box_sides();
-        (width as usize) < (self.place.column as usize).saturating_add(count)
-    }
-
-    /// Whether a data command is past column or row 32,767.
-    #[inline(always)]
-    fn is_past_all(&self, event: &Event) -> bool
-        ensures { result ≡ rule.is_past_all self.now.place.column self.now.place.band event.now }
-    {
-        u64::from(self.place.column) + u64::from(columns_of(event)) > MOST
-            || u64::from(BAND_ROWS) * u64::from(self.place.band) > MOST
-    }
-
-    /// Whether it paints more than 512 columns or rows past the box.
-    #[inline(always)]
-    fn is_far(&self, event: &Event) -> bool
-        ensures { result ≡ rule.is_far (stored_box self.now) self.now.place.column self.now.place.band event.now }
-    {
-        let (width, height) = self.box_sides();
-        let right = u64::from(self.place.column) + u64::from(columns_of(event));
-        let bottom = u64::from(BAND_ROWS) * u64::from(self.place.band) + u64::from(BAND_ROWS);
-        is_painting(event)
-            && (u64::from(width) + MARGIN < right || u64::from(height) + MARGIN < bottom)
     }
 
     /// Whether the model says the colour of the selected register.
@@ -381,13 +166,150 @@ impl MlTerm {
         is_painting(event) && !self.is_said()
     }
 
-    /// Whether it is the first that leaves the box, right of it and below it.
+    /// Whether the model doesn't say what mlterm does at a data command.
     #[inline(always)]
-    fn is_corner(&self, event: &Event) -> bool
-        ensures { result ≡ rule.is_corner (stored_box self.now) self.now.has_left self.now.place.column
-            self.now.place.band event.now }
+    fn is_unsaid_data(&self, event: &Event) -> bool
+        ensures { result ≡ rule.is_unsaid_data (buffer_of self.now.buffer) self.now.place.column self.now.place.band
+            (said_in self.now) event.now }
     {
-        self.sides.is_some() && !self.has_left && self.ends_right(event) && self.is_below()
+        let (end, rows) = (self.end(event), self.rows());
+        is_repeat_of_zero(event)
+            || is_past_all(end, rows)
+            || self.buffer.is_lost(end, rows, event)
+            || self.is_chance(event)
+    }
+
+    /// What it makes of a sixel or a repeat.
+    #[inline(always)]
+    fn data(&self, command: Command) -> Reads
+        ensures { (before : List AnEvent) → HasSeenMlTerm self.now before → result ≡ rule.mlterm_data before command }
+    {
+        if self.is_unsaid_data(&Event::Step(command)) {
+            Reads::Unsaid
+        } else {
+            Reads::Draws(command)
+        }
+    }
+
+    /// Whether pixels are copied past a block of memory at raster attributes of these sides.
+    fn copies_past(&self, width: u16, height: u16) -> bool
+        ensures { (before : List AnEvent) → HasSeenMlTerm self.now before
+            → result ≡ rule.raster_copies_past before width height }
+    {
+        let sides = self.buffer.raster_sides(width, height);
+        self.buffer.copies_past(self.rows(), sides)
+    }
+
+    /// What it makes of a command.
+    #[inline(always)]
+    fn command(&self, command: Command) -> Reads
+        ensures { (before : List AnEvent) (next : Option AnEvent) → HasSeenMlTerm self.now before
+            → result ≡ rule.mlterm before (AStep command) next }
+    {
+        match command {
+            Command::Sixel(_) | Command::Repeat { .. } => self.data(command),
+            Command::Raster {
+                pan: 0,
+                pad: 0,
+                width: 0,
+                height: 0,
+            } => Reads::Unsaid,
+            Command::Raster { width, height, .. } if self.copies_past(width, height) => {
+                Reads::Unsaid
+            }
+            Command::Raster { .. } => Reads::Nothing,
+            Command::Select(number) => Reads::Draws(Command::Select(register_of(number))),
+            Command::Define {
+                register,
+                system,
+                x,
+                y,
+                z,
+            } => define_and_select(register_of(register), nearest(system, x, y, z)),
+            Command::CarriageReturn | Command::NextLine => Reads::Draws(command),
+        }
+    }
+
+    /// What it makes of an event.
+    #[inline(always)]
+    fn reads(&self, event: &Event) -> Reads
+        ensures { (before : List AnEvent) (next : Option AnEvent) → HasSeenMlTerm self.now before
+            → result ≡ rule.mlterm before event.now next }
+    {
+        match event {
+            Event::Step(command) => self.command(*command),
+            Event::Start { parameters, .. } => read_introducer(
+                parameters.first().copied().unwrap_or(0),
+                parameters.get(1).copied().unwrap_or(0),
+            ),
+            Event::Finish { .. } => Reads::Nothing,
+        }
+    }
+
+    /// The buffer with one more event.
+    #[inline(always)]
+    fn buffer_with(&self, event: &Event) -> Buffer
+        ensures { buffer_of result ≡ next_buffer self.now event.now }
+    {
+        match event {
+            Event::Step(Command::Raster { width, height, .. }) => self
+                .buffer
+                .resized(self.buffer.raster_sides(*width, *height)),
+            Event::Step(Command::Sixel(_) | Command::Repeat { .. }) => {
+                self.buffer.with_data(self.end(event), self.rows())
+            }
+            Event::Step(Command::NextLine) => self.buffer.with_line(),
+            _ => self.buffer,
+        }
+    }
+
+    /// Notes one more event.
+    #[inline(always)]
+    fn see(&mut self, event: &Event)
+        ensures { (before : List AnEvent) → HasSeenMlTerm self.old before
+            → HasSeenMlTerm self.new (before ++ event.now ∷ []) }
+    {
+        let buffer = self.buffer_with(event);
+        self.name(event);
+        self.buffer = buffer;
+        self.place = self.place.after(event, 0);
+    }
+
+    /// Up to how many columns further right a sixel leaves the sides of the buffer as they are.
+    #[inline(always)]
+    fn free_columns(&self) -> u32
+        ensures { result ≡ free_columns (buffer_of self.now.buffer) self.now.place.column
+            (rule.rows_to self.now.place.band) }
+    {
+        self.buffer.free_columns(self.place.column, self.rows())
+    }
+
+    /// Notes so many sixels that leave the sides of the buffer as they are.
+    #[inline(always)]
+    fn see_free(&mut self, count: u32)
+        requires { count ≤ free_columns (buffer_of self.old.buffer) self.old.place.column
+            (rule.rows_to self.old.place.band) }
+        ensures { (before : List AnEvent) (bytes : List ℕ) → length bytes ≡ count → HasSeenMlTerm self.old before
+            → HasSeenMlTerm self.new (before ++ sixels_of bytes) }
+    {
+        if count > 0 {
+            self.buffer = self
+                .buffer
+                .reaching(u64::from(self.place.column) + u64::from(count));
+            self.place = self.place.after_sixels(count as usize);
+        }
+    }
+
+    /// Notes sixels one by one.
+    #[inline(never)]
+    fn see_each(&mut self, bytes: &[u8])
+        requires { (k : ℕ) → k < length bytes.now → IsTrue (is_data (slice_index bytes.now k)) }
+        ensures { (before : List AnEvent) → HasSeenMlTerm self.old before
+            → HasSeenMlTerm self.new (before ++ sixels_of bytes.now) }
+    {
+        for byte in bytes {
+            self.see(&Event::Step(Command::Sixel(byte - b'?')));
+        }
     }
 }
 
@@ -408,15 +330,30 @@ impl Reading for MlTerm {
     }
 
     fn plain_sixels(&self) -> usize {
-        if self.is_unsaid_data(&Event::Step(Command::Sixel(63))) {
-            0
+        if self.is_said() {
+            self.free_columns() as usize
         } else {
-            self.columns_said()
+            0
         }
     }
 
     fn note_sixels(&mut self, bytes: &[u8]) {
-        self.see_sixels(bytes.len());
+        if bytes.len() <= self.free_columns() as usize {
+            self.see_free(bytes.len() as u32);
+        } else {
+            self.see_each(bytes);
+        }
+    }
+}
+
+/// What it makes of an introducer with these first parameters.
+fn read_introducer(first: u16, second: u16) -> Reads
+    ensures { result ≡ rule.mlterm_introducer first second }
+{
+    if mixes(first, second) {
+        Reads::Unsaid
+    } else {
+        Reads::Nothing
     }
 }
 

@@ -1,13 +1,12 @@
 use Rattle.std.proofs.Common.{refl}
 use Rattle.sixel_model.specs.Geometry.{band, column}
-use Rattle.sixel_model.specs.Positions.{any_at, any_below, latest, passes_at, since}
-use Rattle.sixel_models.specs.MlTerm.{has_left_mlterm, is_said_colour, mlterm_box}
-use Rattle.sixel_models.specs.Words.{greatest}
+use Rattle.sixel_model.specs.Positions.{latest, since}
+use Rattle.sixel_models.specs.MlTerm.{is_said_colour}
+use Rattle.sixel_models.specs.Words.{after_each, after_first}
 use Rattle.sixel_models.proofs.laws.mlterm_on_strings.Goals as goal
 
 pub returns : goal.returns
-unfolding band column latest since any_at any_below passes_at has_left_mlterm greatest is_said_colour
-    mlterm_box
+unfolding band column latest since is_said_colour after_each after_first
 returns c = record {
   chance = λ next. refl;
   samples = (λ next. refl, λ next. refl);
