@@ -43,14 +43,14 @@ keeps_more f x xs y None is h = rw is h
 keeps_more f x xs y (Some z) is h = rw is (contains_more z (filter_map f xs) y h)
 
 -- the result for an item is kept
-kept_at : {X Y : Type 0} (f : X → Option Y) (xs : List X) (k : ℕ) (x : X) (y : Y) → slice_get xs k ≡ Some x
+pub kept_at : {X Y : Type 0} (f : X → Option Y) (xs : List X) (k : ℕ) (x : X) (y : Y) → slice_get xs k ≡ Some x
     → f x ≡ Some y → Contains (filter_map f xs) y
 kept_at f [] k x y here is = cc
 kept_at f (z ∷ zs) zero x y here is = let same : z ≡ x = cc in keeps_first f z zs y (ap f same ∙ is)
 kept_at f (z ∷ zs) (suc k) x y here is = keeps_more f z zs y (f z) refl (kept_at f zs k x y here is)
 
 -- each kept result is that of an item
-abbrev IsResult : {X Y : Type 0} → (X → Option Y) → Y → Type 0
+abbrev pub IsResult : {X Y : Type 0} → (X → Option Y) → Y → Type 0
 IsResult {X} f y = (x : X) × (f x ≡ Some y)
 
 results_more : {X Y : Type 0} (f : X → Option Y) (x : X) (xs : List X) (o : Option Y) → f x ≡ o
@@ -58,12 +58,12 @@ results_more : {X Y : Type 0} (f : X → Option Y) (x : X) (xs : List X) (o : Op
 results_more f x xs None is h = rw is h
 results_more f x xs (Some y) is h = rw is ((x, is), h)
 
-results : {X Y : Type 0} (f : X → Option Y) (xs : List X) → AllByRecursion (IsResult f) (filter_map f xs)
+pub results : {X Y : Type 0} (f : X → Option Y) (xs : List X) → AllByRecursion (IsResult f) (filter_map f xs)
 results f [] = tt
 results f (x ∷ xs) = results_more f x xs (f x) refl (results f xs)
 
 -- if no item has a result, none is kept
-none_kept : {X Y : Type 0} (f : X → Option Y) (xs : List X) → ((x : X) → f x ≡ None) → filter_map f xs ≡ []
+pub none_kept : {X Y : Type 0} (f : X → Option Y) (xs : List X) → ((x : X) → f x ≡ None) → filter_map f xs ≡ []
 none_kept f [] none = refl
 none_kept f (x ∷ xs) none = rw (none x) (none_kept f xs none)
 
@@ -107,8 +107,8 @@ listed {registers} {placed} s e h =
 -- ---- the entry of the first broken rule
 
 -- no rule is broken before the first broken one
-unbroken_before : {registers : ℕ} {rule : Rule} {i : ℕ} {events : List Event} → IsFirstBroken registers events rule i
-    → BreaksNone registers last_rule (take i events)
+pub unbroken_before : {registers : ℕ} {rule : Rule} {i : ℕ} {events : List Event}
+    → IsFirstBroken registers events rule i → BreaksNone registers last_rule (take i events)
 unfolding BreaksNone
 unbroken_before {registers} {i} {events} f m le j h =
     let there = taken_there i j events h.item h.here in
@@ -147,12 +147,12 @@ same_finding {placed} {f} {e} {i} is at rule =
     whole
 
 -- the entry of the finding's rule
-record Found (registers : ℕ) (placed : List Placed) (f : Finding) (i : ℕ) (o : Option Entry) : Type 0 where
-  entry : Entry
-  is_entry_of : o ≡ Some entry
-  rule_is : entry.rule ≡ f.rule
-  is_entry : IsEntryAt registers placed entry i
-  finding_is : finding_of entry ≡ f
+pub record Found (registers : ℕ) (placed : List Placed) (f : Finding) (i : ℕ) (o : Option Entry) : Type 0 where
+  pub entry : Entry
+  pub is_entry_of : o ≡ Some entry
+  pub rule_is : entry.rule ≡ f.rule
+  pub is_entry : IsEntryAt registers placed entry i
+  pub finding_is : finding_of entry ≡ f
 
 finding_entry : {registers : ℕ} {placed : List Placed} {f : Finding} {i : ℕ} (o : Option Entry)
     → IsFinding registers placed f i → IsEntryOf registers placed f.rule o → Found registers placed f i o
@@ -246,7 +246,7 @@ counts_none registers placed rule (Some e) none h =
     let at : IsEntryAt registers placed e h.1 = h.2 in
     absurd (nowhere registers e.rule h.1 (events_of placed) none (counts_broken registers e.rule at.counts))
 
-no_entries : {registers : ℕ} {placed : List Placed} {entries : List Entry} → AreEntries registers placed entries
+pub no_entries : {registers : ℕ} {placed : List Placed} {entries : List Entry} → AreEntries registers placed entries
     → BreaksNone registers last_rule (events_of placed) → entries ≡ []
 no_entries {registers} {placed} s none =
     s.entries_are ∙ none_kept s.entry_of all_rules
@@ -259,8 +259,8 @@ not_among_none entries e none h =
     omega arith
 
 -- if a rule is broken, there is an entry for the first
-entry_of_first : {registers : ℕ} {placed : List Placed} {entries : List Entry} (s : AreEntries registers placed entries)
-    {f : Finding} {i : ℕ} → IsFinding registers placed f i → Found registers placed f i (s.entry_of f.rule)
+pub entry_of_first : {registers : ℕ} {placed : List Placed} {entries : List Entry}
+    (s : AreEntries registers placed entries) {f : Finding} {i : ℕ} → IsFinding registers placed f i → Found registers placed f i (s.entry_of f.rule)
 entry_of_first s {f} is = finding_entry (s.entry_of f.rule) is (s.each f.rule)
 
 pub none_if_empty : {registers : ℕ} {placed : List Placed} {entries : List Entry}
@@ -322,7 +322,13 @@ verdict_of {registers} {events} {bytes} {entries} {entry} (Broken f) document s 
     (subst (λ (r : Rule). s.entry_of r ≡ Some entry) rule l.is_listed) e.is_entry_of in
     subst (λ (g : Finding). IsVerdict registers events (Broken g)) (sym (ap finding_of same ∙ e.finding_is)) is
 
-pub first_is_verdict : (registers : ℕ) → FirstIsVerdict registers
-first_is_verdict registers events bytes survey entry document s first =
+-- the first entry is the verdict
+pub first_of_entries : {registers : ℕ} {events : List Placed} {bytes : List ℕ} {entries : List Entry} {entry : Entry}
+    → Document events bytes → AreEntries registers events entries → IsFirstEntry entries entry
+    → IsVerdict registers events (Broken (finding_of entry))
+first_of_entries {registers} {events} document s first =
     let v = verdict_exists registers events in
-    verdict_of v.0 document s.entries first v.1
+    verdict_of v.0 document s first v.1
+
+pub first_is_verdict : (registers : ℕ) → FirstIsVerdict registers
+first_is_verdict registers events bytes survey entry document s first = first_of_entries document s.entries first

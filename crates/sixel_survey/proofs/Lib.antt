@@ -4,7 +4,7 @@ pub mod OneSurveyLemmas
 pub mod TallyLemmas
 pub mod CoverLemmas
 pub mod DeclareLemmas
-mod FollowLemmas
+pub mod FollowLemmas
 pub mod ReadsLemmas
 pub mod TallyingLemmas
 pub mod StretchLemmas

@@ -35,7 +35,7 @@ same_test P true false f g = sym (g.1 (f.0 refl))
 same_test P false true f g = f.1 (g.0 refl)
 same_test P false false f g = refl
 
-holds_once : {X : Type 0} (P : List X → X → Type 0) {xs : List X} {n m : ℕ} → HoldsOften P xs n → HoldsOften P xs m
+pub holds_once : {X : Type 0} (P : List X → X → Type 0) {xs : List X} {n m : ℕ} → HoldsOften P xs n → HoldsOften P xs m
     → n ≡ m
 holds_once P {xs} f g =
     f.often_is
@@ -86,12 +86,12 @@ entry_once registers placed rule (Some e) None h k =
 entry_once registers placed rule (Some e) (Some d) h k =
     ap (λ (x : Entry). Some x) (entry_at_once (h.0 ∙ sym k.0) h.2 k.2)
 
-kept_same : {X Y : Type 0} (f g : X → Option Y) (xs : List X) → ((x : X) → f x ≡ g x)
+pub kept_same : {X Y : Type 0} (f g : X → Option Y) (xs : List X) → ((x : X) → f x ≡ g x)
     → filter_map f xs ≡ filter_map g xs
 kept_same f g [] same = refl
 kept_same f g (x ∷ xs) same = rw (same x, kept_same f g xs same) refl
 
-entries_once : {registers : ℕ} {placed : List Placed} {s t : List Entry} → AreEntries registers placed s
+pub entries_once : {registers : ℕ} {placed : List Placed} {s t : List Entry} → AreEntries registers placed s
     → AreEntries registers placed t → s ≡ t
 entries_once {registers} {placed} is other =
     is.entries_are ∙ kept_same is.entry_of other.entry_of all_rules
@@ -123,7 +123,7 @@ counts_decided registers rule before e =
       | inr none ↦ inr (λ (c : Counts registers rule before e). none (c.broken, c.told))
     ]
 
-unfoldable item_decided : {X : Type 0} (P : List X → X → Type 0) → ((before : List X) (x : X) → Decided (P before x))
+unfoldable pub item_decided : {X : Type 0} (P : List X → X → Type 0) → ((before : List X) (x : X) → Decided (P before x))
     → (xs : List X) (i : ℕ) (o : Option X) → slice_get xs i ≡ o → Decided (HoldsAtPosition P xs i)
 item_decided P decide xs i None is = inr (λ (h : HoldsAtPosition P xs i).
     let bad : Some h.item ≡ None = sym h.here ∙ is in cc)
@@ -138,11 +138,11 @@ unfoldable counts_at : (registers : ℕ) (rule : Rule) (events : List Event) (i 
 counts_at registers rule events i =
     item_decided (Counts registers rule) (counts_decided registers rule) events i (slice_get events i) refl
 
-unfoldable yes : {P : Type 0} → Decided P → Bool
+unfoldable pub yes : {P : Type 0} → Decided P → Bool
 yes (inl p) = true
 yes (inr not) = false
 
-yes_is : {P : Type 0} (d : Decided P) → IsTrue (yes d) ↔ P
+pub yes_is : {P : Type 0} (d : Decided P) → IsTrue (yes d) ↔ P
 unfolding yes
 yes_is (inl p) = (λ t. p, λ q. refl)
 yes_is (inr not) = (λ t. cc, λ p. absurd (not p))
@@ -195,7 +195,7 @@ first_entry registers placed rule i lt h least =
       ),
     )
 
-entry_exists : (registers : ℕ) (placed : List Placed) (rule : Rule)
+pub entry_exists : (registers : ℕ) (placed : List Placed) (rule : Rule)
     → (o : Option Entry) × IsEntryOf registers placed rule o
 entry_exists registers placed rule =
     let events : List Event = events_of placed in

@@ -142,12 +142,12 @@ often_within P {xs} h =
 
 -- ---- one more event
 
-place_before : (seen : List Placed) (p : Placed) (i a : ℕ) → i < length seen → place_at seen i ≡ Some a
+pub place_before : (seen : List Placed) (p : Placed) (i a : ℕ) → i < length seen → place_at seen i ≡ Some a
     → place_at (seen ++ p ∷ []) i ≡ Some a
 place_before seen p i a lt h = ap (option_map (λ (q : Placed). q.place)) (get_before seen (p ∷ []) i lt) ∙ h
 
 -- what holds nowhere and not for the next event holds nowhere
-nowhere_push : {X : Type 0} (P : List X → X → Type 0) (xs : List X) (x : X) → HoldsNowhere P xs → ¬ P xs x
+pub nowhere_push : {X : Type 0} (P : List X → X → Type 0) (xs : List X) (x : X) → HoldsNowhere P xs → ¬ P xs x
     → HoldsNowhere P (xs ++ x ∷ [])
 nowhere_push P xs x none not i h = elim (holds_push P xs x i h) [
   | inl before ↦ none i before.1

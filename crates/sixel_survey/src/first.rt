@@ -41,19 +41,26 @@ fn first_entry(entries: &[Entry]) -> Option<Entry>
     first
 }
 
+/// The finding of the entry with the least place, and of these the least number, if there is an entry.
+pub fn first_finding(entries: &[Entry]) -> Option<Finding>
+    ensures { MatchOption result (entries.now ≡ []) (IsFirstFinding entries.now) }
+{
+    match first_entry(entries) {
+        Some(entry) => Some(Finding {
+            rule: entry.rule,
+            place: entry.place,
+            pixel: entry.pixel,
+        }),
+        None => None,
+    }
+}
+
 impl Survey {
     /// The first broken rule, as `check` finds it, if there is an entry.
     pub fn first(&self) -> Option<Finding>
         ensures { MatchOption result (self.now.entries.items ≡ [])
             (λ finding. IsFirstFinding self.now.entries.items finding) }
     {
-        match first_entry(self.entries.as_slice()) {
-            Some(entry) => Some(Finding {
-                rule: entry.rule,
-                place: entry.place,
-                pixel: entry.pixel,
-            }),
-            None => None,
-        }
+        first_finding(self.entries.as_slice())
     }
 }

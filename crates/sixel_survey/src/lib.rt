@@ -12,5 +12,6 @@ mod tally;
 mod tallying;
 
 pub use entry::{Entry, Survey};
+pub use first::first_finding;
 pub use sixel_model::RULE_COUNT;
-pub use surveying::{survey, survey_with};
+pub use surveying::{Surveying, survey, survey_with};

@@ -1,14 +1,17 @@
 //! Surveying the bytes of a document.
 
-ghost use Rattle.std.specs.Prelude.{◌≡◌, Err, IfSome};
+ghost use Rattle.std.specs.Prelude.{◌≡◌, [], ℕ, Err, IfSome, List};
 ghost use Rattle.sixel_io.specs.Devices.{ReadsToEnd};
+ghost use Rattle.sixel_grammar.specs.Document.{Document};
 ghost use Rattle.sixel_grammar.specs.Reading.{NoFaultBefore, failures_after};
+ghost use Rattle.sixel_grammar.specs.declared.command.Placed.{Placed as PlacedValue};
 ghost use Rattle.sixel_grammar.specs.declared.fault.InputFault.TheVariants.{Read as ReadFault};
 ghost use Rattle.sixel_model.specs.Profiles.{count_of};
 ghost use Rattle.sixel_survey.specs.Answers.{Answers};
 ghost use Rattle.sixel_survey.specs.Declaring.{DeclareBox, DeclareBoxIn};
 ghost use Rattle.sixel_survey.specs.Reads.{ReadsDocument};
 ghost use Rattle.sixel_survey.specs.Surveying.{HasSurveyed};
+ghost use Rattle.sixel_survey.specs.Surveys.{IsSurvey};
 
 use crate::entry::Survey;
 use crate::surveyor::Surveyor;
@@ -20,9 +23,31 @@ use std::alloc::{AllocError, Global};
 
 /// A surveyor that takes events as they are read, and where it allocates its pixels.
 #[derive(Drop)]
-struct Surveying<P: Cover> {
+pub struct Surveying<P: Cover> {
     surveyor: Surveyor<P>,
     alloc: Global,
+}
+
+impl<P: Cover> Surveying<P> {
+    /// One that has seen no event, for pictures with the registers of the profile. This allocates nothing.
+    pub fn new(alloc: Global, profile: Profile) -> Surveying<P>
+        ensures { HasSurveyed (count_of profile) result.surveyor [] }
+    {
+        Surveying {
+            surveyor: Surveyor::new(profile),
+            alloc,
+        }
+    }
+
+    /// The survey of a document whose events it has taken.
+    pub fn finish(self) -> Survey
+        requires { (registers : ℕ) × (seen : List PlacedValue) × (bytes : List ℕ)
+            × HasSurveyed registers self.surveyor seen × Document seen bytes }
+        ensures { (registers : ℕ) (seen : List PlacedValue) (bytes : List ℕ)
+            → HasSurveyed registers self.surveyor seen → Document seen bytes → IsSurvey registers seen result }
+    {
+        self.surveyor.finish()
+    }
 }
 
 impl<P: Cover> Follower for Surveying<P> {
@@ -102,8 +127,7 @@ pub fn survey_with<S: Source>(
 ) -> Result<Survey, InputFault>
     ensures { ReadsDocument (Answers (count_of profile)) DeclareBoxIn result (S.state input.old) (S.state input.new) }
 {
-    let surveyor: Surveyor<CoverPlane> = Surveyor::new(profile);
-    let mut surveying = Surveying { surveyor, alloc };
+    let mut surveying: Surveying<CoverPlane> = Surveying::new(alloc, profile);
     follow_source(input, piece, &mut surveying)?;
-    Ok(surveying.surveyor.finish())
+    Ok(surveying.finish())
 }

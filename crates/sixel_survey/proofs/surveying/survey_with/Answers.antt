@@ -11,8 +11,8 @@ use Rattle.sixel_survey.proofs.surveying.survey_with.Goals as goal
 
 pub follow_source-requires : goal.follow_source-requires
 follow_source-requires g c =
-    let first : Surveying CoverPlane = record { surveyor = c.new-surveyor.result; alloc = c.args.alloc } in
-    (first, begins (λ (s : Surveying CoverPlane). s.surveyor) (count_of c.args.profile) first c.new-surveyor.ensures)
+    let first : Surveying CoverPlane = c.new-surveying.result in
+    (first, begins (λ (s : Surveying CoverPlane). s.surveyor) (count_of c.args.profile) first c.new-surveying.ensures)
 
 pub returns-in_err-follow_source : goal.returns-in_err-follow_source
 returns-in_err-follow_source g c =
@@ -23,14 +23,14 @@ returns-in_err-follow_source g c =
     (g.S.Source.state c.args.input.now) _ (λ bytes h. h)
     (λ stop bytes.
     declares_in (λ s. s.surveyor) (count_of c.args.profile) _ c.follow_source.new.follower stop bytes
-    c.new-surveyor.ensures)
+    c.new-surveying.ensures)
     e.halted e.failures e.unread e.left.read)
 
 pub finish-requires : goal.finish-requires
 finish-requires g c =
     let f =
     surveyed (λ s. s.surveyor) (count_of c.args.profile) _ c.follow_source.new.follower
-    (g.S.Source.state c.args.input.now).remaining c.new-surveyor.ensures c.in_ok-follow_source.ensures.followed in
+    (g.S.Source.state c.args.input.now).remaining c.new-surveying.ensures c.in_ok-follow_source.ensures.followed in
     (count_of c.args.profile, f.events, f.bytes, f.taken, f.document)
 
 pub returns : goal.returns
@@ -38,7 +38,7 @@ returns g c =
     let e = c.in_ok-follow_source.ensures in
     let known = (g.S.Source.state c.args.input.now).remaining in
     let f =
-    surveyed (λ s. s.surveyor) (count_of c.args.profile) _ c.follow_source.new.follower known c.new-surveyor.ensures
+    surveyed (λ s. s.surveyor) (count_of c.args.profile) _ c.follow_source.new.follower known c.new-surveying.ensures
     e.followed in
     reads_followed c.finish.result (g.S.Source.state c.args.input.now) _
     (told_known known f.bytes (Answers (count_of c.args.profile) (Ok c.finish.result)) f.known_are
