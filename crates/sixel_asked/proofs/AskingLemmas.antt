@@ -13,7 +13,7 @@ use Rattle.sixel_grammar.specs.declared.command.Placed.{Placed}
 use Rattle.sixel_model.specs.Positions.{HoldsAtPosition}
 use Rattle.sixel_model.specs.Rules.{Breaks}
 use Rattle.sixel_model.specs.declared.rule.Rule.TheVariants.{Register}
-use Rattle.sixel_model.proofs.PositionLemmas.{get_before, holds_before, holds_push, holds_within}
+use Rattle.sixel_model.proofs.PositionLemmas.{get_before, holds_push}
 use Rattle.sixel_terminal.proofs.FollowLemmas.{events_then}
 use Rattle.sixel_asked.specs.Asked.{BreaksAsked, BreaksNoneAsked, IsFirstAsked, is_asked, number_of}
 use Rattle.sixel_asked.specs.Asking.{BreaksNoneWithin, HasAskedBy, IsAnswer, IsFindingAt, IsFound, NamesWithin}
@@ -46,8 +46,8 @@ take_of_take (suc i) zero xs le = absurd (omega (arith, le))
 take_of_take (suc i) (suc k) [] le = refl
 take_of_take (suc i) (suc k) (y ∷ ys) le = ap (λ (zs : List _). y ∷ zs) (take_of_take i k ys (omega (arith, le)))
 
-held_in_take : {X : Type 0} (P : List X → X → Type 0) (k : ℕ) (xs : List X) (i : ℕ) → HoldsAtPosition P (take k xs) i
-    → (i < k) × HoldsAtPosition P xs i
+pub held_in_take : {X : Type 0} (P : List X → X → Type 0) (k : ℕ) (xs : List X) (i : ℕ)
+    → HoldsAtPosition P (take k xs) i → (i < k) × HoldsAtPosition P xs i
 held_in_take P k xs i h =
     let g = got k xs i h.item h.here in
     let lt : i < k = g.0 in (
@@ -95,11 +95,7 @@ held_middle P xs ys x h =
 pub within_take : (k : ℕ) (xs : List Event) → NamesWithin xs → NamesWithin (take k xs)
 within_take k xs within i h = within i (held_in_take (Breaks 256 Register) k xs i h).1
 
-pub within_before : (xs : List Event) (x : Event) → NamesWithin (xs ++ x ∷ []) → NamesWithin xs
-within_before xs x within i h =
-    within i (holds_before (Breaks 256 Register) xs x i (holds_within (Breaks 256 Register) xs i h) h)
-
-within_less : (i k : ℕ) (xs : List Event) → i ≤ k → NamesWithin (take k xs) → NamesWithin (take i xs)
+pub within_less : (i k : ℕ) (xs : List Event) → i ≤ k → NamesWithin (take k xs) → NamesWithin (take i xs)
 within_less i k xs le within = subst NamesWithin (take_of_take i k xs le) (within_take i (take k xs) within)
 
 -- ---- one more event
@@ -143,7 +139,7 @@ asked_push t n m seen place e (Some rule) is s none moved =
       rest = [];
       are = refl;
       asked = parts.0;
-      broken = λ within. counted e rule s within parts.1;
+      broken = λ within. counted e rule s parts.1;
       none_earlier = none;
       none_smaller = λ q lt asked within.
           not_broken t e q s (first_is_least (asked_in t n e) rule q is lt) asked within;

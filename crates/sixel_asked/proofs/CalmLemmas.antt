@@ -10,53 +10,33 @@ use Rattle.sixel_grammar.specs.declared.command.Command.TheVariants.{Sixel}
 use Rattle.sixel_grammar.specs.declared.command.Event.{Event}
 use Rattle.sixel_grammar.specs.declared.command.Event.TheVariants.{Step}
 use Rattle.sixel_model.specs.Events.{Attributes, is_painting, named_by, select_of}
-use Rattle.sixel_model.specs.Geometry.{band, band_rows, column}
-use Rattle.sixel_model.specs.Positions.{any_at, latest}
+use Rattle.sixel_model.specs.Geometry.{band, column}
+use Rattle.sixel_model.specs.Positions.{latest}
 use Rattle.sixel_model.specs.Rules.{colour_of, known, raster_before}
-use Rattle.sixel_model.proofs.PositionLemmas.{any_at_push, latest_push, option_or_none}
+use Rattle.sixel_model.proofs.PositionLemmas.{latest_push, option_or_none}
 use Rattle.sixel_model.proofs.StepLemmas.{band_push, column_push, raster_push}
 use Rattle.sixel_models.specs.Places.{most}
 use Rattle.sixel_models.proofs.PlainLemmas.{band_over, column_over, first_before, same_over}
 use Rattle.sixel_terminal.specs.Stretches.{sixels_of}
-use Rattle.sixel_asked.specs.Asked.{BreaksAsked, breaks_dropped, breaks_far, breaks_hue, breaks_large, breaks_mixed}
-use Rattle.sixel_asked.specs.Asked.{breaks_past, breaks_raster_late, breaks_rows, leaves_at_corner, leaves_box}
+use Rattle.sixel_asked.specs.Asked.{breaks_dropped, breaks_far, breaks_hue, breaks_large, breaks_mixed}
+use Rattle.sixel_asked.specs.Asked.{breaks_past, breaks_raster_late, breaks_rows, leaves_box, leaves_far}
 use Rattle.sixel_asked.specs.Asked.{is_asked, is_droppable}
-use Rattle.sixel_asked.specs.Asking.{BreaksNoneWithin, NamesWithin}
+use Rattle.sixel_asked.specs.Asking.{BreaksNoneWithin}
 use Rattle.sixel_asked.specs.Counts.{fits_box_in, fits_in, is_calm_in, is_near_in}
 use Rattle.sixel_asked.specs.Notes.{AreNarrow, IsNotesAfter, attributes, passed, stale_in}
 use Rattle.sixel_asked.specs.Stale.{colour_at_select}
+use Rattle.sixel_asked.specs.Tallies.{CountsAsked}
 use Rattle.sixel_asked.specs.declared.notes.Declared.{Declared}
 use Rattle.sixel_asked.specs.declared.notes.Notes.{Notes}
 use Rattle.sixel_asked.specs.declared.rule.AskedRule.{AskedRule}
 use Rattle.sixel_asked.specs.declared.rule.AskedRule.TheVariants.{RasterLate, Dropped, Stale, Large, Rows, Past, Hue}
 use Rattle.sixel_asked.specs.declared.rule.AskedRule.TheVariants.{Far, Mixed}
 use Rattle.sixel_asked.specs.declared.terminals.Terminals.{Terminals}
-use Rattle.sixel_asked.proofs.AskingLemmas.{none_push, within_before}
-use Rattle.sixel_asked.proofs.CountsLemmas.{fresh}
-use Rattle.sixel_asked.proofs.NotesLemmas.{left_with}
+use Rattle.sixel_asked.proofs.AskingLemmas.{none_push}
+use Rattle.sixel_asked.proofs.CountsLemmas.{breaks_counts, fresh, known_below}
 use Rattle.sixel_asked.proofs.StaleLemmas.{at_select_still, colour_still}
 
 -- ---- the notes after sixels
-
-after_one : (z : Bool) (w h c b k : ℕ)
-    → ((nat_lt 0 k && (nat_lt w (c + 1 + k) || nat_le h (6 * (b + 0))))
-    || ((nat_lt w (c + 1) || nat_le h (6 * b)) || z))
-    ≡ ((nat_lt 0 (suc k) && (nat_lt w (c + suc k) || nat_le h (6 * b))) || z)
-after_one true w h c b k = grind (arith, nat_tests)
-after_one false w h c b k = grind (arith, nat_tests)
-
-left_over : (a : Attributes) (before : List Event) (bytes : List ℕ)
-    → any_at (leaves_box a) (before ++ sixels_of bytes)
-    ≡ ((nat_lt 0 (length bytes)
-    && (nat_lt a.width (column 0 before + length bytes) || nat_le a.height (6 * band before)))
-    || any_at (leaves_box a) before)
-left_over a before [] = ap (any_at (leaves_box a)) (append-nil before)
-left_over a before (b ∷ bs) =
-    let one : Event = Step (Sixel (b - 63)) in
-    ap (any_at (leaves_box a)) (first_before before b bs)
-    ∙ (left_over a (before ++ one ∷ []) bs
-    ∙ rw (column_push 0 before one, band_push before one, any_at_push (leaves_box a) before one)
-    (after_one (any_at (leaves_box a) before) a.width a.height (column 0 before) (band before) (length bs)))
 
 dropped_over : (before : List Event) (bytes : List ℕ) → 0 < length bytes
     → option_map_or is_droppable (latest (λ (d : Event). Some d) (before ++ sixels_of bytes)) false ≡ false
@@ -95,9 +75,6 @@ at_select_over r before bytes =
 moved : (c k : ℕ) → min (min c most + k) most ≡ min (c + k) most
 moved c k = omega arith
 
-some_is : (k : ℕ) → 0 < k → nat_lt 0 k ≡ true
-some_is k lt = grind (arith, nat_tests)
-
 pub notes_over : (n : Notes) (before : List Event) (bytes : List ℕ) → 0 < length bytes → IsNotesAfter n before
     → IsNotesAfter (passed n (length bytes)) (before ++ sixels_of bytes)
 notes_over n before bytes some s = record {
@@ -106,14 +83,6 @@ notes_over n before bytes some s = record {
       ∙ (moved (column 0 before) (length bytes)
       ∙ ap (λ (m : ℕ). min m most) (sym (column_over 0 before bytes)));
   band_is = s.band_is ∙ ap (λ (m : ℕ). min m most) (sym (band_over before bytes));
-  left_is = λ a w h. rw (s.column_is, s.band_is)
-      (left_with true a.width a.height (column 0 before) (length bytes) (band before) n.right n.deep w h
-      ∙ (ap (λ (b : Bool).
-      (true && (nat_lt a.width (column 0 before + length bytes) || nat_le a.height (6 * band before)))
-      || b) (s.left_is a w h)
-      ∙ (ap (λ (b : Bool). (b && (nat_lt a.width (column 0 before + length bytes) || nat_le a.height (6 * band before)))
-      || any_at (leaves_box a) before) (sym (some_is (length bytes) some))
-      ∙ sym (left_over a before bytes))));
   declared_is = s.declared_is ∙ sym (raster_over before bytes);
   narrow = s.narrow;
   droppable_is = sym (dropped_over before bytes some);
@@ -122,6 +91,7 @@ notes_over n before bytes some s = record {
   entries = s.entries;
   shades_are = λ r lt. s.shades_are r lt ∙ sym (colour_over r before bytes);
   picked_is = λ r lt is. s.picked_is r lt is ∙ sym (at_select_over r before bytes);
+  picked_none = s.picked_none;
 }
 
 -- ---- what they can break
@@ -130,10 +100,9 @@ notes_over n before bytes some s = record {
 -- known register has the colour of its select
 pub record AreCalm (t : Terminals) (before : List Event) (count : ℕ) : Type 0 where
   pub column_to : column 0 before + count ≤ 32767
-  pub row_to : 6 * band before ≤ 32767
   pub fits : (a : Attributes) → raster_before before ≡ Some a
       → (column 0 before + count ≤ a.width) × (6 * band before < a.height)
-  pub fresh : IsTrue (is_asked t Stale) → NamesWithin before → (r : ℕ) → known before ≡ Some r
+  pub fresh : IsTrue (is_asked t Stale) → (r : ℕ) → r < 256 → known before ≡ Some r
       → colour_of before r ≡ colour_at_select before r
 
 no_past : (p : Bool) (w h c b k : ℕ) → c + suc k ≤ w → 6 * b < h
@@ -154,63 +123,58 @@ not_past {before} {k} bits (Some a) is calm t =
     let room = calm.fits a is in
     no_past (is_painting (Step (Sixel bits))) a.width a.height (column 0 before) (band before) k room.0 room.1 t
 
-no_far : (w h c b k : ℕ) (z : Bool) → c + suc k ≤ 32767 → 6 * b ≤ 32767 → c + suc k ≤ w
-    → (nat_lt 32767 (c + 1) || nat_lt 32767 (6 * b) || ((nat_lt w (c + 1) && nat_le h (6 * b)) && z)) ≡ true → ⊥
-no_far w h c b k true across down in_box t = grind (arith, nat_tests)
-no_far w h c b k false across down in_box t = grind (arith, nat_tests)
+no_far : (w h c b k : ℕ) → c + suc k ≤ 32767 → c + suc k ≤ w → 6 * b < h
+    → (nat_lt 32767 (c + 1) || (nat_lt w (c + 1) || nat_lt (h + 512) (6 * b + 6))) ≡ true → ⊥
+no_far w h c b k across in_box down t = grind (arith, nat_tests)
 
-no_far_alone : (c b k : ℕ) → c + suc k ≤ 32767 → 6 * b ≤ 32767
-    → (nat_lt 32767 (c + 1) || nat_lt 32767 (6 * b) || false) ≡ true → ⊥
-no_far_alone c b k across down t = grind (arith, nat_tests)
+no_far_alone : (c k : ℕ) → c + suc k ≤ 32767 → (nat_lt 32767 (c + 1) || false) ≡ true → ⊥
+no_far_alone c k across t = grind (arith, nat_tests)
 
 not_far : {t : Terminals} {before : List Event} {k : ℕ} (bits : ℕ) (o : Option Attributes) → raster_before before ≡ o
     → AreCalm t before (suc k)
-    → (nat_lt 32767 (column 0 before + 1) || nat_lt 32767 (band_rows * band before)
-    || option_map_or (λ a. leaves_at_corner a before (Step (Sixel bits))) o false) ≡ true → ⊥
-not_far {before} {k} bits None is calm t =
-    no_far_alone (column 0 before) (band before) k calm.column_to calm.row_to t
+    → (nat_lt 32767 (column 0 before + 1)
+    || option_map_or (λ a. leaves_far a before (Step (Sixel bits))) o false) ≡ true → ⊥
+not_far {before} {k} bits None is calm t = no_far_alone (column 0 before) k calm.column_to t
 not_far {before} {k} bits (Some a) is calm t =
     let room = calm.fits a is in
-    no_far a.width a.height (column 0 before) (band before) k (not (any_at (leaves_box a) before)) calm.column_to
-    calm.row_to room.0 t
+    no_far a.width a.height (column 0 before) (band before) k calm.column_to room.0 room.1 t
 
-none_broken : {t : Terminals} {before : List Event} {k : ℕ} (bits : ℕ) (rule : AskedRule) → AreCalm t before (suc k)
-    → IsTrue (is_asked t rule) → NamesWithin before → ¬ BreaksAsked rule before (Step (Sixel bits))
+pub none_counted : {t : Terminals} {before : List Event} {k : ℕ} (bits : ℕ) (rule : AskedRule)
+    → AreCalm t before (suc k) → IsTrue (is_asked t rule) → ¬ CountsAsked rule before (Step (Sixel bits))
 unfolding breaks_raster_late breaks_dropped breaks_large breaks_rows breaks_past breaks_hue breaks_far breaks_mixed
-none_broken bits RasterLate calm asked within h = cc
-none_broken bits Dropped calm asked within h = cc
-none_broken bits Stale calm asked within h = h.differs (calm.fresh asked within h.register h.is_known)
-none_broken bits Large calm asked within h = cc
-none_broken bits Rows calm asked within h = cc
-none_broken {before} bits Past calm asked within h = not_past bits (raster_before before) refl calm h
-none_broken bits Hue calm asked within h = cc
-none_broken {before} bits Far calm asked within h = not_far bits (raster_before before) refl calm h
-none_broken bits Mixed calm asked within h = cc
+none_counted bits RasterLate calm asked h = cc
+none_counted bits Dropped calm asked h = cc
+none_counted {before} bits Stale calm asked h =
+    h.0.differs (calm.fresh asked h.0.register (known_below before h.0.register h.0.is_known h.1) h.0.is_known)
+none_counted bits Large calm asked h = cc
+none_counted bits Rows calm asked h = cc
+none_counted {before} bits Past calm asked h = not_past bits (raster_before before) refl calm h
+none_counted bits Hue calm asked h = cc
+none_counted {before} bits Far calm asked h = not_far bits (raster_before before) refl calm h
+none_counted bits Mixed calm asked h = cc
 
 known_still : (before : List Event) (bits : ℕ) → known (before ++ Step (Sixel bits) ∷ []) ≡ known before
 unfolding known
 known_still before bits =
     rw (latest_push select_of before (Step (Sixel bits)), latest_push named_by before (Step (Sixel bits))) refl
 
-calm_after : {t : Terminals} (before : List Event) (k bits : ℕ) → AreCalm t before (suc k)
+pub calm_after : {t : Terminals} (before : List Event) (k bits : ℕ) → AreCalm t before (suc k)
     → AreCalm t (before ++ Step (Sixel bits) ∷ []) k
 calm_after before k bits calm =
     let one : Event = Step (Sixel bits) in
     let across : column 0 before + suc k ≤ 32767 = calm.column_to in
-    let down : 6 * band before ≤ 32767 = calm.row_to in
     let right : column 0 (before ++ one ∷ []) ≡ column 0 before + 1 = column_push 0 before one in
     let same : band (before ++ one ∷ []) ≡ band before + 0 = band_push before one in
     record {
       column_to = omega (arith, across, right);
-      row_to = omega (arith, down, same);
       fits = λ a is.
           let room = calm.fits a (sym (raster_push before one ∙ option_or_none (raster_before before)) ∙ is) in
           let in_width : column 0 before + suc k ≤ a.width = room.0 in
           let in_height : 6 * band before < a.height = room.1 in
           (omega (arith, in_width, right), omega (arith, in_height, same));
-      fresh = λ asked within r is.
+      fresh = λ asked r low is.
           colour_still before one r refl
-          ∙ (calm.fresh asked (within_before before one within) r (sym (known_still before bits) ∙ is)
+          ∙ (calm.fresh asked r low (sym (known_still before bits) ∙ is)
           ∙ sym (at_select_still before one r refl));
     }
 
@@ -221,15 +185,12 @@ none_over t before (b ∷ bs) calm none =
     subst (BreaksNoneWithin t) (sym (first_before before b bs))
     (none_over t (before ++ Step (Sixel (b - 63)) ∷ []) bs (calm_after before (length bs) (b - 63) calm)
     (none_push t before (Step (Sixel (b - 63))) none
-    (λ rule asked within. none_broken (b - 63) rule calm asked within)))
+    (λ rule asked within h. none_counted (b - 63) rule calm asked (breaks_counts before _ rule within h))))
 
 -- ---- by the notes
 
 within_cap : (c k m : ℕ) → m < most → min c most + k ≤ m → c + k ≤ m
 within_cap c k m low h = omega (arith, low, h)
-
-row_cap : (b m : ℕ) → m < most → 6 * min b most ≤ m → 6 * b ≤ m
-row_cap b m low h = omega (arith, low, h)
 
 row_below : (b m : ℕ) → m < most → 6 * min b most < m → 6 * b < m
 row_below b m low h = omega (arith, low, h)
@@ -257,16 +218,13 @@ pub calm_of : {n : Notes} {before : List Event} (t : Terminals) (k : ℕ) → Is
     → is_calm_in t n k ≡ true → AreCalm t before k
 calm_of {n} {before} t k s h =
     let one = and_parts (is_near_in n k) (not (is_asked t Stale && stale_in n)) h in
-    let two = and_parts (fits_box_in n k) (nat_le (n.column + k) 32767 && nat_le (6 * n.band) 32767) one.0 in
-    let three = and_parts (nat_le (n.column + k) 32767) (nat_le (6 * n.band) 32767) two.1 in
+    let two = and_parts (fits_box_in n k) (nat_le (n.column + k) 32767) one.0 in
     record {
       column_to = within_cap (column 0 before) k 32767 (omega arith)
-          (subst (λ (m : ℕ). m + k ≤ 32767) s.column_is (leb-true (n.column + k) 32767 three.0));
-      row_to = row_cap (band before) 32767 (omega arith)
-          (subst (λ (m : ℕ). 6 * m ≤ 32767) s.band_is (leb-true (6 * n.band) 32767 three.1));
+          (subst (λ (m : ℕ). m + k ≤ 32767) s.column_is (leb-true (n.column + k) 32767 two.1));
       fits = λ a is. fits_of k a n.declared s s.narrow (s.declared_is ∙ is) two.0;
-      fresh = λ asked within r is.
-          fresh r s within (second_false (is_asked t Stale) (stale_in n) asked (not-true _ one.1)) is;
+      fresh = λ asked r low is.
+          fresh r s low (second_false (is_asked t Stale) (stale_in n) asked (not-true _ one.1)) is;
     }
   where
     second_false : (a b : Bool) → a ≡ true → (a && b) ≡ false → b ≡ false

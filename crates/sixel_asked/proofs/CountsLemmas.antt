@@ -4,7 +4,8 @@ use Rattle.std.proofs.Common.{Option, Some, None, List, [], ◌∷◌, refl, sym
 use Rattle.std.specs.Prelude.{IsTrue, is_none, is_some, nat_le, nat_lt}
 use Rattle.std.specs.List.{list_any}
 use Rattle.std.specs.Option.{option_map, option_map_or, option_or}
-use Rattle.std.proofs.lemmas.Bool.{and_from, and_parts, eqb-true, le-leb, ltb-false, ltb-true}
+use Rattle.std.proofs.lemmas.Bool.{and_from, and_parts, eqb-true, le-leb, lt-ltb, ltb-false}
+use Rattle.std.proofs.lemmas.Bool.{ltb-true}
 use Rattle.std.proofs.lemmas.Bool.Decides.{nat_tests}
 use Rattle.sixel_grammar.specs.declared.command.Command.TheVariants.{Select}
 use Rattle.sixel_grammar.specs.declared.command.Event.{Event}
@@ -17,13 +18,16 @@ use Rattle.sixel_model.specs.Rules.{Breaks, breaks_register, colour_of, known, k
 use Rattle.sixel_model.proofs.KnownLemmas.{known_is}
 use Rattle.sixel_model.proofs.LatestLemmas.{latest_gives}
 use Rattle.sixel_models.specs.Places.{most}
+use Rattle.sixel_judge.specs.Counting.{is_below as is_below_count}
 use Rattle.sixel_asked.specs.Asked.{BreaksAsked, breaks_dropped, breaks_far, breaks_past, breaks_raster_late}
-use Rattle.sixel_asked.specs.Asked.{ends_right, is_below, leaves_at_corner, leaves_box}
+use Rattle.sixel_asked.specs.Asked.{ends_right, is_below, is_deep, leaves_box, leaves_far}
 use Rattle.sixel_asked.specs.Asking.{NamesWithin}
-use Rattle.sixel_asked.specs.Counts.{corner_in, counts_in, dropped_in, ends_right_in, far_in, has_left_in, is_below_in}
-use Rattle.sixel_asked.specs.Counts.{late_in, leaves_in, paints_stale_in, past_in, turns_in}
+use Rattle.sixel_asked.specs.Counts.{counts_in, dropped_in, ends_right_in, far_in, is_below_in, is_deep_in, late_in}
+use Rattle.sixel_asked.specs.Counts.{leaves_far_in, leaves_in, paints_stale_in, past_in, strays_in}
 use Rattle.sixel_asked.specs.Notes.{AreNarrow, IsNotesAfter, attributes, is_same, parts_of, shade_at, stale_in}
 use Rattle.sixel_asked.specs.Stale.{IsStale, colour_at_select}
+use Rattle.sixel_asked.specs.Tallies.{CountsAsked}
+use Rattle.sixel_asked.proofs.StaleLemmas.{at_high}
 use Rattle.sixel_asked.specs.declared.notes.Declared.{Declared}
 use Rattle.sixel_asked.specs.declared.notes.Notes.{Notes}
 use Rattle.sixel_asked.specs.declared.rule.AskedRule.{AskedRule}
@@ -40,8 +44,8 @@ right_is w c k low = grind (arith, nat_tests)
 below_is : (h b : ℕ) → h < 2 ^ 16 → nat_le h (6 * min b most) ≡ nat_le h (6 * b)
 below_is h b low = grind (arith, nat_tests)
 
-low_is : (b : ℕ) → nat_lt 32767 (6 * min b most) ≡ nat_lt 32767 (6 * b)
-low_is b = grind (arith, nat_tests)
+deep_is : (h b : ℕ) → h < 2 ^ 16 → nat_lt (h + 512) (6 * min b most + 6) ≡ nat_lt (h + 512) (6 * b + 6)
+deep_is h b low = grind (arith, nat_tests)
 
 ends_is : {n : Notes} {before : List Event} (d : Declared) (e : Event) → IsNotesAfter n before → d.width < 2 ^ 16
     → ends_right_in n d e ≡ ends_right (attributes d) before e
@@ -55,12 +59,13 @@ leaves_is : {n : Notes} {before : List Event} (d : Declared) (e : Event) → IsN
     → d.height < 2 ^ 16 → leaves_in n d e ≡ leaves_box (attributes d) before e
 leaves_is d e s w h = ap₂ (λ (a b : Bool). is_data_command e && (a || b)) (ends_is d e s w) (down_is d s h)
 
-corner_is : {n : Notes} {before : List Event} (d : Declared) (e : Event) → IsNotesAfter n before → d.width < 2 ^ 16
-    → d.height < 2 ^ 16 → corner_in n d e ≡ leaves_at_corner (attributes d) before e
-corner_is {n} {before} d e s w h =
-    ap₂ (λ (a b : Bool). (a && b) && not (has_left_in n d)) (ends_is d e s w) (down_is d s h)
-    ∙ ap (λ (b : Bool). (ends_right (attributes d) before e && is_below (attributes d) before) && not b)
-    (s.left_is (attributes d) w h)
+low_is : {n : Notes} {before : List Event} (d : Declared) → IsNotesAfter n before → d.height < 2 ^ 16
+    → is_deep_in n d ≡ is_deep (attributes d) before
+low_is {n} {before} d s low = rw s.band_is (deep_is d.height (band before) low)
+
+leaves_far_is : {n : Notes} {before : List Event} (d : Declared) (e : Event) → IsNotesAfter n before
+    → d.width < 2 ^ 16 → d.height < 2 ^ 16 → leaves_far_in n d e ≡ leaves_far (attributes d) before e
+leaves_far_is d e s w h = ap₂ (λ (a b : Bool). a || b) (ends_is d e s w) (low_is d s h)
 
 -- what is said of the box
 of_box : (P : Declared → Bool) (Q : Attributes → Bool) (o : Option Declared) (p : Option Attributes)
@@ -108,22 +113,16 @@ past_is {n} {before} e s =
     (of_box (λ d. leaves_in n d e) (λ a. leaves_box a before e) n.declared (raster_before before) s.declared_is s.narrow
     (λ d w h. leaves_is d e s w h))
 
-turns_is : {n : Notes} {before : List Event} (e : Event) → IsNotesAfter n before
-    → turns_in n e ≡ option_map_or (λ a. leaves_at_corner a before e) (raster_before before) false
-turns_is {n} {before} e s =
-    of_box (λ d. corner_in n d e) (λ a. leaves_at_corner a before e) n.declared (raster_before before) s.declared_is
-    s.narrow (λ d w h. corner_is d e s w h)
+strays_is : {n : Notes} {before : List Event} (e : Event) → IsNotesAfter n before
+    → strays_in n e ≡ option_map_or (λ a. leaves_far a before e) (raster_before before) false
+strays_is {n} {before} e s =
+    of_box (λ d. leaves_far_in n d e) (λ a. leaves_far a before e) n.declared (raster_before before) s.declared_is
+    s.narrow (λ d w h. leaves_far_is d e s w h)
 
 far_is : {n : Notes} {before : List Event} (e : Event) → IsNotesAfter n before → far_in n e ≡ breaks_far before e
 unfolding breaks_far
 far_is {n} {before} e s =
-    rw (
-      turns_is e s,
-      s.column_is,
-      s.band_is,
-      right_is 32767 (column 0 before) (columns_of 0 e) (omega arith),
-      low_is (band before),
-    ) refl
+    rw (strays_is e s, s.column_is, right_is 32767 (column 0 before) (columns_of 0 e) (omega arith)) refl
 
 -- ---- colours
 
@@ -205,48 +204,68 @@ test_is : {n : Notes} {before : List Event} → IsNotesAfter n before → stale_
 test_is {n} s = ap (test n) (known_same s)
 
 -- the colours of the known register, now and at its select
-colours_are : {n : Notes} {before : List Event} (r : ℕ) → IsNotesAfter n before → NamesWithin before
-    → known before ≡ Some r
+colours_are : {n : Notes} {before : List Event} (r : ℕ) → IsNotesAfter n before → r < 256 → known before ≡ Some r
     → (option_map parts_of (shade_at n.shades r) ≡ colour_of before r)
     × (option_map parts_of n.picked ≡ colour_at_select before r)
-colours_are {n} {before} r s within is =
+colours_are {n} {before} r s low is =
     let selected = (known_is before r is).selected in
-    let low : r < 256 = selects_low before r selected within in
     (s.shades_are r low, s.picked_is r low (s.selected_is ∙ selected))
 
 not_true : (b : Bool) → not b ≡ true → b ≡ true → ⊥
 not_true true h k = cc
 not_true false h k = cc
 
-other : {n : Notes} {before : List Event} (r : ℕ) → IsNotesAfter n before → NamesWithin before
+other : {n : Notes} {before : List Event} (r : ℕ) → IsNotesAfter n before → r < 256
     → known before ≡ Some r → not (is_same (shade_at n.shades r) n.picked) ≡ true
     → colour_of before r ≢ colour_at_select before r
-other {n} {before} r s within is differs same =
-    let two = colours_are r s within is in
+other {n} {before} r s low is differs same =
+    let two = colours_are r s low is in
     not_true (is_same (shade_at n.shades r) n.picked) differs
     (is_same_of (shade_at n.shades r) n.picked (two.0 ∙ (same ∙ sym two.1)))
 
-stale_by : {n : Notes} {before : List Event} (e : Event) (o : Option ℕ) → known before ≡ o → IsNotesAfter n before
-    → NamesWithin before → is_painting e ≡ true → test n o ≡ true → IsStale before e
-stale_by e None is s within paints t = cc
-stale_by e (Some r) is s within paints t =
-    record { register = r; painting = paints; is_known = is; differs = other r s within is t }
+-- a known register above 255 passes no test
+high_fails : {n : Notes} {before : List Event} (r : ℕ) → IsNotesAfter n before → 256 ≤ r → known before ≡ Some r
+    → test n (Some r) ≡ false
+high_fails {n} {before} r s high is =
+    ap₂ (λ (o p : Option Shade). not (is_same o p)) (at_high n.shades r high)
+    (s.picked_none r high (s.selected_is ∙ (known_is before r is).selected))
 
-is_stale_of : {n : Notes} {before : List Event} (e : Event) → IsNotesAfter n before → NamesWithin before
-    → paints_stale_in n e ≡ true → IsStale before e
-is_stale_of {n} {before} e s within t =
+stale_by : {n : Notes} {before : List Event} (e : Event) (o : Option ℕ) → known before ≡ o → IsNotesAfter n before
+    → is_painting e ≡ true → test n o ≡ true → IsStale before e × IsTrue (is_below_count 256 o)
+stale_by e None is s paints t = cc
+stale_by {n} {before} e (Some r) is s paints t = by (nat_lt r 256) refl
+  where
+    by : (b : Bool) → nat_lt r 256 ≡ b → IsStale before e × IsTrue (is_below_count 256 (Some r))
+    by true below = (
+      record {
+        register = r;
+        painting = paints;
+        is_known = is;
+        differs = other r s (ltb-true r 256 below) is t;
+      },
+      below,
+    )
+    by false high = let no = high_fails r s (ltb-false r 256 high) is in cc
+
+is_stale_of : {n : Notes} {before : List Event} (e : Event) → IsNotesAfter n before → paints_stale_in n e ≡ true
+    → IsStale before e × IsTrue (is_below_count 256 (known before))
+is_stale_of {n} {before} e s t =
     let parts = and_parts (is_painting e) (stale_in n) t in
-    stale_by e (known before) refl s within parts.0 (sym (test_is s) ∙ parts.1)
+    stale_by e (known before) refl s parts.0 (sym (test_is s) ∙ parts.1)
 
 not_same : (b : Bool) → (b ≡ true → ⊥) → not b ≡ true
 not_same true h = absurd (h refl)
 not_same false h = refl
 
-of_is_stale : {n : Notes} {before : List Event} (e : Event) → IsNotesAfter n before → NamesWithin before
-    → IsStale before e → paints_stale_in n e ≡ true
-of_is_stale {n} {before} e s within stale =
+pub known_below : (before : List Event) (r : ℕ) → known before ≡ Some r → IsTrue (is_below_count 256 (known before))
+    → r < 256
+known_below before r is below = ltb-true r 256 (ap (is_below_count 256) (sym is) ∙ below)
+
+of_is_stale : {n : Notes} {before : List Event} (e : Event) → IsNotesAfter n before → IsStale before e
+    → IsTrue (is_below_count 256 (known before)) → paints_stale_in n e ≡ true
+of_is_stale {n} {before} e s stale below =
     let r : ℕ = stale.register in
-    let two = colours_are r s within stale.is_known in
+    let two = colours_are r s (known_below before r stale.is_known below) stale.is_known in
     let differs : not (is_same (shade_at n.shades r) n.picked) ≡ true =
     not_same (is_same (shade_at n.shades r) n.picked)
     (λ t. stale.differs (sym two.0 ∙ (of_is_same (shade_at n.shades r) n.picked t ∙ two.1))) in
@@ -254,10 +273,10 @@ of_is_stale {n} {before} e s within stale =
     (test_is s ∙ (ap (test n) stale.is_known ∙ differs))
 
 -- the known register has the colour that it had at its select
-pub fresh : {n : Notes} {before : List Event} (r : ℕ) → IsNotesAfter n before → NamesWithin before
+pub fresh : {n : Notes} {before : List Event} (r : ℕ) → IsNotesAfter n before → r < 256
     → stale_in n ≡ false → known before ≡ Some r → colour_of before r ≡ colour_at_select before r
-fresh {n} {before} r s within calm is =
-    let two = colours_are r s within is in
+fresh {n} {before} r s low calm is =
+    let two = colours_are r s low is in
     let t : test n (Some r) ≡ false = sym (ap (test n) is) ∙ (sym (test_is s) ∙ calm) in
     sym two.0 ∙ (of_is_same (shade_at n.shades r) n.picked (by (is_same (shade_at n.shades r) n.picked) t) ∙ two.1)
   where
@@ -267,26 +286,62 @@ fresh {n} {before} r s within calm is =
 
 -- ---- all rules
 
+-- an event that breaks a rule counts, if no event before it names a register above 255
+pub breaks_counts : (before : List Event) (e : Event) (rule : AskedRule) → NamesWithin before
+    → BreaksAsked rule before e → CountsAsked rule before e
+breaks_counts before e Stale within h =
+    let low : h.register < 256 =
+    selects_low before h.register (known_is before h.register h.is_known).selected within in
+    (h, ap (is_below_count 256) h.is_known ∙ lt-ltb h.register 256 low)
+breaks_counts before e RasterLate within h = h
+breaks_counts before e Dropped within h = h
+breaks_counts before e Large within h = h
+breaks_counts before e Rows within h = h
+breaks_counts before e Past within h = h
+breaks_counts before e Hue within h = h
+breaks_counts before e Far within h = h
+breaks_counts before e Mixed within h = h
+
+pub counts_breaks : (before : List Event) (e : Event) (rule : AskedRule) → CountsAsked rule before e
+    → BreaksAsked rule before e
+counts_breaks before e Stale h = h.0
+counts_breaks before e RasterLate h = h
+counts_breaks before e Dropped h = h
+counts_breaks before e Large h = h
+counts_breaks before e Rows h = h
+counts_breaks before e Past h = h
+counts_breaks before e Hue h = h
+counts_breaks before e Far h = h
+counts_breaks before e Mixed h = h
+
+pub tallied_in : {n : Notes} {before : List Event} (e : Event) (rule : AskedRule) → IsNotesAfter n before
+    → counts_in n e rule ≡ true → CountsAsked rule before e
+tallied_in e RasterLate s h = sym (late_is e s) ∙ h
+tallied_in e Dropped s h = sym (dropped_is e s) ∙ h
+tallied_in e Stale s h = is_stale_of e s h
+tallied_in e Large s h = h
+tallied_in e Rows s h = h
+tallied_in e Past s h = sym (past_is e s) ∙ h
+tallied_in e Hue s h = h
+tallied_in e Far s h = sym (far_is e s) ∙ h
+tallied_in e Mixed s h = h
+
+pub is_tallied : {n : Notes} {before : List Event} (e : Event) (rule : AskedRule) → IsNotesAfter n before
+    → CountsAsked rule before e → counts_in n e rule ≡ true
+is_tallied e RasterLate s h = late_is e s ∙ h
+is_tallied e Dropped s h = dropped_is e s ∙ h
+is_tallied e Stale s h = of_is_stale e s h.0 h.1
+is_tallied e Large s h = h
+is_tallied e Rows s h = h
+is_tallied e Past s h = past_is e s ∙ h
+is_tallied e Hue s h = h
+is_tallied e Far s h = far_is e s ∙ h
+is_tallied e Mixed s h = h
+
 pub counted : {n : Notes} {before : List Event} (e : Event) (rule : AskedRule) → IsNotesAfter n before
-    → NamesWithin before → counts_in n e rule ≡ true → BreaksAsked rule before e
-counted e RasterLate s within h = sym (late_is e s) ∙ h
-counted e Dropped s within h = sym (dropped_is e s) ∙ h
-counted e Stale s within h = is_stale_of e s within h
-counted e Large s within h = h
-counted e Rows s within h = h
-counted e Past s within h = sym (past_is e s) ∙ h
-counted e Hue s within h = h
-counted e Far s within h = sym (far_is e s) ∙ h
-counted e Mixed s within h = h
+    → counts_in n e rule ≡ true → BreaksAsked rule before e
+counted {before} e rule s h = counts_breaks before e rule (tallied_in e rule s h)
 
 pub is_counted : {n : Notes} {before : List Event} (e : Event) (rule : AskedRule) → IsNotesAfter n before
     → NamesWithin before → BreaksAsked rule before e → counts_in n e rule ≡ true
-is_counted e RasterLate s within h = late_is e s ∙ h
-is_counted e Dropped s within h = dropped_is e s ∙ h
-is_counted e Stale s within h = of_is_stale e s within h
-is_counted e Large s within h = h
-is_counted e Rows s within h = h
-is_counted e Past s within h = past_is e s ∙ h
-is_counted e Hue s within h = h
-is_counted e Far s within h = far_is e s ∙ h
-is_counted e Mixed s within h = h
+is_counted {before} e rule s within h = is_tallied e rule s (breaks_counts before e rule within h)

@@ -11,7 +11,7 @@ use Rattle.sixel_asked.specs.declared.rule.AskedRule.TheVariants.{RasterLate, Dr
 use Rattle.sixel_asked.specs.declared.rule.AskedRule.TheVariants.{Far, Mixed}
 
 -- the rule's place in the list
-there : (r : AskedRule) → slice_get in_order (number_of r - 14) ≡ Some r
+pub there : (r : AskedRule) → slice_get in_order (number_of r - 14) ≡ Some r
 there RasterLate = refl
 there Dropped = refl
 there Stale = refl
@@ -22,7 +22,7 @@ there Hue = refl
 there Far = refl
 there Mixed = refl
 
-same_number : (m r : AskedRule) → number_of m ≡ number_of r → m ≡ r
+pub same_number : (m r : AskedRule) → number_of m ≡ number_of r → m ≡ r
 same_number m r h =
     let one : Some m ≡ Some r = sym (there m) ∙ (ap (λ (n : ℕ). slice_get in_order (n - 14)) h ∙ there r) in
     cc
@@ -35,7 +35,7 @@ AreNumbered n (x ∷ xs) = (number_of x ≡ n) × AreNumbered (suc n) xs
 in_order_numbered : AreNumbered 14 in_order
 in_order_numbered = (refl, (refl, (refl, (refl, (refl, (refl, (refl, (refl, (refl, tt)))))))))
 
-at_least : (m : AskedRule) → 14 ≤ number_of m
+pub at_least : (m : AskedRule) → 14 ≤ number_of m
 at_least RasterLate = omega arith
 at_least Dropped = omega arith
 at_least Stale = omega arith

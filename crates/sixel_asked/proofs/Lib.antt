@@ -4,6 +4,9 @@ pub mod CountsLemmas
 pub mod FirstLemmas
 pub mod AskingLemmas
 pub mod CalmLemmas
+pub mod QuietLemmas
 pub mod TakingLemmas
+pub mod TallyLemmas
+pub mod SettledLemmas
 pub mod LawLemmas
 pub mod WitnessLemmas

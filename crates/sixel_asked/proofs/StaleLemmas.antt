@@ -3,7 +3,7 @@ use Rattle.std.proofs.Common.{◌≡◌, ◌<◌, ◌≤◌, ℕ, Bool, true, fa
 use Rattle.std.proofs.Common.{length, get_or, set, refl, sym, ap, ◌∙◌, arith}
 use Rattle.std.specs.Prelude.{◌==◌, nat_lt, if◌then◌else◌}
 use Rattle.std.specs.Option.{option_and_then, option_flatten, option_map, option_or}
-use Rattle.std.proofs.lemmas.Bool.{eqb-false, eqb-true, ltb-false, ltb-true, ne_eqb, lt-ltb}
+use Rattle.std.proofs.lemmas.Bool.{eqb-false, eqb-true, le-ltb, lt-ltb, ltb-false, ltb-true, ne_eqb}
 use Rattle.std.proofs.lemmas.List.{get_or-set_other, get_or-set_same, length-set}
 use Rattle.sixel_grammar.specs.declared.command.Command.TheVariants.{Define}
 use Rattle.sixel_grammar.specs.declared.command.Event.{Event}
@@ -79,6 +79,9 @@ parts_shade s x y z = by (s == 1) (s == 2)
 
 pub at_low : (shades : List (Option Shade)) (r : ℕ) → r < 256 → shade_at shades r ≡ get_or shades r None
 at_low shades r lt = rw (lt-ltb r 256 lt) refl
+
+pub at_high : (shades : List (Option Shade)) (r : ℕ) → 256 ≤ r → shade_at shades r ≡ None
+at_high shades r high = rw (le-ltb r 256 high) refl
 
 set_low : (b : Bool) (shades : List (Option Shade)) (q r : ℕ) (o : Option Shade) → (q == r) ≡ b → q < length shades
     → get_or (set shades q o) r None ≡ (if b then o else get_or shades r None)

@@ -11,7 +11,7 @@ use Rattle.sixel_grammar.specs.declared.command.Event.TheVariants.{Step}
 use Rattle.sixel_grammar.specs.declared.command.Placed.{Placed}
 use Rattle.sixel_terminal.proofs.FollowLemmas.{events_then, sixels_are}
 use Rattle.sixel_terminal.specs.Stretches.{sixels_of}
-use Rattle.sixel_asked.specs.Asking.{BreaksNoneWithin, HasAsked, HasAskedBy, found_at, placed_at}
+use Rattle.sixel_asked.specs.Asking.{BreaksNoneWithin, HasAskedBy, HasFound, found_at, placed_at}
 use Rattle.sixel_asked.specs.Counts.{first_in, is_calm_in}
 use Rattle.sixel_asked.specs.Notes.{IsNotesAfter, passed}
 use Rattle.sixel_asked.specs.declared.asking.AskedFinding.{AskedFinding}
@@ -29,7 +29,7 @@ pub look_push : (old new : Asking) (seen : List Placed) (place : ℕ) (e : Event
     → new.terminals ≡ old.terminals
     → new.finding ≡ option_map (found_at place) (first_in old.terminals old.notes e)
     → ((before : List Event) → IsNotesAfter old.notes before → IsNotesAfter new.notes (before ++ e ∷ []))
-    → HasAsked old seen → HasAsked new (seen ++ placed_at place e ∷ [])
+    → HasFound old seen → HasFound new (seen ++ placed_at place e ∷ [])
 look_push old new seen place e none same found notes h =
     let asked : HasAskedBy old.terminals old.notes None seen =
     subst (λ (o : Option AskedFinding). HasAskedBy old.terminals old.notes o seen) none h in

@@ -87,7 +87,7 @@ or_false : (a b : Bool) → (a || b) ≡ false → (a ≡ false) × (b ≡ false
 or_false true b h = cc
 or_false false b h = (refl, h)
 
-none_below : (n : ℕ) (p : ℕ → Bool) (i : ℕ) → any_below n p ≡ false → i < n → p i ≡ false
+pub none_below : (n : ℕ) (p : ℕ → Bool) (i : ℕ) → any_below n p ≡ false → i < n → p i ≡ false
 unfolding any_below
 none_below zero p i h lt = absurd (omega (arith, lt))
 none_below (suc n) p i h lt =
@@ -198,7 +198,7 @@ broken_there Stale = record {
 broken_there Large = record { item = Step (Raster 1 1 1001 1); here = refl; holds = refl }
 broken_there Rows = record { item = Step (Raster 1 1 1 1); here = refl; holds = refl }
 broken_there Past = record { item = Step (Sixel 0); here = refl; holds = refl }
-broken_there Hue = record { item = Step (Define 0 1 0 0 0); here = refl; holds = refl }
+broken_there Hue = record { item = Step (Define 0 1 30 50 100); here = refl; holds = refl }
 broken_there Far = record { item = Step (Repeat 2 0); here = refl; holds = refl }
 broken_there Mixed = record { item = Start false (record { items = 0 ∷ 5 ∷ [] }); here = refl; holds = refl }
 
@@ -227,15 +227,11 @@ whole_of Far = refl
 whole_of Mixed = refl
 
 pub each_rule_has_a_witness : EachRuleHasAWitness
-each_rule_has_a_witness rule = (
-  asker_of rule,
-  witness_of rule,
-  record {
-    asked = asked_there rule;
-    whole = whole_of rule;
-    unbroken = λ registers le. none_less registers (witness_of rule) le (unbroken_16 rule);
-    position = position_of rule;
-    broken = broken_there rule;
-    alone = alone_elsewhere rule;
-  },
-)
+each_rule_has_a_witness rule = record {
+  asked = asked_there rule;
+  whole = whole_of rule;
+  unbroken = λ registers le. none_less registers (witness_of rule) le (unbroken_16 rule);
+  position = position_of rule;
+  broken = broken_there rule;
+  alone = alone_elsewhere rule;
+}

@@ -9,8 +9,9 @@ use Rattle.sixel_grammar.specs.declared.command.Event.TheVariants.{Start}
 use Rattle.sixel_model.specs.Events.{Attributes, Definition, columns_of, definition_where, is_data_command, is_painting}
 use Rattle.sixel_model.specs.Events.{is_return, named_by, raster_of}
 use Rattle.sixel_model.specs.Geometry.{band, band_rows, column}
-use Rattle.sixel_model.specs.Positions.{HoldsAtPosition, HoldsNowhere, any_at, latest}
+use Rattle.sixel_model.specs.Positions.{HoldsAtPosition, HoldsNowhere, latest}
 use Rattle.sixel_model.specs.Rules.{raster_before}
+use Rattle.sixel_models.specs.MlTerm.{mixes}
 use Rattle.sixel_models.specs.declared.named.Named.{Named}
 use Rattle.sixel_models.specs.declared.named.Named.TheVariants.{XTerm, MlTerm, Foot, Konsole}
 use Rattle.sixel_asked.specs.Stale.{IsStale}
@@ -45,21 +46,26 @@ breaks_hue e = option_map_or (λ (d : Definition). d.system == 1) (definition_wh
 
 -- ---- mlterm
 
--- it is the first to leave the box, and leaves it to the right and downwards at once
-abbrev pub leaves_at_corner : Attributes → List Event → Event → Bool
-leaves_at_corner a before e = (ends_right a before e && is_below a before) && not (any_at (leaves_box a) before)
+-- the band ends more than 512 rows below the box
+abbrev pub is_deep : Attributes → List Event → Bool
+is_deep a before = nat_lt (a.height + 512) (band_rows * band before + band_rows)
 
--- a data command, with a set bit or not, that ends past column 32,767, whose band begins past row 32,767, or that is
--- the first to leave the box, to the right and downwards at once
+-- it ends right of the box, or in a band far below it
+abbrev pub leaves_far : Attributes → List Event → Event → Bool
+leaves_far a before e = ends_right a before e || is_deep a before
+
+-- a data command, with a set bit or not, that ends past column 32,767 or leaves the box so far
 unfoldable pub breaks_far : List Event → Event → Bool
 breaks_far before e =
     is_data_command e
-    && (nat_lt 32767 (column 0 before + columns_of 0 e) || nat_lt 32767 (band_rows * band before)
-    || option_map_or (λ a. leaves_at_corner a before e) (raster_before before) false)
+    && (nat_lt 32767 (column 0 before + columns_of 0 e)
+    || option_map_or (λ a. leaves_far a before e) (raster_before before) false)
 
--- an introducer whose second parameter is one with which mlterm mixes colours
+-- an introducer with which mlterm mixes colours. It does too if a first parameter of 5 is written as 05
 unfoldable pub breaks_mixed : Event → Bool
-breaks_mixed (Start eight parameters) = slice_index_or parameters.items 1 0 == 5
+breaks_mixed (Start eight parameters) =
+    mixes (slice_index_or parameters.items 0 0) (slice_index_or parameters.items 1 0)
+    || slice_index_or parameters.items 0 0 == 5
 breaks_mixed _ = false
 
 -- ---- konsole

@@ -8,6 +8,7 @@ use Rattle.sixel_model.specs.Positions.{HoldsAtPosition, HoldsNowhere}
 use Rattle.sixel_model.specs.Rules.{Breaks}
 use Rattle.sixel_model.specs.declared.rule.Rule.TheVariants.{Register}
 use Rattle.sixel_asked.specs.Asked.{BreaksAsked, BreaksNoneAsked, IsFirstAsked, is_asked, number_of}
+use Rattle.sixel_asked.specs.Counts.{IsCalmBefore}
 use Rattle.sixel_asked.specs.Notes.{IsNotesAfter}
 use Rattle.sixel_asked.specs.declared.asking.AskedFinding.{AskedFinding}
 use Rattle.sixel_asked.specs.declared.asking.Asking.{Asking}
@@ -49,9 +50,13 @@ abbrev pub HasAskedBy : Terminals → Notes → Option AskedFinding → List Pla
 HasAskedBy t notes None placed = IsNotesAfter notes (events_of placed) × BreaksNoneWithin t (events_of placed)
 HasAskedBy t notes (Some f) placed = IsFound t placed f
 
--- these events were taken
+-- what is found in these events
+abbrev pub HasFound : Asking → List Placed → Type 0
+HasFound a placed = HasAskedBy a.terminals a.notes a.finding placed
+
+-- these events were taken, and no data command that ends before `calm` can break a rule
 abbrev pub HasAsked : Asking → List Placed → Type 0
-HasAsked a placed = HasAskedBy a.terminals a.notes a.finding placed
+HasAsked a placed = HasFound a placed × IsCalmBefore a.terminals a.notes a.calm
 
 -- the same after any that had taken none at first, for the same terminals
 abbrev pub HasAskedOn : Asking → Asking → List Placed → Type 0

@@ -1,5 +1,5 @@
 -- Which rules an event breaks, by the notes on the events before it.
-use Rattle.std.specs.Prelude.{◌+◌, ◌*◌, ◌&&◌, ◌||◌, ℕ, Bool, true, false, not, Option, List, [], ◌∷◌}
+use Rattle.std.specs.Prelude.{◌≡◌, ◌<◌, ◌+◌, ◌*◌, ◌&&◌, ◌||◌, ℕ, Bool, true, false, not, Option, List, [], ◌∷◌}
 use Rattle.std.specs.Prelude.{is_none, is_some, nat_le, nat_lt}
 use Rattle.std.specs.List.{find}
 use Rattle.std.specs.Option.{option_map_or}
@@ -25,11 +25,11 @@ is_below_in n d = nat_le d.height (6 * n.band)
 abbrev pub leaves_in : Notes → Declared → Event → Bool
 leaves_in n d e = is_data_command e && (ends_right_in n d e || is_below_in n d)
 
-abbrev pub has_left_in : Notes → Declared → Bool
-has_left_in n d = nat_lt d.width n.right || nat_lt d.height n.deep
+abbrev pub is_deep_in : Notes → Declared → Bool
+is_deep_in n d = nat_lt (d.height + 512) (6 * n.band + 6)
 
-abbrev pub corner_in : Notes → Declared → Event → Bool
-corner_in n d e = (ends_right_in n d e && is_below_in n d) && not (has_left_in n d)
+abbrev pub leaves_far_in : Notes → Declared → Event → Bool
+leaves_far_in n d e = ends_right_in n d e || is_deep_in n d
 
 -- ---- the rules
 
@@ -45,13 +45,11 @@ paints_stale_in n e = is_painting e && stale_in n
 abbrev pub past_in : Notes → Event → Bool
 past_in n e = not (is_painting e) && option_map_or (λ d. leaves_in n d e) n.declared false
 
-abbrev pub turns_in : Notes → Event → Bool
-turns_in n e = option_map_or (λ d. corner_in n d e) n.declared false
+abbrev pub strays_in : Notes → Event → Bool
+strays_in n e = option_map_or (λ d. leaves_far_in n d e) n.declared false
 
 abbrev pub far_in : Notes → Event → Bool
-far_in n e =
-    is_data_command e
-    && (nat_lt 32767 (n.column + columns_of 0 e) || nat_lt 32767 (6 * n.band) || turns_in n e)
+far_in n e = is_data_command e && (nat_lt 32767 (n.column + columns_of 0 e) || strays_in n e)
 
 abbrev pub counts_in : Notes → Event → AskedRule → Bool
 counts_in n e RasterLate = late_in n e
@@ -84,11 +82,24 @@ fits_in n columns d = nat_le (n.column + columns) d.width && nat_lt (6 * n.band)
 abbrev pub fits_box_in : Notes → ℕ → Bool
 fits_box_in n columns = option_map_or (fits_in n columns) n.declared true
 
--- and they are not too far out for mlterm
+-- and they are not too far right for mlterm
 abbrev pub is_near_in : Notes → ℕ → Bool
-is_near_in n columns =
-    fits_box_in n columns && (nat_le (n.column + columns) 32767 && nat_le (6 * n.band) 32767)
+is_near_in n columns = fits_box_in n columns && nat_le (n.column + columns) 32767
 
 -- none of so many sixels can break a rule that is asked for
 abbrev pub is_calm_in : Terminals → Notes → ℕ → Bool
 is_calm_in t n columns = is_near_in n columns && not (is_asked t Stale && stale_in n)
+
+-- this column of the band lies in the box, and not too far out for mlterm
+abbrev pub is_near_at : Notes → ℕ → Bool
+is_near_at n end =
+    option_map_or (λ (d : Declared). nat_le end d.width && nat_lt (6 * n.band) d.height) n.declared true
+    && nat_le end 32767
+
+-- no data command that ends there can break a rule that is asked for
+abbrev pub ends_calm_in : Terminals → Notes → ℕ → Bool
+ends_calm_in t n end = is_near_at n end && not (is_asked t Stale && stale_in n)
+
+-- none that ends before this one
+abbrev pub IsCalmBefore : Terminals → Notes → ℕ → Type 0
+IsCalmBefore t n limit = (end : ℕ) → end < limit → ends_calm_in t n end ≡ true

@@ -6,3 +6,5 @@ pub mod Asking
 pub mod Laws
 pub mod Witnesses
 pub mod Names
+pub mod Tallies
+pub mod Tallying

@@ -1,19 +1,18 @@
 -- What the rules need to know of the events so far, and how an event changes it.
-use Rattle.std.specs.Prelude.{◌≡◌, ◌==◌, ◌+◌, ◌*◌, ◌<◌, ◌^◌, ◌&&◌, ◌||◌, ℕ, Bool, true, false, not, Option, Some, None}
-use Rattle.std.specs.Prelude.{List, length, max, min, nat_lt, slice_index_or, slice_set, if◌then◌else◌}
+use Rattle.std.specs.Prelude.{◌≡◌, ◌==◌, ◌+◌, ◌<◌, ◌≤◌, ◌^◌, ◌&&◌, ℕ, Bool, true, false, not, Option, Some, None}
+use Rattle.std.specs.Prelude.{List, length, min, nat_lt, slice_index_or, slice_set, if◌then◌else◌}
 use Rattle.std.specs.Option.{option_map, option_map_or}
 use Rattle.sixel_grammar.specs.declared.command.Command.TheVariants.{Define}
 use Rattle.sixel_grammar.specs.declared.command.Event.{Event}
 use Rattle.sixel_grammar.specs.declared.command.Event.TheVariants.{Step}
 use Rattle.sixel_model.specs.declared.colour.Parts.{Parts}
 use Rattle.sixel_model.specs.declared.colour.Parts.TheVariants.{Rgb as rgb_parts, Hls as hls_parts}
-use Rattle.sixel_model.specs.Events.{Attributes, columns_of, is_data_command, is_next_line, is_return, named_by}
+use Rattle.sixel_model.specs.Events.{Attributes, columns_of, is_next_line, is_return, named_by}
 use Rattle.sixel_model.specs.Events.{select_of}
 use Rattle.sixel_model.specs.Geometry.{band, column}
-use Rattle.sixel_model.specs.Positions.{any_at, latest}
+use Rattle.sixel_model.specs.Positions.{latest}
 use Rattle.sixel_model.specs.Rules.{colour_of, known_by, raster_before}
 use Rattle.sixel_models.specs.Places.{most}
-use Rattle.sixel_asked.specs.Asked.{leaves_box}
 use Rattle.sixel_asked.specs.Asked as asked
 use Rattle.sixel_asked.specs.Stale.{colour_at_select}
 use Rattle.sixel_asked.specs.declared.notes.Declared.{Declared}
@@ -53,8 +52,6 @@ shade_at shades r = if nat_lt r 256 then slice_index_or shades r None else None
 pub record IsNotesAfter (n : Notes) (events : List Event) : Type 0 where
   pub column_is : n.column ≡ min (column 0 events) most
   pub band_is : n.band ≡ min (band events) most
-  pub left_is : (a : Attributes) → a.width < 2 ^ 16 → a.height < 2 ^ 16
-      → (nat_lt a.width n.right || nat_lt a.height n.deep) ≡ any_at (leaves_box a) events
   pub declared_is : option_map attributes n.declared ≡ raster_before events
   pub narrow : AreNarrow n.declared
   pub droppable_is : n.droppable ≡ option_map_or asked.is_droppable (latest (λ (d : Event). Some d) events) false
@@ -63,6 +60,7 @@ pub record IsNotesAfter (n : Notes) (events : List Event) : Type 0 where
   pub entries : length n.shades ≡ 256
   pub shades_are : (r : ℕ) → r < 256 → option_map parts_of (shade_at n.shades r) ≡ colour_of events r
   pub picked_is : (r : ℕ) → r < 256 → n.selected ≡ Some r → option_map parts_of n.picked ≡ colour_at_select events r
+  pub picked_none : (r : ℕ) → 256 ≤ r → n.selected ≡ Some r → n.picked ≡ None
 
 -- ---- how an event changes it
 
@@ -73,21 +71,11 @@ is_droppable e = asked.is_droppable e
 abbrev pub end_of : Notes → ℕ → ℕ
 end_of n columns = min (n.column + columns) most
 
--- one more than the top row of the band
-abbrev pub depth_of : Notes → ℕ
-depth_of n = min (min (n.band * 6) most + 1) most
-
 abbrev pub next_column : Notes → Event → ℕ
 next_column n e = if is_return e then 0 else end_of n (columns_of 0 e)
 
 abbrev pub next_band : Notes → Event → ℕ
 next_band n e = if is_next_line e then min (n.band + 1) most else n.band
-
-abbrev pub next_right : Notes → Event → ℕ
-next_right n e = if is_data_command e then max n.right (end_of n (columns_of 0 e)) else n.right
-
-abbrev pub next_deep : Notes → Event → ℕ
-next_deep n e = if is_data_command e then max n.deep (depth_of n) else n.deep
 
 abbrev pub next_picked : Notes → Event → Option Shade
 next_picked n e = option_map_or (shade_at n.shades) (select_of e) n.picked
@@ -96,6 +84,19 @@ abbrev pub next_shades : List (Option Shade) → Event → List (Option Shade)
 next_shades shades (Step (Define register system x y z)) =
     if nat_lt register 256 then slice_set shades register (shade_in system x y z) else shades
 next_shades shades _ = shades
+
+-- ---- a select, and a return
+
+abbrev pub selecting : Notes → ℕ → Notes
+selecting n r = record n {
+  droppable = true;
+  selected = Some r;
+  named = Some r;
+  picked = shade_at n.shades r;
+}
+
+abbrev pub returned : Notes → Notes
+returned n = record n { column = 0; droppable = false }
 
 -- ---- the colour of the known register
 
@@ -109,7 +110,5 @@ stale_in n = option_map_or (λ r. not (is_same (shade_at n.shades r) n.picked)) 
 abbrev pub passed : Notes → ℕ → Notes
 passed n columns = record n {
   column = end_of n columns;
-  right = max n.right (end_of n columns);
-  deep = max n.deep (depth_of n);
   droppable = false;
 }

@@ -24,10 +24,6 @@ pub record IsWitness (t : Named) (rule : AskedRule) (events : List Event) : Type
   pub broken : HoldsAtPosition (BreaksAsked rule) events position
   pub alone : (m : AskedRule) → m ≢ rule → IsTrue (asks t m) → HoldsNowhere (BreaksAsked m) events
 
--- the other rules don't imply it
-abbrev pub EachRuleHasAWitness : Type 0
-EachRuleHasAWitness = (rule : AskedRule) → (t : Named) × (events : List Event) × IsWitness t rule events
-
 -- ---- the documents
 
 abbrev pub introducer : Event
@@ -37,20 +33,24 @@ introducer = Start false (record { items = 0 ∷ [] })
 abbrev pub black : Event
 black = Step (Define 0 2 0 0 0)
 
+-- register 0 is red
+abbrev pub red : Event
+red = Step (Define 0 2 100 0 0)
+
 abbrev pub select : Event
 select = Step (Select 0)
 
 abbrev pub witness_of : AskedRule → List Event
 witness_of RasterLate = introducer ∷ black ∷ Step (Raster 1 1 1 6) ∷ select ∷ Step (Sixel 63) ∷ Finish false ∷ []
 witness_of Dropped =
-    introducer ∷ Step (Raster 1 1 1 6) ∷ black ∷ select ∷ Step CarriageReturn ∷ Step (Sixel 63) ∷ Finish false ∷ []
-witness_of Stale = introducer ∷ Step (Raster 1 1 1 1) ∷ select ∷ black ∷ Step (Sixel 1) ∷ Finish false ∷ []
+    introducer ∷ Step (Raster 1 1 1 6) ∷ select ∷ red ∷ Step CarriageReturn ∷ Step (Sixel 63) ∷ Finish false ∷ []
+witness_of Stale = introducer ∷ Step (Raster 1 1 1 1) ∷ select ∷ red ∷ Step (Sixel 1) ∷ Finish false ∷ []
 witness_of Large = introducer ∷ Step (Raster 1 1 1001 1) ∷ black ∷ select ∷ Step (Repeat 1001 1) ∷ Finish false ∷ []
 witness_of Rows = introducer ∷ Step (Raster 1 1 1 1) ∷ black ∷ select ∷ Step (Sixel 1) ∷ Finish false ∷ []
 witness_of Past =
     introducer ∷ Step (Raster 1 1 1 6) ∷ black ∷ select ∷ Step (Sixel 63) ∷ Step (Sixel 0) ∷ Finish false ∷ []
 witness_of Hue =
-    introducer ∷ Step (Raster 1 1 1 1) ∷ Step (Define 0 1 0 0 0) ∷ select ∷ Step (Sixel 1) ∷ Finish false ∷ []
+    introducer ∷ Step (Raster 1 1 1 1) ∷ Step (Define 0 1 30 50 100) ∷ select ∷ Step (Sixel 1) ∷ Finish false ∷ []
 witness_of Far =
     introducer ∷ Step (Raster 1 1 1 1) ∷ black ∷ select ∷ Step (Sixel 1) ∷ Step NextLine ∷ Step (Repeat 2 0)
     ∷ Finish false ∷ []
@@ -69,3 +69,9 @@ asker_of Past = Konsole
 asker_of Hue = XTerm
 asker_of Far = MlTerm
 asker_of Mixed = MlTerm
+
+-- ---- the law
+
+-- the other rules don't imply it
+abbrev pub EachRuleHasAWitness : Type 0
+EachRuleHasAWitness = (rule : AskedRule) → IsWitness (asker_of rule) rule (witness_of rule)

@@ -1,6 +1,6 @@
 //! What the rules need to know of the events so far.
 
-ghost use Rattle.std.specs.Prelude.{◌≡◌, ◌++◌, ◌∷◌, ◌<◌, [], ℕ, List, None, false, is_some, length, max, min};
+ghost use Rattle.std.specs.Prelude.{◌≡◌, ◌++◌, ◌∷◌, ◌<◌, [], ℕ, List, None, false, is_some, length, min};
 ghost use Rattle.std.specs.Option.{option_map, option_or};
 ghost use Rattle.sixel_grammar.specs.declared.command.Event.{Event as AnEvent};
 ghost use Rattle.sixel_model.specs.Events as said;
@@ -9,11 +9,11 @@ ghost use Rattle.sixel_asked.specs.Notes as by;
 ghost use Rattle.sixel_asked.specs.Notes.{AreNarrow, IsNotesAfter};
 
 use crate::events::{
-    columns_of, is_data_command, is_next_line, is_raster, is_return, named_by, raster_of, select_of,
+    columns_of, is_next_line, is_raster, is_return, named_by, raster_of, select_of,
 };
 use crate::shade::{Shade, is_same, shade_in};
 use sixel_grammar::{Command, Event};
-use sixel_model::{BAND_ROWS, MOST_REGISTERS};
+use sixel_model::MOST_REGISTERS;
 
 /// What raster attributes declare.
 #[derive(Clone, Copy, Debug, PartialEq, Eq)]
@@ -24,17 +24,13 @@ pub struct Declared {
     pub height: u16,
 }
 
-/// What the rules need to know of the events so far. Numbers of columns, bands and rows stop at `u32::MAX`.
+/// What the rules need to know of the events so far. Numbers of columns and bands stop at `u32::MAX`.
 #[derive(Debug, Drop)]
 pub struct Notes {
     /// The column of the next sixel.
     pub(crate) column: u32,
     /// Its band.
     pub(crate) band: u32,
-    /// The greatest column at which a data command ended.
-    pub(crate) right: u32,
-    /// One more than the top row of the lowest band with a data command, or 0 without one.
-    pub(crate) deep: u32,
     /// The first raster attributes.
     pub(crate) declared: Option<Declared>,
     /// Whether the last event is a select, a definition or raster attributes.
@@ -70,8 +66,6 @@ impl Notes {
         Notes {
             column: 0,
             band: 0,
-            right: 0,
-            deep: 0,
             declared: None,
             droppable: false,
             selected: None,
@@ -121,31 +115,6 @@ impl Notes {
         ensures { result ≡ by.end_of self.now columns }
     {
         self.column.saturating_add(columns)
-    }
-
-    /// Notes how far data commands went.
-    #[inline(always)]
-    fn reach(&mut self, columns: u32)
-        ensures { self.new ≡ record self.old {
-          right = max self.old.right (by.end_of self.old columns);
-          deep = max self.old.deep (by.depth_of self.old);
-        } }
-    {
-        self.right = self.right.max(self.end(columns));
-        let depth = self.band.saturating_mul(BAND_ROWS).saturating_add(1);
-        self.deep = self.deep.max(depth);
-    }
-
-    #[inline(always)]
-    fn reach_by(&mut self, event: &Event)
-        ensures { self.new ≡ record self.old {
-          right = by.next_right self.old event.now;
-          deep = by.next_deep self.old event.now;
-        } }
-    {
-        if is_data_command(event) {
-            self.reach(u32::from(columns_of(event)));
-        }
     }
 
     #[inline(always)]
@@ -210,11 +179,30 @@ impl Notes {
             → IsNotesAfter self.new (before ++ event.now ∷ []) }
     {
         let declared = first_declared(self.declared, event);
-        self.reach_by(event);
         self.move_on(event);
         self.name(event);
         self.define(event);
         self.declared = declared;
+    }
+
+    /// Notes a select.
+    #[inline(always)]
+    pub(crate) fn select(&mut self, register: u16)
+        ensures { self.new ≡ by.selecting self.old register }
+    {
+        self.droppable = true;
+        self.selected = Some(register);
+        self.named = Some(register);
+        self.picked = self.shade(register);
+    }
+
+    /// Notes a return.
+    #[inline(always)]
+    pub(crate) fn go_back(&mut self)
+        ensures { self.new ≡ by.returned self.old }
+    {
+        self.column = 0;
+        self.droppable = false;
     }
 
     /// Notes so many sixels, one or more.
@@ -222,7 +210,6 @@ impl Notes {
     pub(crate) fn pass(&mut self, columns: u32)
         ensures { self.new ≡ by.passed self.old columns }
     {
-        self.reach(columns);
         self.column = self.end(columns);
         self.droppable = false;
     }

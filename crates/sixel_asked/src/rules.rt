@@ -1,6 +1,6 @@
 //! The rules, one by one.
 
-ghost use Rattle.std.specs.Prelude.{◌≡◌, ◌+◌, ◌*◌};
+ghost use Rattle.std.specs.Prelude.{◌≡◌, ◌<◌, ◌+◌, ◌*◌, ℕ, true};
 ghost use Rattle.sixel_asked.specs.Asked as of;
 ghost use Rattle.sixel_asked.specs.Counts as by_notes;
 
@@ -9,14 +9,18 @@ use crate::notes::{Declared, Notes};
 use crate::rule::AskedRule;
 use sixel_grammar::{Command, Event};
 use sixel_model::BAND_ROWS;
+use sixel_models::mixes;
 
 /// The greatest side of a box for xterm.
 const MOST_SIDE: u16 = 1000;
 
-/// The last column and the last row for mlterm.
-const MOST_PLACE: u64 = 32767;
+/// The last column for mlterm.
+const MOST_COLUMN: u64 = 32767;
 
-/// The second parameter by which mlterm mixes colours.
+/// How far below the box a band may end for mlterm, in rows.
+const MARGIN: u64 = 512;
+
+/// The first parameter by which mlterm mixes colours, if it is written with a zero before it.
 const MIXED: u16 = 5;
 
 /// The colour system of hue, lightness and saturation.
@@ -63,20 +67,20 @@ impl Notes {
         is_data_command(event) && (self.ends_right(declared, event) || self.is_below(declared))
     }
 
-    /// Whether a data command has left the box.
+    /// Whether the band ends more than 512 rows below the box.
     #[inline(always)]
-    fn has_left(&self, declared: Declared) -> bool
-        ensures { result ≡ by_notes.has_left_in self.now declared }
+    fn is_deep(&self, declared: Declared) -> bool
+        ensures { result ≡ by_notes.is_deep_in self.now declared }
     {
-        u32::from(declared.width) < self.right || u32::from(declared.height) < self.deep
+        u64::from(declared.height) + MARGIN < self.top() + u64::from(BAND_ROWS)
     }
 
-    /// Whether the event is the first to leave the box, to the right and downwards at once.
+    /// Whether the event ends right of the box, or in a band far below it.
     #[inline(always)]
-    fn is_corner(&self, declared: Declared, event: &Event) -> bool
-        ensures { result ≡ by_notes.corner_in self.now declared event.now }
+    fn leaves_far(&self, declared: Declared, event: &Event) -> bool
+        ensures { result ≡ by_notes.leaves_far_in self.now declared event.now }
     {
-        self.ends_right(declared, event) && self.is_below(declared) && !self.has_left(declared)
+        self.ends_right(declared, event) || self.is_deep(declared)
     }
 
     /// The first raster attributes after a select or a definition.
@@ -114,13 +118,13 @@ impl Notes {
         }
     }
 
-    /// A data command that leaves the box at its corner.
+    /// A data command that leaves the box too far.
     #[inline(always)]
-    fn turns_the_corner(&self, event: &Event) -> bool
-        ensures { result ≡ by_notes.turns_in self.now event.now }
+    fn strays(&self, event: &Event) -> bool
+        ensures { result ≡ by_notes.strays_in self.now event.now }
     {
         match self.declared {
-            Some(declared) => self.is_corner(declared, event),
+            Some(declared) => self.leaves_far(declared, event),
             None => false,
         }
     }
@@ -131,9 +135,7 @@ impl Notes {
         ensures { result ≡ by_notes.far_in self.now event.now }
     {
         is_data_command(event)
-            && (self.column_after(u32::from(columns_of(event))) > MOST_PLACE
-                || self.top() > MOST_PLACE
-                || self.turns_the_corner(event))
+            && (self.column_after(u32::from(columns_of(event))) > MOST_COLUMN || self.strays(event))
     }
 
     /// Whether the event breaks the rule.
@@ -154,6 +156,20 @@ impl Notes {
         }
     }
 
+    /// Data commands that end before this column of the band stay in the box, and are not too far out for mlterm.
+    #[inline(always)]
+    pub(crate) fn near_limit(&self) -> u32
+        ensures { (end : ℕ) → end < result → by_notes.is_near_at self.now end ≡ true }
+    {
+        match self.declared {
+            None => 32768,
+            Some(declared) if self.top() < u64::from(declared.height) => {
+                u32::from(declared.width.min(32767)) + 1
+            }
+            Some(_) => 0,
+        }
+    }
+
     /// Whether so many sixels end in the box, in a band that begins in it.
     #[inline(always)]
     fn fits(&self, columns: u32) -> bool
@@ -168,12 +184,12 @@ impl Notes {
         }
     }
 
-    /// The same, and whether they are not too far out for mlterm.
+    /// The same, and whether they are not too far right for mlterm.
     #[inline(always)]
     pub(crate) fn is_near(&self, columns: u32) -> bool
         ensures { result ≡ by_notes.is_near_in self.now columns }
     {
-        self.fits(columns) && self.column_after(columns) <= MOST_PLACE && self.top() <= MOST_PLACE
+        self.fits(columns) && self.column_after(columns) <= MOST_COLUMN
     }
 }
 
@@ -222,7 +238,10 @@ fn breaks_mixed(event: &Event) -> bool
     ensures { result ≡ of.breaks_mixed event.now }
 {
     match event {
-        Event::Start { parameters, .. } => parameters.get(1).copied().unwrap_or(0) == MIXED,
+        Event::Start { parameters, .. } => {
+            let first = parameters.first().copied().unwrap_or(0);
+            mixes(first, parameters.get(1).copied().unwrap_or(0)) || first == MIXED
+        }
         _ => false,
     }
 }

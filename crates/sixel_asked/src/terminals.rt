@@ -16,7 +16,7 @@ pub struct Terminals {
 
 impl Terminals {
     /// None of them.
-    pub fn none() -> Terminals
+    pub const fn none() -> Terminals
         ensures { result ≡ record { xterm = false; mlterm = false; foot = false; konsole = false } }
     {
         Terminals {
@@ -28,7 +28,7 @@ impl Terminals {
     }
 
     /// All of them.
-    pub fn all() -> Terminals
+    pub const fn all() -> Terminals
         ensures { result ≡ record { xterm = true; mlterm = true; foot = true; konsole = true } }
     {
         Terminals {

@@ -1,6 +1,6 @@
 use Rattle.std.proofs.Common.{◌++◌, ◌∙◌, arith, subst, take}
 use Rattle.sixel_grammar.specs.Stretches.{sixels_from}
-use Rattle.sixel_asked.specs.Asking.{HasAsked}
+use Rattle.sixel_asked.specs.Asking.{HasFound}
 use Rattle.sixel_asked.proofs.TakingLemmas.{sixels_then}
 use Rattle.sixel_asked.proofs.asking.Asking.push_each.Goals as goal
 
@@ -8,7 +8,7 @@ pub loop-index-preserved : goal.loop-index-preserved
 loop-index-preserved c = (
   c.push.ensures.terminals ∙ c.loop-index.invariant.0,
   λ seen h.
-      subst (HasAsked c.push.new.self)
+      subst (HasFound c.push.new.self)
       (sixels_then seen c.args.place _ c.loop-index.index c.args.stretch.now (omega arith)
       (omega (arith, c.loop-index-test.true)))
       (c.push.ensures.taken (seen ++ sixels_from c.args.place (take c.loop-index.index c.args.stretch.now))
