@@ -57,6 +57,8 @@ pub record IsGoodBox (pan pad width height : ℕ) : Type 0 where
   pub pad_is : pad ≡ 1
   pub wide : 1 ≤ width
   pub high : 1 ≤ height
+  pub most_wide : width ≤ 2048
+  pub most_high : height ≤ 2048
 
 pub good_box : (n : ℕ) (before : List Event) (pan pad width height : ℕ)
     → Keeps n before (Step (Raster pan pad width height)) → IsGoodBox pan pad width height
@@ -69,6 +71,8 @@ good_box n before pan pad width height k =
       pad_is = eqb-true pad 1 square.1;
       wide = leb-true 1 width (and_parts _ _ sides.0).0;
       high = leb-true 1 height (and_parts _ _ sides.1).0;
+      most_wide = leb-true width 2048 (and_parts _ _ sides.0).1;
+      most_high = leb-true height 2048 (and_parts _ _ sides.1).1;
     }
 
 -- ---- data commands

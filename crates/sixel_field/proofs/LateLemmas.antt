@@ -93,7 +93,7 @@ unfolding shown_on last_at last_below at_position is_seen_on paints_on is_kept_o
     height_of selected_on map_on latest earliest raster_before band column since
 black_drawn background = refl
 
-black_on_foot : (background : Parts) (drawing : List Event) → IsReading foot_model late_red drawing
+pub black_on_foot : (background : Parts) (drawing : List Event) → IsReading foot_model late_red drawing
     → shown_on (foot_display background 1 1) drawing 0 0 ≡ Rgb 0 0 0
 black_on_foot background drawing reading =
     ap (λ (es : List Event). shown_on (foot_display background 1 1) es 0 0)

@@ -14,7 +14,8 @@ pub mod StepLemmas
 pub mod ReadingLemmas
 pub mod PlainLemmas
 pub mod PlainShownLemmas
-pub mod MlTermBoxLemmas
+pub mod MlTermMissedLemmas
+pub mod MlTermBufferLemmas
 pub mod MlTermReadLemmas
 pub mod MlTermFollowLemmas
 pub mod MlTermShownLemmas
@@ -35,5 +36,8 @@ pub mod KonsoleFormLemmas
 pub mod KonsoleKeptLemmas
 pub mod KonsoleShownLemmas
 pub mod CanonShownLemmas
+pub mod CanonWalkLemmas
+pub mod CanonAskedLemmas
 pub mod ProfileLemmas
 pub mod LateLemmas
+pub mod WrongLemmas

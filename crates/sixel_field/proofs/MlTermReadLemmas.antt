@@ -1,12 +1,11 @@
 -- What mlterm makes of an event that breaks no rule.
-use Rattle.std.proofs.Common.{◌≡◌, ℕ, ◌+◌, ◌*◌, ◌≤◌, ◌<◌, Bool, true, false, ◌&&◌, ◌||◌, ◌==◌, not, Option, Some, None}
+use Rattle.std.proofs.Common.{◌≡◌, ℕ, ◌+◌, ◌≤◌, ◌<◌, Bool, true, false, ◌==◌, Option, Some, None}
 use Rattle.std.proofs.Common.{List, [], ◌∷◌, refl, sym, ap, subst, ◌∙◌, arith}
 use Rattle.std.specs.Prelude.{nat_le, nat_lt, slice_index_or, unwrap_or, IfSome, IsFalse, if◌then◌else◌}
 use Rattle.std.specs.Bool.{then_some}
 use Rattle.std.specs.Option.{option_and_then, option_map, option_map_or}
-use Rattle.std.proofs.Math.Bool.{and-false}
-use Rattle.std.proofs.lemmas.Bool.{and_right, eqb-true, false_from_ne_true, leb-false, lt-ltb, ltb-true}
-use Rattle.std.proofs.lemmas.Bool.{le-leb, not-false, or_from, or_parts}
+use Rattle.std.proofs.lemmas.Bool.{and_right, eqb-true, leb-false, lt-ltb}
+use Rattle.std.proofs.lemmas.Bool.{le-leb, leb-true, not-false, or_parts}
 use Rattle.sixel_grammar.specs.declared.command.Command.{Command}
 use Rattle.sixel_grammar.specs.declared.command.Command.TheVariants.{Sixel, Repeat, Raster, Select, Define}
 use Rattle.sixel_grammar.specs.declared.command.Command.TheVariants.{CarriageReturn, NextLine}
@@ -19,7 +18,7 @@ use Rattle.sixel_model.specs.Colours.{clamped, is_colour}
 use Rattle.sixel_model.specs.Events.{Attributes, columns_of, is_data_command, is_painting, is_repeat_of_zero, named_by}
 use Rattle.sixel_model.specs.Events.{raster_of}
 use Rattle.sixel_model.specs.Geometry.{band, column}
-use Rattle.sixel_model.specs.Positions.{any_at, latest}
+use Rattle.sixel_model.specs.Positions.{latest}
 use Rattle.sixel_model.specs.Rules.{BreaksNone, breaks_colour_value, breaks_register, breaks_repeat_zero, gives_colour}
 use Rattle.sixel_model.specs.Rules.{raster_before}
 use Rattle.sixel_model.proofs.KnownLemmas.{latest_each}
@@ -27,18 +26,18 @@ use Rattle.sixel_model.proofs.RuleLemmas.{Keeps, is_false}
 use Rattle.sixel_models.specs.declared.named.Named.TheVariants.{MlTerm}
 use Rattle.sixel_models.specs.declared.reading.Reads.{Reads}
 use Rattle.sixel_models.specs.declared.reading.Reads.TheVariants.{Nothing, DrawsTwo, Unsaid}
-use Rattle.sixel_models.specs.MlTerm.{define_and_select, has_left_mlterm, is_chance, is_said_colour, said_by}
-use Rattle.sixel_models.specs.MlTerm.{is_corner, is_far, is_fragile, is_past_all, mlterm, mlterm_box}
-use Rattle.sixel_models.specs.MlTerm.{mlterm_data, mlterm_register, mlterm_selected}
+use Rattle.sixel_models.specs.MlTerm.{Buffer, define_and_select, is_chance, is_lost, is_past_all, is_said_colour}
+use Rattle.sixel_models.specs.MlTerm.{mixes, mlterm, mlterm_buffer, mlterm_data, mlterm_register, mlterm_selected}
+use Rattle.sixel_models.specs.MlTerm.{rows_to, said_by, wanted_height}
 use Rattle.sixel_models.specs.Words.{nearest}
 use Rattle.sixel_judge.proofs.ColourLemmas.{IsSound, each_sound, made}
 use Rattle.sixel_judge.proofs.CoverLemmas.{box_at_data}
 use Rattle.sixel_judge.proofs.OptionLemmas.{some_value}
-use Rattle.sixel_asked.specs.Asked.{breaks_far, breaks_mixed, ends_right, is_below, leaves_at_corner}
+use Rattle.sixel_asked.specs.Asked.{breaks_far, breaks_mixed}
 use Rattle.sixel_field.proofs.AskedForms.{BreaksFor}
-use Rattle.sixel_asked.specs.Asked.{leaves_box}
-use Rattle.sixel_field.proofs.KeptLemmas.{IsFit, fit, good_box, named_in_range}
-use Rattle.sixel_field.proofs.MlTermBoxLemmas.{IsBoxed, IsBoxedBy, IsUnboxed, box_of}
+use Rattle.sixel_field.proofs.KeptLemmas.{good_box, named_in_range, not_above}
+use Rattle.sixel_field.proofs.MlTermBufferLemmas.{IsBuffered, IsBufferedFor, IsNear, IsUnbuffered, near_by, sides_kept}
+use Rattle.sixel_field.proofs.MlTermBufferLemmas.{within}
 use Rattle.sixel_field.proofs.PenLemmas.{clamped_same, each_then}
 use Rattle.sixel_field.proofs.ReadingLemmas.{IsRead}
 use Rattle.sixel_field.proofs.SizeLemmas.{no_box, placed}
@@ -53,21 +52,34 @@ mlterm_draws (Finish eight) = []
 
 -- ---- data
 
--- it paints nothing far from the box
-near : (a : Attributes) (before : List Event) (e : Event) (b : Bool) → is_painting e ≡ b
-    → (is_painting e ≡ true → IsFit a before e) → is_far (Some (box_of a)) (column 0 before) (band before) e ≡ false
-near a before e false idle fits = rw idle refl
-near a before e true paints fits =
-    let f : IsFit a before e = fits paints in
-    let across : column 0 before + columns_of 0 e ≤ a.width = f.across in
-    let down : 6 * band before < a.height = f.down in
-    and_right (is_painting e) _
-    (or_from _ _
-    (false_from_ne_true (nat_lt (a.width + 512) (column 0 before + columns_of 0 e))
-    (λ h. let far : a.width + 512 < column 0 before + columns_of 0 e = ltb-true _ _ h in
-    absurd (omega (arith, far, across))))
-    (false_from_ne_true (nat_lt (a.height + 512) (6 * band before + 6))
-    (λ h. let far : a.height + 512 < 6 * band before + 6 = ltb-true _ _ h in absurd (omega (arith, far, down)))))
+-- the buffer gets as high as the band, if that ends at most 512 rows below it
+wanted_high : (height rows : ℕ) (within : Bool) → nat_le rows height ≡ within → rows ≤ height + 512
+    → rows ≤ (if within then height else height + 516)
+wanted_high height rows true is near = leb-true rows height is
+wanted_high height rows false is near = omega (arith, near)
+
+-- nothing is copied past a block of memory, and the command is in the buffer
+not_lost : (a : Attributes) (before : List Event) (e : Event) → IsNear a before e → IsBufferedFor a before
+    → is_lost (mlterm_buffer before) (column 0 before + columns_of 0 e) (rows_to (band before)) e ≡ false
+not_lost a before e near r =
+    let b : Buffer = mlterm_buffer before in
+    let end = column 0 before + columns_of 0 e in
+    let rows = rows_to (band before) in
+    let across : end ≤ a.width = near.across in
+    let down : rows ≤ a.height + 512 = near.down in
+    let wide : a.width ≤ b.width = r.wide in
+    let high : a.height ≤ b.height = r.high in
+    let tall : rows ≤ wanted_height b rows =
+    wanted_high b.height rows (nat_le rows b.height) refl (omega (arith, down, high)) in
+    let inside : end ≤ b.width = omega (arith, across, wide) in
+    rw (
+      sides_kept b end rows inside,
+      not_above b.width b.width (omega arith),
+      not_above (wanted_height b rows) rows tall,
+      not_above b.width end inside,
+      and_right (nat_lt 0 b.width) false refl,
+    )
+    (and_right (is_painting e) false refl)
 
 low_selected : (o : Option ℕ) → IfSome o (λ r. r < 256) → option_map_or mlterm_register o 0 < 256
 low_selected None h = omega arith
@@ -124,58 +136,44 @@ no_chance : (n : ℕ) (before : List Event) (e : Event) → n ≤ 256 → Breaks
     → is_chance (is_said_colour before (mlterm_selected before)) e ≡ false
 no_chance n before e few none = rw (selected_said n before few none) (and_right (is_painting e) false refl)
 
-corner_swap : (p q l : Bool) → ((p && q) && not l) ≡ false → (not l && (p && q)) ≡ false
-corner_swap true true true h = refl
-corner_swap true true false h = h
-corner_swap true false true h = refl
-corner_swap true false false h = refl
-corner_swap false q true h = refl
-corner_swap false q false h = refl
-
 -- what the model doesn't say of data commands doesn't happen
 record IsSaidData (before : List Event) (e : Event) : Type 0 where
   pub counted : is_repeat_of_zero e ≡ false
-  pub within : is_past_all (column 0 before) (band before) e ≡ false
-  pub near_box : is_far (mlterm_box before) (column 0 before) (band before) e ≡ false
+  pub near : is_past_all (column 0 before + columns_of 0 e) (rows_to (band before)) ≡ false
+  pub kept : is_lost (mlterm_buffer before) (column 0 before + columns_of 0 e) (rows_to (band before)) e ≡ false
   pub no_chance : is_chance (is_said_colour before (mlterm_selected before)) e ≡ false
-  pub no_corner : is_corner (mlterm_box before) (has_left_mlterm before) (column 0 before) (band before) e ≡ false
 
 said_data : (n : ℕ) (before : List Event) (e : Event) → n ≤ 256 → BreaksNone n Uncovered before → Keeps n before e
-    → IsFalse (breaks_far before e) → IsBoxed before (raster_before before) → is_data_command e ≡ true
+    → IsFalse (breaks_far before e) → IsBuffered before (raster_before before) → is_data_command e ≡ true
     → IsSaidData before e
-unfolding breaks_far breaks_repeat_zero
-said_data n before e few none k far boxed is_data =
+unfolding breaks_repeat_zero
+said_data n before e few none k far buffered is_data =
     let a : (a : Attributes) × (raster_before before ≡ Some a) = some_value _ (box_at_data n before e k is_data) in
-    let b : IsBoxedBy a.0 before = subst (IsBoxed before) a.1 boxed in
-    let far : (nat_lt 32767 (column 0 before + columns_of 0 e) || nat_lt 32767 (6 * band before)
-    || leaves_at_corner a.0 before e) ≡ false = rw (is_data, a.1) at far in
-    let parts = or_parts (nat_lt 32767 (column 0 before + columns_of 0 e) || nat_lt 32767 (6 * band before)) _ far in
+    let b : IsBufferedFor a.0 before = subst (IsBuffered before) a.1 buffered in
+    let near : IsNear a.0 before e = near_by a.0 before e is_data a.1 far in
     record {
       counted = k.repeat_zero;
-      within = parts.0;
-      near_box = rw b.box (near a.0 before e (is_painting e) refl (fit n before e a.0 k a.1));
+      near = within a.0 before e b.sides.most_wide b.sides.most_high near;
+      kept = not_lost a.0 before e near b;
       no_chance = no_chance n before e few none;
-      no_corner = rw (b.box, b.left)
-          (corner_swap (ends_right a.0 before e) (is_below a.0 before) (any_at (leaves_box a.0) before) parts.1);
     }
 
 data_read : (before : List Event) (c : Command) → IsSaidData before (Step c)
     → IsRead (mlterm_data before c) (Step c ∷ [])
 data_read before c s =
-    rw (s.counted, s.within, s.near_box, s.no_chance, s.no_corner) (record { goes_on = refl; drawn_is = refl })
+    rw (s.counted, s.near, s.kept, s.no_chance) (record { goes_on = refl; drawn_is = refl })
 
 -- ---- the other commands
 
 raster_read : (n : ℕ) (before : List Event) (pan pad width height : ℕ)
-    → Keeps n before (Step (Raster pan pad width height)) → IsBoxed before (raster_before before)
+    → Keeps n before (Step (Raster pan pad width height)) → IsBuffered before (raster_before before)
     → IsRead (mlterm before (Step (Raster pan pad width height)) None) []
-raster_read n before pan pad width height k boxed =
+raster_read n before pan pad width height k buffered =
     let e : Event = Step (Raster pan pad width height) in
     let none : raster_before before ≡ None =
     no_box (raster_before before) (raster_of e) (placed n before e k).once refl in
-    let u : IsUnboxed before = subst (IsBoxed before) none boxed in
-    let fine : is_fragile before width ≡ false = rw u.narrow (and-false (nat_lt 0 (band before))) in
-    rw ((good_box n before pan pad width height k).pan_is, fine) (record { goes_on = refl; drawn_is = refl })
+    let u : IsUnbuffered before = subst (IsBuffered before) none buffered in
+    rw ((good_box n before pan pad width height k).pan_is, u.none) (record { goes_on = refl; drawn_is = refl })
 
 as_read : (r q : Reads) (es : List Event) → r ≡ q → IsRead q es → IsRead r es
 as_read r q es same read = subst (λ (p : Reads). IsRead p es) (sym same) read
@@ -221,32 +219,36 @@ select_read : (n : ℕ) (before : List Event) (r : ℕ) → n ≤ 256 → Keeps 
 unfolding breaks_register
 select_read n before r few k = rw (register_same n r few k.register) (record { goes_on = refl; drawn_is = refl })
 
-start_read : (mixes : Bool) → IsFalse mixes → IsRead (if mixes then Unsaid else Nothing) []
+start_read : (mixed : Bool) → IsFalse mixed → IsRead (if mixed then Unsaid else Nothing) []
 start_read true h = cc
 start_read false h = record { goes_on = refl; drawn_is = refl }
 
 -- ---- all events
 
 by_kind : (n : ℕ) (before : List Event) (e : Event) → n ≤ 256 → BreaksNone n Uncovered before → Keeps n before e
-    → IsFalse (breaks_far before e) → IsFalse (breaks_mixed e) → IsBoxed before (raster_before before)
+    → IsFalse (breaks_far before e) → IsFalse (breaks_mixed e) → IsBuffered before (raster_before before)
     → IsRead (mlterm before e None) (mlterm_draws e)
 unfolding breaks_mixed
-by_kind n before (Start eight parameters) few none k far mixed boxed =
-    start_read (slice_index_or parameters.items 1 0 == 5) mixed
-by_kind n before (Step (Raster pan pad w h)) few none k far mixed boxed = raster_read n before pan pad w h k boxed
-by_kind n before (Step (Define r s x y z)) few none k far mixed boxed = define_read n before r s x y z few k
-by_kind n before (Step (Select r)) few none k far mixed boxed = select_read n before r few k
-by_kind n before (Step (Sixel bits)) few none k far mixed boxed =
-    data_read before (Sixel bits) (said_data n before (Step (Sixel bits)) few none k far boxed refl)
-by_kind n before (Step (Repeat count bits)) few none k far mixed boxed =
-    data_read before (Repeat count bits) (said_data n before (Step (Repeat count bits)) few none k far boxed refl)
-by_kind n before (Step CarriageReturn) few none k far mixed boxed = record { goes_on = refl; drawn_is = refl }
-by_kind n before (Step NextLine) few none k far mixed boxed = record { goes_on = refl; drawn_is = refl }
-by_kind n before (Finish eight) few none k far mixed boxed = record { goes_on = refl; drawn_is = refl }
+by_kind n before (Start eight parameters) few none k far mixed buffered =
+    start_read (mixes (slice_index_or parameters.items 0 0) (slice_index_or parameters.items 1 0))
+    (or_parts _ (slice_index_or parameters.items 0 0 == 5) mixed).0
+by_kind n before (Step (Raster pan pad w h)) few none k far mixed buffered = raster_read n before pan pad w h k buffered
+by_kind n before (Step (Define r s x y z)) few none k far mixed buffered = define_read n before r s x y z few k
+by_kind n before (Step (Select r)) few none k far mixed buffered = select_read n before r few k
+by_kind n before (Step (Sixel bits)) few none k far mixed buffered =
+    data_read before (Sixel bits) (said_data n before (Step (Sixel bits)) few none k far buffered refl)
+by_kind n before (Step (Repeat count bits)) few none k far mixed buffered =
+    data_read before (Repeat count bits) (said_data n before (Step (Repeat count bits)) few none k far buffered refl)
+by_kind n before (Step CarriageReturn) few none k far mixed buffered = record { goes_on = refl; drawn_is = refl }
+by_kind n before (Step NextLine) few none k far mixed buffered = record { goes_on = refl; drawn_is = refl }
+by_kind n before (Finish eight) few none k far mixed buffered = record { goes_on = refl; drawn_is = refl }
+
+pub not_far : (before : List Event) (e : Event) → ¬ BreaksFor MlTerm before e → IsFalse (breaks_far before e)
+not_far before e unbroken = (or_parts (breaks_far before e) (breaks_mixed e) (is_false _ unbroken)).0
 
 pub mlterm_reads : (n : ℕ) (before : List Event) (e : Event) → n ≤ 256 → BreaksNone n Uncovered before
-    → Keeps n before e → ¬ BreaksFor MlTerm before e → IsBoxed before (raster_before before)
+    → Keeps n before e → ¬ BreaksFor MlTerm before e → IsBuffered before (raster_before before)
     → IsRead (mlterm before e None) (mlterm_draws e)
-mlterm_reads n before e few none k unbroken boxed =
+mlterm_reads n before e few none k unbroken buffered =
     let parts = or_parts (breaks_far before e) (breaks_mixed e) (is_false _ unbroken) in
-    by_kind n before e few none k parts.0 parts.1 boxed
+    by_kind n before e few none k parts.0 parts.1 buffered

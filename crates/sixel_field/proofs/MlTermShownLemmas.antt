@@ -26,9 +26,10 @@ use Rattle.sixel_field.proofs.AskedForms.{BreaksFor, BreaksNoneFor, none_for}
 use Rattle.sixel_field.specs.Laws.{ShowsPortable}
 use Rattle.sixel_field.proofs.InkLemmas.{inked_painted, last_at_same, last_ink, map_if, painted_inked}
 use Rattle.sixel_field.proofs.AskedLemmas.{by_events, fresh_at, taken_events}
-use Rattle.sixel_field.proofs.MlTermBoxLemmas.{IsBoxed, boxed_none, boxed_push}
+use Rattle.sixel_field.proofs.MlTermBufferLemmas.{IsBuffered, buffered_none, buffered_push}
 use Rattle.sixel_field.proofs.MlTermFollowLemmas.{IsAlong, along_none, along_push}
-use Rattle.sixel_field.proofs.MlTermReadLemmas.{mlterm_draws, mlterm_reads}
+use Rattle.sixel_field.proofs.MlTermMissedLemmas.{IsMissed, missed_push, missed_taken, not_missed}
+use Rattle.sixel_field.proofs.MlTermReadLemmas.{mlterm_draws, mlterm_reads, not_far}
 use Rattle.sixel_field.proofs.PlainLemmas.{IsBare, last_inked}
 use Rattle.sixel_field.proofs.PlainShownLemmas.{IsLike, painted_inside, shows_like}
 use Rattle.sixel_field.proofs.ReadingLemmas.{IsClear, IsRead, SaysControls, by_none, by_push, clear_reading, clear_said}
@@ -36,13 +37,22 @@ use Rattle.sixel_field.proofs.ReadingLemmas.{drawing_by}
 
 -- ---- what mlterm reads
 
-abbrev IsBoxedNow : List Event → Type 0
-IsBoxedNow before = IsBoxed before (raster_before before)
+abbrev IsBufferedNow : List Event → Type 0
+IsBufferedNow before = IsBuffered before (raster_before before)
 
-boxed : (n : ℕ) (events : List Event) → BreaksNone n Uncovered events → BreaksNoneFor MlTerm events
-    → IsBoxedNow events
-boxed n events none fresh =
-    by_events MlTerm n IsBoxedNow boxed_none (λ before e unbroken k new b. boxed_push n before e k b) events none fresh
+-- the box's first row isn't missed
+abbrev IsReached : List Event → Type 0
+IsReached before = ¬ IsMissed before
+
+reached_before : (before : List Event) (e : Event) → IsReached (before ++ e ∷ []) → IsReached before
+reached_before before e reached missed = reached (missed_push before e missed)
+
+buffered : (n : ℕ) (events : List Event) → BreaksNone n Uncovered events → BreaksNoneFor MlTerm events
+    → IsReached events → IsBufferedNow events
+buffered n events none fresh =
+    by_events MlTerm n (λ before. IsReached before → IsBufferedNow before) (λ reached. buffered_none)
+    (λ before e unbroken k new b reached.
+    buffered_push n before e k (not_far before e new) reached (b (reached_before before e reached))) events none fresh
 
 -- the reading doesn't depend on the event after
 alone : (before : List Event) (e : Event) (next : Option Event) → mlterm before e next ≡ mlterm before e None
@@ -52,14 +62,15 @@ alone before (Step (Sixel bits)) next = refl
 alone before (Step _) next = refl
 
 clear : (n : ℕ) (events : List Event) → n ≤ 256 → BreaksNone n Uncovered events → BreaksNoneFor MlTerm events
-    → IsClear mlterm_model events
-clear n events few none fresh = record {
+    → IsReached events → IsClear mlterm_model events
+clear n events few none fresh reached = record {
   opens = refl;
   alone = alone;
   on = λ i e here.
       let before = taken_events MlTerm n events i none fresh in
       (mlterm_reads n (take i events) e few before.0 (keeps_at n events none i e here)
-      (fresh_at MlTerm events i e fresh here) (boxed n (take i events) before.0 before.1)).goes_on;
+      (fresh_at MlTerm events i e fresh here)
+      (buffered n (take i events) before.0 before.1 (λ missed. reached (missed_taken events i missed)))).goes_on;
 }
 
 says_controls : (events : List Event) → SaysControls mlterm_model events
@@ -73,23 +84,25 @@ abbrev IsFollowed : Parts → ℕ → ℕ → List Event → Type 0
 IsFollowed background w h before = IsAlong background w h before (drawing_by mlterm before)
 
 followed_push : (background : Parts) (w h n : ℕ) (before : List Event) (e : Event) → n ≤ 256
-    → BreaksNone n Uncovered before → Keeps n before e → ¬ BreaksFor MlTerm before e
-    → IsBoxedNow before × IsFollowed background w h before
-    → IsBoxedNow (before ++ e ∷ []) × IsFollowed background w h (before ++ e ∷ [])
-followed_push background w h n before e few none k new (b, f) =
+    → BreaksNone n Uncovered before → Keeps n before e → ¬ BreaksFor MlTerm before e → IsReached (before ++ e ∷ [])
+    → IsBufferedNow before × IsFollowed background w h before
+    → IsBufferedNow (before ++ e ∷ []) × IsFollowed background w h (before ++ e ∷ [])
+followed_push background w h n before e few none k new reached (b, f) =
     let r : IsRead (mlterm before e None) (mlterm_draws e) = mlterm_reads n before e few none k new b in (
-      boxed_push n before e k b,
+      buffered_push n before e k (not_far before e new) reached b,
       subst (IsAlong background w h (before ++ e ∷ []))
           (sym (by_push mlterm before e ∙ ap (λ (es : List Event). drawing_by mlterm before ++ es) r.drawn_is))
           (along_push e k f),
     )
 
 followed : (background : Parts) (w h n : ℕ) (events : List Event) → n ≤ 256 → BreaksNone n Uncovered events
-    → BreaksNoneFor MlTerm events → IsFollowed background w h events
-followed background w h n events few none fresh =
-    (by_events MlTerm n (λ before. IsBoxedNow before × IsFollowed background w h before)
-    (boxed_none, subst (IsAlong background w h []) (sym (by_none mlterm)) (along_none background w h))
-    (λ before e unbroken k new f. followed_push background w h n before e few unbroken k new f) events none fresh).1
+    → BreaksNoneFor MlTerm events → IsReached events → IsFollowed background w h events
+followed background w h n events few none fresh reached =
+    (by_events MlTerm n (λ before. IsReached before → IsBufferedNow before × IsFollowed background w h before)
+    (λ kept. (buffered_none, subst (IsAlong background w h []) (sym (by_none mlterm)) (along_none background w h)))
+    (λ before e unbroken k new f kept.
+    followed_push background w h n before e few unbroken k new kept (f (reached_before before e kept)))
+    events none fresh reached).1
 
 -- ---- what is shown
 
@@ -153,11 +166,12 @@ mlterm_shows n few background width height events whole none unasked across down
     let fresh : BreaksNoneFor MlTerm events = none_for MlTerm events unasked in
     let drawn : BreaksNone n Uncovered events = none_drawn n events none in
     let a = some_value (raster_before events) (box_there n events whole drawn) in
-    let reads : IsClear mlterm_model events = clear n events few drawn fresh in
+    let reached : IsReached events = not_missed n events whole drawn in
+    let reads : IsClear mlterm_model events = clear n events few drawn fresh reached in
     record {
       said = clear_said mlterm_model events reads (says_controls events);
       drawing = drawing_by mlterm events;
       is_reading = clear_reading mlterm_model events reads;
       shows = box_shown background width height n events a.0 few whole drawn a.1
-          (followed background width height n events few drawn fresh);
+          (followed background width height n events few drawn fresh reached);
     }

@@ -1,18 +1,20 @@
 -- What the laws say.
-use Rattle.std.specs.Prelude.{◌∷◌, [], ◌≡◌, ◌≤◌, ℕ, false, IsTrue, List}
+use Rattle.std.specs.Prelude.{◌∷◌, [], ◌≡◌, ◌≢◌, ◌%◌, ◌≤◌, ℕ, false, IsTrue, List, Some}
 use Rattle.sixel_grammar.specs.declared.command.Command.TheVariants.{Define, Raster, Select, Sixel}
 use Rattle.sixel_grammar.specs.declared.command.Event.{Event}
 use Rattle.sixel_grammar.specs.declared.command.Event.TheVariants.{Start, Step, Finish}
 use Rattle.sixel_grammar.specs.Document.{AreWhole}
 use Rattle.sixel_model.specs.declared.colour.Parts.{Parts}
-use Rattle.sixel_model.specs.declared.colour.Parts.TheVariants.{Rgb}
+use Rattle.sixel_model.specs.declared.colour.Parts.TheVariants.{Rgb, Hls}
+use Rattle.sixel_model.specs.Colours.{palette_at}
+use Rattle.sixel_model.specs.Geometry.{band_rows}
 use Rattle.sixel_model.specs.Pictures.{PictureValue, IsPicture}
 use Rattle.sixel_model.specs.Positions.{HoldsNowhere}
 use Rattle.sixel_model.specs.Rules.{BreaksNone, last_rule, picture_left}
 use Rattle.sixel_terminal.specs.Displays.{Display, HasRoom, IsInClass}
 use Rattle.sixel_terminal.specs.Drawing.{shown_on}
 use Rattle.sixel_models.specs.declared.named.Named.{Named}
-use Rattle.sixel_models.specs.declared.named.Named.TheVariants.{Foot}
+use Rattle.sixel_models.specs.declared.named.Named.TheVariants.{XTerm, MlTerm, Foot, Konsole}
 use Rattle.sixel_models.specs.Foot.{foot_model}
 use Rattle.sixel_models.specs.Named.{model_of, terminal_on}
 use Rattle.sixel_models.specs.Readings.{IsReading, IsSaid}
@@ -20,6 +22,7 @@ use Rattle.sixel_models.specs.Settings.{foot_display}
 use Rattle.sixel_judge.specs.Portable.{Shows}
 use Rattle.sixel_encode.specs.Canon.{canon}
 use Rattle.sixel_asked.specs.Asked.{BreaksAsked, asks}
+use Rattle.sixel_asked.specs.Witnesses.{asker_of, witness_of}
 use Rattle.sixel_asked.specs.declared.rule.AskedRule.{AskedRule}
 use Rattle.sixel_field.specs.Stale.{DefinesFirst, NoneIsStale}
 
@@ -45,6 +48,22 @@ ShowsPortable named registers =
     → (picture_left registers events).width ≤ width → (picture_left registers events).height ≤ height
     → IsShownOn named background (width, height) events (picture_left registers events)
 
+-- ---- each rule is needed
+
+-- on each screen with room the terminal shows the picture that the events leave
+abbrev pub IsShownRight : Named → ℕ → List Event → Type 0
+IsShownRight named registers events =
+    (background : Parts) (width height : ℕ) → (picture_left registers events).width ≤ width
+    → (picture_left registers events).height ≤ height
+    → IsShownOn named background (width, height) events (picture_left registers events)
+
+-- the document that breaks the rule alone isn't shown right by the terminal that asks for it
+abbrev pub EachWitnessIsShownWrong : Type 0
+EachWitnessIsShownWrong =
+    (rule : AskedRule) (registers : ℕ) → 16 ≤ registers → ¬ IsShownRight (asker_of rule) registers (witness_of rule)
+
+-- ---- definitions after selects
+
 -- no painting command is in a colour that its register got after it was selected, if no definition comes after a select
 abbrev pub FirstIsNotStale : Type 0
 FirstIsNotStale = (events : List Event) → DefinesFirst events → NoneIsStale events
@@ -58,6 +77,32 @@ abbrev pub CanonShownOnFoot : ℕ → Type 0
 CanonShownOnFoot registers =
     (background : Parts) (width height : ℕ) (p : PictureValue) → IsPicture registers p → p.width ≤ width
     → p.height ≤ height → IsShownOn Foot background (width, height) (canon p) p
+
+-- ---- canonical lists
+
+-- no colour of the palette is by hue, lightness and saturation
+abbrev pub HasNoHue : PictureValue → Type 0
+HasNoHue p = (r hue lightness saturation : ℕ) → palette_at p.palette r ≢ Some (Hls hue lightness saturation)
+
+-- the canonical list of a picture breaks no rule that mlterm asks for, and none that foot asks for
+abbrev pub CanonSuitsMlTerm : ℕ → Type 0
+CanonSuitsMlTerm registers = (p : PictureValue) → IsPicture registers p → BreaksNoneOf MlTerm (canon p)
+
+abbrev pub CanonSuitsFoot : ℕ → Type 0
+CanonSuitsFoot registers = (p : PictureValue) → IsPicture registers p → BreaksNoneOf Foot (canon p)
+
+-- none that xterm asks for, if no side of the picture is above 1,000 and no colour is by hue
+abbrev pub CanonSuitsXTerm : ℕ → Type 0
+CanonSuitsXTerm registers =
+    (p : PictureValue) → IsPicture registers p → p.width ≤ 1000 → p.height ≤ 1000 → HasNoHue p
+    → BreaksNoneOf XTerm (canon p)
+
+-- none that konsole asks for, if the height of the picture is a multiple of six
+abbrev pub CanonSuitsKonsole : ℕ → Type 0
+CanonSuitsKonsole registers =
+    (p : PictureValue) → IsPicture registers p → p.height % band_rows ≡ 0 → BreaksNoneOf Konsole (canon p)
+
+-- ---- a list that differs
 
 -- one pixel, painted in a register that is selected and then defined as red
 abbrev pub late_red : List Event
