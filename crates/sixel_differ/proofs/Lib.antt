@@ -1,8 +1,8 @@
 mod PixelLemmas
 mod ViewLemmas
-mod GroupLemmas
-mod FaultLemmas
-mod ShowingLemmas
-mod OnceLemmas
+pub mod GroupLemmas
+pub mod FaultLemmas
+pub mod ShowingLemmas
+pub mod OnceLemmas
 mod SomeLemmas
 mod AnswerLemmas
