@@ -1,0 +1,10 @@
+pub mod FirstLemmas
+pub mod RightLemmas
+pub mod JoinLemmas
+pub mod FollowLemmas
+pub mod NoneLemmas
+pub mod DecidedLemmas
+pub mod OneVerdictLemmas
+pub mod OneSurveyLemmas
+pub mod SurveyLawLemmas
+pub mod SurveyingLemmas

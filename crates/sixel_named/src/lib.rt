@@ -1,0 +1,15 @@
+//! Checks and surveys for named terminals: the rules of portable pictures, and those that the terminals ask for.
+#![tactic(auto)]
+
+mod both;
+mod checking;
+mod joining;
+pub mod laws;
+mod rule;
+mod surveying;
+mod verdict;
+
+pub use checking::{check_on, outcome_on};
+pub use rule::{ALL_NAMED_RULES, NAMED_RULE_COUNT, NamedRule};
+pub use surveying::{NamedSurvey, survey_on};
+pub use verdict::{NamedFinding, NamedOutcome, NamedVerdict};
