@@ -8,23 +8,28 @@ use Rattle.sixel_grammar.specs.declared.fault.Fault.{Fault}
 use Rattle.sixel_grammar.specs.Faults.{IsFaultOf}
 use Rattle.sixel_grammar.specs.declared.fault.InputFault.{InputFault}
 use Rattle.sixel_grammar.specs.declared.fault.InputFault.TheVariants as input
-use Rattle.sixel_grammar.specs.Document.{Document}
+use Rattle.sixel_grammar.specs.Document.{Document, events_of}
 use Rattle.sixel_grammar.proofs.TotalLemmas.{judged}
 use Rattle.sixel_grammar.proofs.UniqueLemmas.{document_once, fault_no_document, fault_once}
 use Rattle.sixel_judge.specs.declared.verdict.Verdict.{Verdict}
-use Rattle.sixel_judge.specs.declared.verdict.Verdict.TheVariants.{Portable, Broken}
-use Rattle.sixel_judge.specs.declared.verdict.Outcome.{Outcome}
-use Rattle.sixel_check.specs.Answers.{AnswersOutcome}
-use Rattle.sixel_judge.specs.Verdicts.{IsVerdict, outcome_of}
-use Rattle.sixel_judge.proofs.DecideLemmas.{verdict_exists}
+use Rattle.sixel_judge.specs.declared.verdict.Verdict.TheVariants as judged
+use Rattle.sixel_judge.specs.Verdicts.{IsVerdict}
 use Rattle.sixel_judge.proofs.VerdictLemmas.{verdict_once}
+use Rattle.sixel_asked.specs.declared.terminals.Terminals.{Terminals}
+use Rattle.sixel_named.specs.Answers.{AnswersOutcomeOn}
+use Rattle.sixel_named.specs.Laws.{named_verdict, none}
+use Rattle.sixel_named.specs.Verdicts.{IsVerdictOn, named_outcome_of}
+use Rattle.sixel_named.specs.declared.verdict.NamedOutcome.{NamedOutcome}
+use Rattle.sixel_named.specs.declared.verdict.NamedVerdict.{NamedVerdict}
+use Rattle.sixel_named.specs.declared.verdict.NamedVerdict.TheVariants.{Portable, Broken, Asked}
 use Rattle.sixel_run.specs.declared.fault.RunFault.{RunFault}
 use Rattle.sixel_run.specs.declared.fault.RunFault.TheVariants.{Grammar, OutOfMemory}
 use Rattle.sixel_run.specs.declared.task.Status.{Status}
 use Rattle.sixel_run.specs.Conversions.{of_input}
 use Rattle.sixel_run.specs.Outputs.{CheckGives, outcome_status, status_of}
-use Rattle.sixel_run.specs.declared.item.Item.TheVariants.{Outcome as Said}
-use Rattle.sixel_run.specs.Texts.{Text, items_text, outcome_line, verdict_line}
+use Rattle.sixel_run.specs.Texts.{Text, item_line, item_of, items_text, named_verdict_line}
+use Rattle.sixel_named.proofs.NoneLemmas.{none_asked}
+use Rattle.sixel_named.proofs.OneVerdictLemmas.{verdict_on_exists, verdict_on_once}
 
 -- two verdicts on one document are the same
 pub same_verdict : (registers : ℕ) (bytes : List ℕ) (d e : List Placed) (v w : Verdict)
@@ -32,72 +37,88 @@ pub same_verdict : (registers : ℕ) (bytes : List ℕ) (d e : List Placed) (v w
 same_verdict registers bytes d e v w p q a b =
     verdict_once _ e v w (subst (λ (l : List Placed). IsVerdict registers l v) (document_once bytes d e p q) a) b
 
+-- the same for named terminals
+pub same_verdict_on : (registers : ℕ) (t : Terminals) (bytes : List ℕ) (d e : List Placed) (v w : NamedVerdict)
+    → Document d bytes → Document e bytes → IsVerdictOn registers t d v → IsVerdictOn registers t e w → v ≡ w
+same_verdict_on registers t bytes d e v w p q a b =
+    verdict_on_once _ t e v w
+    (subst (λ (l : List Placed). IsVerdictOn registers t l v) (document_once bytes d e p q) a) b
+
+-- a verdict for no terminal is a verdict
+pub verdict_alone : (registers : ℕ) (placed : List Placed) (v : NamedVerdict) → IsVerdictOn registers none placed v
+    → (w : Verdict) × IsVerdict registers placed w × (v ≡ named_verdict w)
+verdict_alone registers placed (Portable p) is = (judged.Portable p, (is.0, is.2), refl)
+verdict_alone registers placed (Broken f) is = (judged.Broken f, (is.0, (is.1).finding), refl)
+verdict_alone registers placed (Asked f) is = absurd ((none_asked (events_of placed)) f.rule (is.1).first.asked is.0 (is.1).first.broken)
+
 -- two texts and answers are the same if both are these
 pub both_are : {t : Text} {c : Result Status RunFault} (first second : Text) (a b : Result Status RunFault)
     → (first ≡ t) × (a ≡ c) → (second ≡ t) × (b ≡ c) → (first ≡ second) × (a ≡ b)
 both_are first second a b p q = (p.0 ∙ sym q.0, p.1 ∙ sym q.1)
 
 -- the line and the status of the verdict on a document
-of_document : (registers : ℕ) (bytes : List ℕ) (d : List Placed) (v : Verdict) → Document d bytes
-    → IsVerdict registers d v → (text : Text) (a : Result Status RunFault) → CheckGives registers bytes text a
-    → (text ≡ verdict_line v) × (a ≡ Ok (status_of v))
-of_document registers bytes d v doc is text (Ok s) g =
-    let same = same_verdict registers bytes g.0 d g.2.0 v g.1 doc g.2.1 is in
-    (g.2.2 ∙ ap verdict_line same, ap (λ (t : Status). Ok t) (g.2.3 ∙ ap status_of same))
-of_document registers bytes d v doc is text (Err (Grammar f)) g = absurd (fault_no_document bytes f g.1 (d, doc))
-of_document registers bytes d v doc is text (Err other) g = absurd g
+of_document : (registers : ℕ) (t : Terminals) (bytes : List ℕ) (d : List Placed) (v : NamedVerdict)
+    → Document d bytes → IsVerdictOn registers t d v → (text : Text) (a : Result Status RunFault)
+    → CheckGives registers t bytes text a → (text ≡ named_verdict_line v) × (a ≡ Ok (status_of v))
+of_document registers t bytes d v doc is text (Ok s) g =
+    let same = same_verdict_on registers t bytes g.0 d g.2.0 v g.1 doc g.2.1 is in
+    (g.2.2 ∙ ap named_verdict_line same, ap (λ (k : Status). Ok k) (g.2.3 ∙ ap status_of same))
+of_document registers t bytes d v doc is text (Err (Grammar f)) g = absurd (fault_no_document bytes f g.1 (d, doc))
+of_document registers t bytes d v doc is text (Err other) g = absurd g
 
 -- the fault of other bytes
-of_fault : (registers : ℕ) (bytes : List ℕ) (f : Fault) → IsFaultOf bytes f → (text : Text)
-    (a : Result Status RunFault) → CheckGives registers bytes text a → (text ≡ []) × (a ≡ Err (Grammar f))
-of_fault registers bytes f is text (Ok s) g = absurd (fault_no_document bytes f is (g.0, g.1))
-of_fault registers bytes f is text (Err (Grammar e)) g =
+of_fault : (registers : ℕ) (t : Terminals) (bytes : List ℕ) (f : Fault) → IsFaultOf bytes f → (text : Text)
+    (a : Result Status RunFault) → CheckGives registers t bytes text a → (text ≡ []) × (a ≡ Err (Grammar f))
+of_fault registers t bytes f is text (Ok s) g = absurd (fault_no_document bytes f is (g.0, g.1))
+of_fault registers t bytes f is text (Err (Grammar e)) g =
     (g.0, ap (λ (k : Fault). Err (Grammar k)) (fault_once bytes e f g.1 is))
-of_fault registers bytes f is text (Err other) g = absurd g
+of_fault registers t bytes f is text (Err other) g = absurd g
 
-pub check-once : (registers : ℕ) (bytes : List ℕ) (first second : Text) (a b : Result Status RunFault)
-    → CheckGives registers bytes first a → CheckGives registers bytes second b → (first ≡ second) × (a ≡ b)
-check-once registers bytes first second a b g h = elim (judged bytes) [
+pub check-once : (registers : ℕ) (t : Terminals) (bytes : List ℕ) (first second : Text) (a b : Result Status RunFault)
+    → CheckGives registers t bytes first a → CheckGives registers t bytes second b → (first ≡ second) × (a ≡ b)
+check-once registers t bytes first second a b g h = elim (judged bytes) [
   | inl d ↦
-      let v = verdict_exists registers d.0 in
-      let gives = of_document registers bytes d.0 v.0 d.1 v.1 in
+      let v = verdict_on_exists registers t d.0 in
+      let gives = of_document registers t bytes d.0 v.0 d.1 v.1 in
       both_are first second a b (gives first a g) (gives second b h)
   | inr f ↦
-      let gives = of_fault registers bytes f.0 f.1 in both_are first second a b (gives first a g) (gives second b h)
+      let gives = of_fault registers t bytes f.0 f.1 in both_are first second a b (gives first a g) (gives second b h)
 ]
 
-pub check-gives : (registers : ℕ) (bytes : List ℕ)
-    → (text : Text) × (answer : Result Status RunFault) × CheckGives registers bytes text answer
-check-gives registers bytes =
+pub check-gives : (registers : ℕ) (t : Terminals) (bytes : List ℕ)
+    → (text : Text) × (answer : Result Status RunFault) × CheckGives registers t bytes text answer
+check-gives registers t bytes =
     elim (judged bytes) [
       | inl d ↦
-          let v = verdict_exists registers d.0 in
-          (verdict_line v.0, Ok (status_of v.0), (d.0, d.1, (v.0, v.1, refl, refl)))
+          let v = verdict_on_exists registers t d.0 in
+          (named_verdict_line v.0, Ok (status_of v.0), (d.0, d.1, (v.0, v.1, refl, refl)))
       | inr f ↦ ([], Err (Grammar f.0), (refl, f.1))
     ]
 
 -- ---- the line
 
 -- an outcome has the line and the status of its verdict
-line_same : (v : Verdict) → outcome_line (outcome_of v) ≡ verdict_line v
+line_same : (v : NamedVerdict) → item_line (item_of (named_outcome_of v)) ≡ named_verdict_line v
 line_same (Portable p) = refl
 line_same (Broken f) = refl
+line_same (Asked f) = refl
 
-status_same : (v : Verdict) → outcome_status (outcome_of v) ≡ status_of v
+status_same : (v : NamedVerdict) → outcome_status (named_outcome_of v) ≡ status_of v
 status_same (Portable p) = refl
 status_same (Broken f) = refl
+status_same (Asked f) = refl
 
-pub checked : (registers : ℕ) (told : Option (List ℕ)) (o : Outcome)
-    → IfSome told (AnswersOutcome registers (Ok o))
-    → IfSome told (λ bytes. CheckGives registers bytes (items_text (Said o ∷ [])) (Ok (outcome_status o)))
-checked registers None o given = tt
-checked registers (Some bytes) o given = (
+pub checked : (registers : ℕ) (t : Terminals) (told : Option (List ℕ)) (o : NamedOutcome)
+    → IfSome told (AnswersOutcomeOn registers t (Ok o))
+    → IfSome told (λ bytes. CheckGives registers t bytes (items_text (item_of o ∷ [])) (Ok (outcome_status o)))
+checked registers t None o given = tt
+checked registers t (Some bytes) o given = (
   given.1.0,
   given.1.1,
   (
     given.0,
     given.1.2,
-    append-nil (outcome_line o) ∙ ap outcome_line given.2 ∙ line_same given.0,
+    append-nil (item_line (item_of o)) ∙ ap (λ (k : NamedOutcome). item_line (item_of k)) given.2 ∙ line_same given.0,
     ap outcome_status given.2 ∙ status_same given.0,
   ),
 )

@@ -1,6 +1,6 @@
 -- Each line that is written is one line: it has no line feed before its end.
 use Rattle.std.proofs.Common.{◌≡◌, ◌++◌, ◌∷◌, ℕ, true, false, Bool, List, [], Option, Some, None}
-use Rattle.std.proofs.Common.{ap, append_assoc, arith, codes, ne_eqb, refl, sym, ◌∙◌}
+use Rattle.std.proofs.Common.{ap, append_assoc, arith, codes, map, ne_eqb, refl, sym, ◌∙◌}
 use Rattle.std.specs.Prelude.{◌&&◌, decimal, nat_eq, not}
 use Rattle.std.specs.List.{All}
 use Rattle.std.proofs.lemmas.List.Elements.{All-append, All-cons, All-nil}
@@ -11,12 +11,18 @@ use Rattle.sixel_model.specs.declared.rule.Rule.TheVariants as rule
 use Rattle.sixel_judge.specs.declared.verdict.Outcome.{Outcome}
 use Rattle.sixel_judge.specs.declared.verdict.Outcome.TheVariants.{Portable, Broken}
 use Rattle.sixel_survey.specs.declared.entry.Entry.{Entry}
+use Rattle.sixel_asked.specs.Names.{name_of}
+use Rattle.sixel_asked.specs.declared.rule.AskedRule.{AskedRule}
+use Rattle.sixel_asked.specs.declared.rule.AskedRule.TheVariants as asked
 use Rattle.sixel_scan.specs.declared.answer.Answer.{Answer}
 use Rattle.sixel_scan.specs.declared.answer.Answer.TheVariants as scanned
+use Rattle.sixel_models.specs.declared.named.Named.{Named}
+use Rattle.sixel_models.specs.declared.named.Named.TheVariants.{XTerm, MlTerm, Foot, Konsole}
 use Rattle.sixel_run.specs.declared.item.Item.{Item}
 use Rattle.sixel_run.specs.declared.item.Item.TheVariants as item
 use Rattle.sixel_run.specs.Texts.{IsLine, Text, entry_line, line, numbers, pixel_parts, rule_name, spaced}
-use Rattle.sixel_run.specs.Texts.{answer_line, item_line, outcome_line, reason_name}
+use Rattle.sixel_run.specs.Texts.{answer_line, column_and_row, item_line, outcome_line, reason_name, terminal_name}
+use Rattle.sixel_run.specs.Texts.{terminals_in}
 use Rattle.sixel_run.proofs.DigitLemmas.{AreDigits, number_digits}
 
 -- a text without line feeds
@@ -60,6 +66,17 @@ rule_unfed rule.Redefined = name_unfed (codes "Redefined") refl
 rule_unfed rule.Outside = name_unfed (codes "Outside") refl
 rule_unfed rule.Uncovered = name_unfed (codes "Uncovered") refl
 rule_unfed rule.EightBit = name_unfed (codes "EightBit") refl
+
+asked_unfed : (r : AskedRule) → All IsUnfed (name_of r)
+asked_unfed asked.RasterLate = name_unfed (codes "RasterLate") refl
+asked_unfed asked.Dropped = name_unfed (codes "Dropped") refl
+asked_unfed asked.Stale = name_unfed (codes "Stale") refl
+asked_unfed asked.Large = name_unfed (codes "Large") refl
+asked_unfed asked.Rows = name_unfed (codes "Rows") refl
+asked_unfed asked.Past = name_unfed (codes "Past") refl
+asked_unfed asked.Hue = name_unfed (codes "Hue") refl
+asked_unfed asked.Far = name_unfed (codes "Far") refl
+asked_unfed asked.Mixed = name_unfed (codes "Mixed") refl
 
 -- nor do digits
 digits_unfed : (ds : Text) → AreDigits ds → All IsUnfed ds
@@ -141,9 +158,46 @@ answer_is_line place (scanned.Refused f) =
     after_place place (codes "refused") (reason_name f.reason ∷ decimal f.place ∷ [])
     (name_unfed (codes "refused") refl) (reason_unfed f.reason, (number_unfed f.place, tt))
 
+-- ---- named terminals
+
+terminal_unfed : (named : Named) → All IsUnfed (terminal_name named)
+terminal_unfed XTerm = name_unfed (codes "xterm") refl
+terminal_unfed MlTerm = name_unfed (codes "mlterm") refl
+terminal_unfed Foot = name_unfed (codes "foot") refl
+terminal_unfed Konsole = name_unfed (codes "konsole") refl
+
+terminals_unfed : (some : List Named) → AreUnfed (map terminal_name some)
+terminals_unfed [] = tt
+terminals_unfed (named ∷ more) = (terminal_unfed named, terminals_unfed more)
+
+place_unfed : (pixel : Option (ℕ × ℕ)) → AreUnfed (column_and_row pixel)
+place_unfed None = tt
+place_unfed (Some pixel) = (number_unfed pixel.0, (number_unfed pixel.1, tt))
+
+both_unfed : (a b : List Text) → AreUnfed a → AreUnfed b → AreUnfed (a ++ b)
+both_unfed [] b p q = q
+both_unfed (text ∷ more) b p q = (p.0, both_unfed more b p.1 q)
+
 -- ---- items
 
 pub item_is_line : (i : Item) → IsLine (item_line i)
 item_is_line (item.Outcome outcome) = outcome_is_line outcome
+item_is_line (item.Asked f) =
+    is_line (codes "broken") (name_of f.rule ∷ decimal f.place ∷ []) (name_unfed (codes "broken") refl)
+    (asked_unfed f.rule, (number_unfed f.place, tt))
 item_is_line (item.Entry entry) = entry_is_line entry
+item_is_line (item.AskedEntry e) =
+    is_line (name_of e.rule) (decimal e.count ∷ decimal e.place ∷ []) (asked_unfed e.rule)
+    (number_unfed e.count, (number_unfed e.place, tt))
 item_is_line (item.String s) = answer_is_line s.place s.answer
+item_is_line (item.Same width height) =
+    is_line (codes "same") (numbers (width ∷ height ∷ [])) (name_unfed (codes "same") refl)
+    (number_unfed width, (number_unfed height, tt))
+item_is_line (item.Group g) =
+    is_line (terminal_name g.leader) (map terminal_name (terminals_in g.others) ++ column_and_row g.pixel)
+    (terminal_unfed g.leader)
+    (both_unfed (map terminal_name (terminals_in g.others)) (column_and_row g.pixel)
+    (terminals_unfed (terminals_in g.others)) (place_unfed g.pixel))
+item_is_line (item.Unmodelled named place) =
+    is_line (terminal_name named) (codes "unmodelled" ∷ decimal place ∷ []) (terminal_unfed named)
+    (name_unfed (codes "unmodelled") refl, (number_unfed place, tt))

@@ -6,6 +6,7 @@ pub mod PictureLemmas
 pub mod FileLemmas
 pub mod MendLemmas
 pub mod RuleSetLemmas
+pub mod FirstAskedLemmas
 pub mod SurveyLemmas
 pub mod DigitLemmas
 pub mod FeedLemmas
@@ -16,11 +17,15 @@ pub mod StageLemmas
 pub mod BoxLemmas
 pub mod ShowOnLemmas
 pub mod MeasuresLemmas
+pub mod ComparingLemmas
+pub mod DifferLemmas
+pub mod SheetLemmas
 pub mod WrappingLemmas
 pub mod StringLemmas
 pub mod ScanLemmas
 pub mod OneStringLemmas
 pub mod RunLemmas
 pub mod LineTaskLemmas
+pub mod DifferLinesLemmas
 pub mod RoundTripLemmas
 pub mod SixelLineLemmas

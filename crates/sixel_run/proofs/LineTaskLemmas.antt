@@ -1,6 +1,6 @@
 -- How a check, a survey or a scan ends, by what it found.
-use Rattle.std.proofs.Common.{◌≡◌, ◌∙◌, ◌+◌, ◌<◌, ◌++◌, ◌∷◌, ℕ, true, false, List, [], ap, drop, take, Option, Some, None, flat_map}
-use Rattle.std.proofs.Common.{get_or, inl, inr, length, map, refl, subst, sym}
+use Rattle.std.proofs.Common.{◌≡◌, ◌∙◌, ◌+◌, ◌<◌, ◌++◌, ◌∷◌, ℕ, true, false, List, [], ap, append_assoc, drop, take}
+use Rattle.std.proofs.Common.{Option, Some, None, flat_map, get_or, inl, inr, length, map, refl, subst, sym}
 use Rattle.std.specs.Prelude.{◌≢◌, Result, Ok, Err, IfSome, OnOk}
 use Rattle.std.specs.Io.KnownBytes.{Appends, IsAtEnd}
 use Rattle.std.proofs.lemmas.List.{append-nil, map-append, take-append-drop, take_more}
@@ -16,8 +16,6 @@ use Rattle.sixel_grammar.specs.Reading.{Explains, NoFaultBefore, failures_after}
 use Rattle.sixel_run.specs.declared.fault.RunFault.{RunFault}
 use Rattle.sixel_run.specs.declared.fault.RunFault.TheVariants.{Grammar, OutOfMemory, Read, Write}
 use Rattle.sixel_run.specs.declared.item.Item.{Item}
-use Rattle.sixel_run.specs.declared.item.Item.TheVariants.{Entry as AnEntry}
-use Rattle.sixel_survey.specs.declared.entry.Entry.{Entry}
 use Rattle.sixel_run.specs.declared.task.Status.{Status}
 use Rattle.sixel_run.specs.declared.task.Task.{Task}
 use Rattle.sixel_run.specs.declared.task.Task.TheVariants.{List as Listing, Scan}
@@ -47,13 +45,16 @@ written_all written items i d short =
     ap (flat_map written) (sym (take-append-drop (i + 1) items)) ∙ flat_map-append written (take (i + 1) items) rest
     ∙ ap (λ (t : Text). t ++ flat_map written rest) (sym (written_more written items i d short))
 
--- the items of the first entries and the next one
-pub entry_pushed : (entries : List Entry) (i : ℕ) (d : Entry) (before after : List Item) → i < length entries
-    → before ≡ map AnEntry (take i entries) → after ≡ before ++ AnEntry (get_or entries i d) ∷ []
-    → after ≡ map AnEntry (take (i + 1) entries)
-entry_pushed entries i d before after short is more =
-    more ∙ ap (λ (items : List Item). items ++ AnEntry (get_or entries i d) ∷ []) is
-    ∙ sym (ap (map AnEntry) (take_more entries i d short) ∙ map-append AnEntry (take i entries) (get_or entries i d ∷ []))
+-- the items of the first entries and the next one, behind some items
+pub entry_pushed : {A : Type 0} (f : A → Item) (entries : List A) (i : ℕ) (d : A) (start before after : List Item)
+    → i < length entries → before ≡ start ++ map f (take i entries) → after ≡ before ++ f (get_or entries i d) ∷ []
+    → after ≡ start ++ map f (take (i + 1) entries)
+entry_pushed f entries i d start before after short is more =
+    let next = get_or entries i d in
+    more ∙ ap (λ (items : List Item). items ++ f next ∷ []) is
+    ∙ append_assoc start (map f (take i entries)) (f next ∷ [])
+    ∙ ap (λ (items : List Item). start ++ items)
+    (sym (ap (map f) (take_more entries i d short) ∙ map-append f (take i entries) (next ∷ [])))
 
 -- the lines of the first items and of the next one
 pub line_pushed : (items : List Item) (i : ℕ) (d : Item) (before after : Text) → i < length items

@@ -14,6 +14,8 @@ use Rattle.sixel_judge.specs.declared.verdict.Verdict.{Verdict}
 use Rattle.sixel_judge.specs.declared.verdict.Verdict.TheVariants.{Portable, Broken}
 use Rattle.sixel_judge.proofs.AnswerLemmas.{verdict_everywhere}
 use Rattle.sixel_judge.proofs.DifferenceLemmas.{verdict_matters}
+use Rattle.sixel_named.specs.Laws.{named_verdict, none}
+use Rattle.sixel_named.specs.Verdicts.{IsVerdictOn}
 use Rattle.sixel_scan.specs.declared.answer.Scanned.{Scanned}
 use Rattle.sixel_scan.specs.Scans.{longest_stream}
 use Rattle.sixel_scan.specs.Strings.{AreStrings}
@@ -24,7 +26,8 @@ use Rattle.sixel_run.specs.declared.task.Status.{Status}
 use Rattle.sixel_run.specs.Laws.{ScanIsCheck, status_alone}
 use Rattle.sixel_run.specs.Outputs.{ScanGives, status_of}
 use Rattle.sixel_run.specs.Scanned.{answer_of_strings, stream_of}
-use Rattle.sixel_run.specs.Texts.{Text, answer_line, finding_line, string_line, verdict_line}
+use Rattle.sixel_run.specs.Texts.{Text, answer_line, finding_line, named_verdict_line, string_line, verdict_line}
+use Rattle.sixel_run.proofs.CheckLemmas.{verdict_alone}
 use Rattle.sixel_run.proofs.StringLemmas.{tells_so, told_as}
 
 -- the report of one string with this verdict
@@ -44,9 +47,14 @@ one_line v =
     ∙ ap (λ (t : Text). codes "0 " ++ t) (told_line v)
 
 one_status : (v : Verdict)
-    → (let r : Result Status RunFault = Ok (status_alone (status_of v)) in r) ≡ answer_of_strings (alone v ∷ [])
+    → (let r : Result Status RunFault = Ok (status_alone (status_of (named_verdict v))) in r)
+    ≡ answer_of_strings (alone v ∷ [])
 one_status (Portable picture) = refl
 one_status (Broken f) = refl
+
+same_line : (v : Verdict) → named_verdict_line (named_verdict v) ≡ verdict_line v
+same_line (Portable picture) = refl
+same_line (Broken f) = refl
 
 -- a document is the whole stream
 whole_stream : (events : List Placed) (bytes : List ℕ) → Document events bytes → stream_of bytes ≡ bytes
@@ -56,7 +64,7 @@ whole_stream events bytes d =
 one_given : (registers : ℕ) (eight : Bool) (events : List Placed) (bytes more : List ℕ)
     (document : Document events bytes) (v : Verdict) → bytes ≡ introducer false ++ more
     → document.parses.after ≡ [] → IsVerdict registers events v
-    → ScanGives eight registers bytes (codes "0 " ++ verdict_line v) (Ok (status_alone (status_of v)))
+    → ScanGives eight registers bytes (codes "0 " ++ verdict_line v) (Ok (status_alone (status_of (named_verdict v))))
 one_given registers eight events bytes more document v starts bare is =
     let whole = document_whole events bytes document in (
       alone v ∷ [],
@@ -94,7 +102,8 @@ one_given registers eight events bytes more document v starts bare is =
 pub scan_is_check : ScanIsCheck
 scan_is_check profile eight events bytes more document text status starts bare given =
     let v = given.2.0 in
-    let is = subst (λ (l : List Placed). IsVerdict (count_of profile) l v)
+    let is = subst (λ (l : List Placed). IsVerdictOn (count_of profile) none l v)
     (document_once bytes given.0 events given.1 document) given.2.1 in
-    rw (given.2.2, given.2.3)
-    (one_given (count_of profile) eight events bytes more document v starts bare is)
+    let plain = verdict_alone (count_of profile) events v is in
+    rw (given.2.2, given.2.3, plain.2, same_line plain.0)
+    (one_given (count_of profile) eight events bytes more document plain.0 starts bare plain.1)

@@ -19,7 +19,8 @@ use Rattle.sixel_run.specs.declared.task.Status.TheVariants.{Done}
 use Rattle.sixel_run.specs.declared.task.Task.{Task}
 use Rattle.sixel_run.specs.declared.task.Task.TheVariants.{List as Listing, Check, Survey, Render, Show, ShowBox}
 use Rattle.sixel_run.specs.declared.task.Task.TheVariants.{Encode}
-use Rattle.sixel_run.specs.declared.task.Task.TheVariants.{Mend, Scan, ShowOn}
+use Rattle.sixel_run.specs.declared.task.Task.TheVariants.{Differ, DifferSheet, Mend, Scan, ShowOn}
+use Rattle.sixel_run.specs.Differing.{differ_output, sheet_output}
 use Rattle.sixel_run.specs.Outputs.{FoundNoFault, Gives, ListGives, ListsUnread, Wrote, WroteBefore, WroteBy}
 use Rattle.sixel_run.specs.Outputs.{WroteNothing}
 use Rattle.sixel_run.specs.Outputs.{WroteUnread, mending}
@@ -30,6 +31,7 @@ use Rattle.sixel_run.specs.Texts.{Text, BeginsWith, list_text}
 use Rattle.sixel_run.proofs.OutputLemmas.{gives-begins}
 use Rattle.sixel_run.proofs.BoxLemmas.{box-gives, box-once}
 use Rattle.sixel_run.proofs.CheckLemmas.{both_are, check-gives, check-once}
+use Rattle.sixel_run.proofs.DifferLemmas.{differ-gives, differ-once, differ_given, sheet_given}
 use Rattle.sixel_run.proofs.FileLemmas.{encode-gives, encode-once}
 use Rattle.sixel_run.proofs.MendLemmas.{mend-gives, mend-once}
 use Rattle.sixel_run.proofs.PictureLemmas.{render-gives, render-once}
@@ -86,10 +88,10 @@ list-gives bytes =
 pub gives-once : (task : Task) (bytes : List ℕ) (first second : Text) (a b : Result Status RunFault)
     → Gives task bytes first a → Gives task bytes second b → (first ≡ second) × (a ≡ b)
 gives-once Listing bytes first second a b g h = list-once bytes first second a b g h
-gives-once (Check profile) bytes first second a b g h = check-once _ bytes first second a b g h
+gives-once (Check profile t) bytes first second a b g h = check-once _ t bytes first second a b g h
 gives-once (Render profile) bytes first second a b g h = render-once _ bytes first second a b g h
 gives-once (Encode profile) bytes first second a b g h = encode-once _ bytes first second a b g h
-gives-once (Survey profile) bytes first second a b g h = survey-once _ bytes first second a b g h
+gives-once (Survey profile t) bytes first second a b g h = survey-once _ t bytes first second a b g h
 gives-once (Scan profile eight) bytes first second a b g h = scan-once eight _ bytes first second a b g h
 gives-once (Mend profile background showing selects) bytes first second a b g h =
     mend-once _ (mending background showing selects) bytes first second a b g h
@@ -99,20 +101,26 @@ gives-once (ShowBox profile showing fill selects) bytes first second a b g h =
     box-once profile (screen_terminal profile showing fill selects) bytes first second a b g h
 gives-once (ShowOn named background area) bytes first second a b g h =
     on-once named background area bytes first second a b g h
+gives-once (Differ background) bytes first second a b g h =
+    differ-once differ_output differ_given background bytes first second a b g h
+gives-once (DifferSheet background) bytes first second a b g h =
+    differ-once sheet_output sheet_given background bytes first second a b g h
 
 pub gives : (task : Task) (bytes : List ℕ)
     → (text : Text) × (answer : Result Status RunFault) × Gives task bytes text answer
 gives Listing bytes = list-gives bytes
-gives (Check profile) bytes = check-gives _ bytes
+gives (Check profile t) bytes = check-gives _ t bytes
 gives (Render profile) bytes = render-gives _ bytes
 gives (Encode profile) bytes = encode-gives _ bytes
-gives (Survey profile) bytes = survey-gives _ bytes
+gives (Survey profile t) bytes = survey-gives _ t bytes
 gives (Scan profile eight) bytes = scan-gives eight _ bytes
 gives (Mend profile background showing selects) bytes = mend-gives _ (mending background showing selects) bytes
 gives (Show profile showing fill selects width height) bytes =
     show-gives profile (show_terminal profile (show_choices showing fill selects width height)) bytes
 gives (ShowBox profile showing fill selects) bytes = box-gives profile (screen_terminal profile showing fill selects) bytes
 gives (ShowOn named background area) bytes = on-gives named background area bytes
+gives (Differ background) bytes = differ-gives differ_output differ_given background bytes
+gives (DifferSheet background) bytes = differ-gives sheet_output sheet_given background bytes
 
 begins-all : (first second : Text) → first ≡ second → BeginsWith second first
 begins-all first second e = ([], sym e ∙ sym (append-nil first))

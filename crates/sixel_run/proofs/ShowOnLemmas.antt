@@ -56,12 +56,12 @@ some_place (p ∷ ps) (suc i) lt = some_place ps i (omega (arith, lt))
 same_place : (placed : List Placed) (i a b : ℕ) → HasPlace placed i a → HasPlace placed i b → a ≡ b
 same_place placed i a b p q = let whole : Some a ≡ Some b = sym p ∙ q in cc
 
-ends_somewhere : (m : Model) (placed : List Placed) (i : ℕ) → EndsAt m (events_of placed) i
+pub ends_somewhere : (m : Model) (placed : List Placed) (i : ℕ) → EndsAt m (events_of placed) i
     → (place : ℕ) × EndsAtPlace m placed place
 ends_somewhere m placed i ends =
     let p = some_place placed i ends.within in (p.0, record { at = i; ends = ends; has_place = p.1 })
 
-one_end : (m : Model) (placed : List Placed) (a b : ℕ) → EndsAtPlace m placed a → EndsAtPlace m placed b → a ≡ b
+pub one_end : (m : Model) (placed : List Placed) (a b : ℕ) → EndsAtPlace m placed a → EndsAtPlace m placed b → a ≡ b
 one_end m placed a b p q =
     let same : p.at ≡ q.at = end_once m (events_of placed) p.at q.at p.ends q.ends in
     same_place placed q.at a b (subst (λ (i : ℕ). HasPlace placed i a) same p.has_place) q.has_place

@@ -5,6 +5,8 @@ use Rattle.sixel_ppm.specs.declared.ppm.PpmFault.{PpmFault}
 use Rattle.sixel_ppm.specs.declared.ppm.PpmFault.TheVariants as ppm
 use Rattle.sixel_mend.specs.declared.mending.MendFault.{MendFault}
 use Rattle.sixel_mend.specs.declared.mending.MendFault.TheVariants as mend
+use Rattle.sixel_differ.specs.declared.fault.DifferFault.{DifferFault}
+use Rattle.sixel_differ.specs.declared.fault.DifferFault.TheVariants as differ
 use Rattle.sixel_models.specs.declared.showing.ShowFault.{ShowFault}
 use Rattle.sixel_models.specs.declared.showing.ShowFault.TheVariants as show
 use Rattle.sixel_scan.specs.declared.fault.ScanFault.{ScanFault}
@@ -31,6 +33,12 @@ of_mend mend.Empty = Empty
 of_mend mend.TooLarge = TooLarge
 of_mend mend.TooManyColours = TooManyColours
 of_mend mend.OutOfMemory = OutOfMemory
+
+abbrev pub of_differ : DifferFault → RunFault
+of_differ (differ.Grammar fault) = Grammar fault
+of_differ differ.Empty = Empty
+of_differ differ.TooLarge = TooLarge
+of_differ differ.OutOfMemory = OutOfMemory
 
 abbrev pub of_show : ShowFault → RunFault
 of_show (show.Grammar fault) = Grammar fault

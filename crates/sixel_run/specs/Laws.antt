@@ -15,10 +15,11 @@ use Rattle.sixel_judge.specs.declared.verdict.Verdict.TheVariants.{Portable}
 use Rattle.sixel_judge.specs.Portable.{IsPortable}
 use Rattle.sixel_judge.specs.Verdicts.{IsVerdict}
 use Rattle.sixel_encode.specs.Canon.{canon_text}
+use Rattle.sixel_named.specs.Laws.{none}
 use Rattle.sixel_run.specs.declared.fault.RunFault.{RunFault}
 use Rattle.sixel_run.specs.declared.fault.RunFault.TheVariants.{NoBox}
 use Rattle.sixel_run.specs.declared.task.Status.{Status}
-use Rattle.sixel_run.specs.declared.task.Status.TheVariants.{Done, Broken, Noted, Surveyed, Unfit}
+use Rattle.sixel_run.specs.declared.task.Status.TheVariants.{Done, Asked, Broken, Differing, Noted, Surveyed, Unfit}
 use Rattle.sixel_run.specs.declared.task.Task.{Task}
 use Rattle.sixel_run.specs.declared.task.Task.TheVariants.{Check, Scan, Show, ShowBox}
 use Rattle.sixel_run.specs.Outputs.{CheckGives, Gives, HasSides}
@@ -44,10 +45,10 @@ abbrev pub EncodedAnswers : ℕ → Type 0
 EncodedAnswers registers = (p : PictureValue) (answer : Result Verdict InputFault) → IsPicture registers p
     → Answers registers answer (canon_text p) → IsPortableAnswer p answer
 
--- a check of that text gives the line of a portable picture, with its size
+-- a check of that text for no terminal gives the line of a portable picture, with its size
 abbrev pub EncodedChecks : ℕ → Type 0
 EncodedChecks registers = (p : PictureValue) → IsPicture registers p
-    → CheckGives registers (canon_text p) (portable_line p) (Ok Done)
+    → CheckGives registers none (canon_text p) (portable_line p) (Ok Done)
 
 -- ---- boxes
 
@@ -87,12 +88,15 @@ abbrev pub status_alone : Status → Status
 status_alone Done = Done
 status_alone (Noted note) = Noted note
 status_alone (Broken finding) = Unfit false
+status_alone (Asked finding) = Unfit false
 status_alone (Surveyed first rules) = Unfit false
+status_alone Differing = Unfit false
 status_alone (Unfit wrapped) = Unfit wrapped
 
--- for a document that begins with ESC P, and has no filler after its end, a scan writes the line of a check after `0 `
+-- for a document that begins with ESC P, and has no filler after its end, a scan writes the line of a check for no
+-- terminal after `0 `
 abbrev pub ScanIsCheck : Type 0
 ScanIsCheck = (profile : Profile) (eight : Bool) (events : List Placed) (bytes more : List ℕ)
     (document : Document events bytes) (text : Text) (status : Status) → bytes ≡ introducer false ++ more
-    → document.parses.after ≡ [] → Gives (Check profile) bytes text (Ok status)
+    → document.parses.after ≡ [] → Gives (Check profile none) bytes text (Ok status)
     → Gives (Scan profile eight) bytes (codes "0 " ++ text) (Ok (status_alone status))

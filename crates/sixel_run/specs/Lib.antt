@@ -2,9 +2,11 @@ pub mod Texts
 pub mod SixelLines
 pub mod Conversions
 pub mod RuleSets
+pub mod Firsts
 pub mod Screens
 pub mod Notes
 pub mod Scanned
+pub mod Differing
 pub mod Outputs
 pub mod LineTasks
 pub mod Watching

@@ -1,27 +1,28 @@
--- How a check, a survey or a scan ends that writes something for each of its items.
+-- How a check, a survey, a scan or a comparison ends that writes something for each of its items.
 use Rattle.std.specs.Prelude.{◌≡◌, ◌≢◌, ◌⊎◌, ℕ, Bool, true, false, List, [], flat_map, take, Option, Some, IfSome, OnOk}
 use Rattle.std.specs.Prelude.{Result, Ok, Err}
 use Rattle.std.specs.Io.KnownBytes.{Appends, Consumes, IsAtEnd}
 use Rattle.sixel_io.specs.Devices.{Change, SinkState, SourceState}
 use Rattle.sixel_scan.specs.Scans.{IsOver}
-use Rattle.sixel_survey.specs.declared.entry.Survey.{Survey as ASurvey}
-use Rattle.sixel_survey.specs.Laws.{IsFirstFinding}
+use Rattle.sixel_named.specs.Laws.{IsFirstOf}
+use Rattle.sixel_named.specs.declared.surveying.NamedSurvey.{NamedSurvey}
 use Rattle.sixel_run.specs.declared.fault.RunFault.{RunFault}
 use Rattle.sixel_run.specs.declared.fault.RunFault.TheVariants.{OutOfMemory, Read, Write}
 use Rattle.sixel_run.specs.declared.item.Item.{Item}
 use Rattle.sixel_run.specs.declared.task.Status.{Status}
-use Rattle.sixel_run.specs.declared.task.Status.TheVariants.{Done, Broken, Noted, Surveyed, Unfit}
+use Rattle.sixel_run.specs.declared.task.Status.TheVariants.{Done, Asked, Broken, Differing, Noted, Surveyed, Unfit}
 use Rattle.sixel_run.specs.declared.task.Task.{Task}
-use Rattle.sixel_run.specs.declared.task.Task.TheVariants.{Check, Scan, Survey}
+use Rattle.sixel_run.specs.declared.task.Task.TheVariants.{Check, Differ, Scan, Survey}
 use Rattle.sixel_run.specs.Outputs.{CountsWrites, TakesMemory, Wrote, failures_by}
 use Rattle.sixel_run.specs.RuleSets.{rules_of}
 use Rattle.sixel_run.specs.Texts.{Text, items_text}
 
--- whether the task is a check, a survey or a scan
+-- whether the task is a check, a survey, a scan or a comparison
 abbrev pub has_lines : Task → Bool
-has_lines (Check profile) = true
-has_lines (Survey profile) = true
+has_lines (Check profile terminals) = true
+has_lines (Survey profile terminals) = true
 has_lines (Scan profile eight) = true
+has_lines (Differ background) = true
 has_lines t = false
 
 -- whether the task writes while it reads
@@ -49,7 +50,7 @@ PutsText answer had has text = Appends had has text
 abbrev pub EndsAs : Result Status RunFault → Result Status RunFault → Type 0
 EndsAs found answer = (answer ≡ found) ⊎ ((status : Status) × (found ≡ Ok status) × (answer ≡ Err Write))
 
--- a check, a survey or a scan with this answer put `written` of each of its items to the output. Their lines are what a
+-- a task with lines and this answer put `written` of each of its items to the output. Their lines are what a
 -- run of the task writes, and `found` is what that answers. After Write, which only a scan finds, they are the strings
 -- up to the one that couldn't be written
 pub record WritesItems (t : Task) (written : Item → Text) (answer : Result Status RunFault)
@@ -58,7 +59,7 @@ pub record WritesItems (t : Task) (written : Item → Text) (answer : Result Sta
   pub items : List Item
   pub wrote : IfSome input.old.remaining
       (λ bytes. Wrote t bytes input.new.remaining found (Some []) (Some (items_text items)))
-  -- a check or a survey that is refused has no item
+  -- a task but a scan that is refused has no item
   pub refused : scans t ≡ false → (fault : RunFault) → found ≡ Err fault → items ≡ []
   pub unwritten : scans t ≡ false → found ≢ Err Write
   pub ends : EndsAs found answer
@@ -69,10 +70,12 @@ pub record WritesItems (t : Task) (written : Item → Text) (answer : Result Sta
   pub writes : CountsWrites answer output.old.failures output.new.failures
 
 -- the status after a survey: Done without an entry, else the first one's finding, and the rules of all
-abbrev pub IsStatusOf : ASurvey → Status → Type 0
-IsStatusOf survey Done = survey.entries.items ≡ []
+abbrev pub IsStatusOf : NamedSurvey → Status → Type 0
+IsStatusOf survey Done = (survey.entries.items ≡ []) × (survey.asked.items ≡ [])
 IsStatusOf survey (Surveyed first rules) =
-    IsFirstFinding survey.entries.items first × (rules ≡ rules_of survey.entries.items)
+    IsFirstOf survey.entries.items survey.asked.items first × (rules ≡ rules_of survey.entries.items survey.asked.items)
 IsStatusOf survey (Broken finding) = ⊥
+IsStatusOf survey (Asked finding) = ⊥
 IsStatusOf survey (Noted note) = ⊥
+IsStatusOf survey Differing = ⊥
 IsStatusOf survey (Unfit wrapped) = ⊥

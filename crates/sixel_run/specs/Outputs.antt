@@ -27,14 +27,19 @@ use Rattle.sixel_models.specs.Named.{IsScreenOn, model_of}
 use Rattle.sixel_models.specs.Readings.{IsSaid}
 use Rattle.sixel_judge.specs.declared.verdict.Verdict.{Verdict}
 use Rattle.sixel_judge.specs.declared.verdict.Verdict.TheVariants.{Portable, Broken}
-use Rattle.sixel_judge.specs.declared.verdict.Outcome.{Outcome}
-use Rattle.sixel_judge.specs.declared.verdict.Outcome.TheVariants.{Portable as PortableSize, Broken as BrokenRule}
 use Rattle.sixel_judge.specs.Growth.{MayGrowIn}
 use Rattle.sixel_judge.specs.Verdicts.{IsVerdict}
 use Rattle.sixel_encode.specs.Canon.{canon_text}
-use Rattle.sixel_survey.specs.declared.entry.Survey.{Survey as ASurvey}
 use Rattle.sixel_survey.specs.Declaring.{DeclareBoxIn}
-use Rattle.sixel_survey.specs.Surveys.{IsSurvey}
+use Rattle.sixel_asked.specs.declared.terminals.Terminals.{Terminals}
+use Rattle.sixel_named.specs.Surveys.{IsSurveyOn}
+use Rattle.sixel_named.specs.Verdicts.{IsVerdictOn}
+use Rattle.sixel_named.specs.declared.surveying.NamedSurvey.{NamedSurvey}
+use Rattle.sixel_named.specs.declared.verdict.NamedFinding.TheVariants as finding
+use Rattle.sixel_named.specs.declared.verdict.NamedOutcome.{NamedOutcome}
+use Rattle.sixel_named.specs.declared.verdict.NamedOutcome.TheVariants as outcome
+use Rattle.sixel_named.specs.declared.verdict.NamedVerdict.{NamedVerdict}
+use Rattle.sixel_named.specs.declared.verdict.NamedVerdict.TheVariants as named
 use Rattle.sixel_mend.specs.declared.mending.MendFault.{MendFault}
 use Rattle.sixel_mend.specs.declared.mending.Mending.{Mending}
 use Rattle.sixel_mend.specs.Mended.{HasSides as HasMendedSides, MendsEvents}
@@ -52,14 +57,15 @@ use Rattle.sixel_run.specs.declared.task.Status.TheVariants.{Done, Noted, Survey
 use Rattle.sixel_run.specs.declared.task.Task.{Task}
 use Rattle.sixel_run.specs.declared.task.Task.TheVariants.{List as Listing, Check, Survey, Render, Show, ShowBox}
 use Rattle.sixel_run.specs.declared.task.Task.TheVariants.{Encode}
-use Rattle.sixel_run.specs.declared.task.Task.TheVariants.{Mend, Scan, ShowOn}
+use Rattle.sixel_run.specs.declared.task.Task.TheVariants.{Differ, DifferSheet, Mend, Scan, ShowOn}
 use Rattle.sixel_run.specs.Scanned.{AreBeforeAllocation, AreOfGiven, AreOfStream, MayGrowInString, answer_of_strings}
 use Rattle.sixel_run.specs.Scanned.{scan_text}
+use Rattle.sixel_run.specs.Differing.{DifferGives, differ_output, sheet_output}
 use Rattle.sixel_run.specs.Notes.{shown_status}
 use Rattle.sixel_run.specs.RuleSets.{rules_of}
 use Rattle.sixel_run.specs.Screens.{DeclareScreenIn, declared_screen, screen_terminal, screen_text, show_choices}
 use Rattle.sixel_run.specs.Screens.{show_terminal}
-use Rattle.sixel_run.specs.Texts.{Text, BeginsWith, list_text, survey_text, verdict_line}
+use Rattle.sixel_run.specs.Texts.{Text, BeginsWith, list_text, named_verdict_line, survey_text}
 
 -- ---- lists
 
@@ -84,40 +90,45 @@ ListsUnread bytes left had has =
 -- ---- verdicts
 
 -- the status of a verdict
-abbrev pub status_of : Verdict → Status
-status_of (Portable picture) = Done
-status_of (Broken finding) = status.Broken finding
+abbrev pub status_of : NamedVerdict → Status
+status_of (named.Portable picture) = Done
+status_of (named.Broken finding) = status.Broken finding
+status_of (named.Asked finding) = status.Asked finding
 
--- for a document the line of its verdict, with this many registers; for other bytes their fault, and no text
-abbrev pub CheckGives : ℕ → List ℕ → Text → Result Status RunFault → Type 0
-CheckGives registers bytes text (Ok status) =
+-- for a document the line of its verdict, with this many registers, for these terminals; for other bytes their fault,
+-- and no text
+abbrev pub CheckGives : ℕ → Terminals → List ℕ → Text → Result Status RunFault → Type 0
+CheckGives registers terminals bytes text (Ok status) =
     (events : List Placed) × Document events bytes
-    × ((verdict : Verdict) × IsVerdict registers events verdict × (text ≡ verdict_line verdict)
+    × ((verdict : NamedVerdict) × IsVerdictOn registers terminals events verdict × (text ≡ named_verdict_line verdict)
     × (status ≡ status_of verdict))
-CheckGives registers bytes text (Err (Grammar fault)) = (text ≡ []) × IsFaultOf bytes fault
-CheckGives registers bytes text (Err fault) = ⊥
+CheckGives registers terminals bytes text (Err (Grammar fault)) = (text ≡ []) × IsFaultOf bytes fault
+CheckGives registers terminals bytes text (Err fault) = ⊥
 
 -- the status of a verdict without its picture
-abbrev pub outcome_status : Outcome → Status
-outcome_status (PortableSize width height) = Done
-outcome_status (BrokenRule finding) = status.Broken finding
+abbrev pub outcome_status : NamedOutcome → Status
+outcome_status (outcome.Portable width height) = Done
+outcome_status (outcome.Broken finding) = status.Broken finding
+outcome_status (outcome.Asked finding) = status.Asked finding
 
 -- ---- surveys
 
 -- the status of a survey, after the verdict on the same document
-abbrev pub survey_status : ASurvey → Verdict → Status
-survey_status survey (Portable picture) = Done
-survey_status survey (Broken finding) = Surveyed finding (rules_of survey.entries.items)
+abbrev pub survey_status : NamedSurvey → NamedVerdict → Status
+survey_status survey (named.Portable picture) = Done
+survey_status survey (named.Broken f) = Surveyed (finding.Portable f) (rules_of survey.entries.items survey.asked.items)
+survey_status survey (named.Asked f) = Surveyed (finding.Asked f) (rules_of survey.entries.items survey.asked.items)
 
--- for a document the lines of its survey, with this many registers, and its status; for other bytes their fault, and no
--- text
-abbrev pub SurveyGives : ℕ → List ℕ → Text → Result Status RunFault → Type 0
-SurveyGives registers bytes text (Ok status) =
+-- for a document the lines of its survey, with this many registers, for these terminals, and its status; for other
+-- bytes their fault, and no text
+abbrev pub SurveyGives : ℕ → Terminals → List ℕ → Text → Result Status RunFault → Type 0
+SurveyGives registers terminals bytes text (Ok status) =
     (events : List Placed) × Document events bytes
-    × ((survey : ASurvey) × IsSurvey registers events survey × (text ≡ survey_text survey)
-    × ((verdict : Verdict) × IsVerdict registers events verdict × (status ≡ survey_status survey verdict)))
-SurveyGives registers bytes text (Err (Grammar fault)) = (text ≡ []) × IsFaultOf bytes fault
-SurveyGives registers bytes text (Err fault) = ⊥
+    × ((survey : NamedSurvey) × IsSurveyOn registers terminals events survey × (text ≡ survey_text survey)
+    × ((verdict : NamedVerdict) × IsVerdictOn registers terminals events verdict
+    × (status ≡ survey_status survey verdict)))
+SurveyGives registers terminals bytes text (Err (Grammar fault)) = (text ≡ []) × IsFaultOf bytes fault
+SurveyGives registers terminals bytes text (Err fault) = ⊥
 
 -- ---- strings of a stream
 
@@ -265,8 +276,8 @@ mending background showing selects = record { background = background; showing =
 -- what a task writes for these bytes, and its answer, if no allocation and no device fails
 abbrev pub Gives : Task → List ℕ → Text → Result Status RunFault → Type 0
 Gives Listing bytes text answer = ListGives bytes text answer
-Gives (Check profile) bytes text answer = CheckGives (count_of profile) bytes text answer
-Gives (Survey profile) bytes text answer = SurveyGives (count_of profile) bytes text answer
+Gives (Check profile terminals) bytes text answer = CheckGives (count_of profile) terminals bytes text answer
+Gives (Survey profile terminals) bytes text answer = SurveyGives (count_of profile) terminals bytes text answer
 Gives (Scan profile eight) bytes text answer = ScanGives eight (count_of profile) bytes text answer
 Gives (Render profile) bytes text answer = RenderGives (count_of profile) bytes text answer
 Gives (Encode profile) bytes text answer = EncodeGives (count_of profile) bytes text answer
@@ -277,6 +288,8 @@ Gives (Show profile showing fill selects width height) bytes text answer =
 Gives (ShowBox profile showing fill selects) bytes text answer =
     ShowBoxGives profile (screen_terminal profile showing fill selects) bytes text answer
 Gives (ShowOn named background area) bytes text answer = ShowOnGives named background area bytes text answer
+Gives (Differ background) bytes text answer = DifferGives differ_output background bytes text answer
+Gives (DifferSheet background) bytes text answer = DifferGives sheet_output background bytes text answer
 
 -- nothing was appended to what the sink `had`
 abbrev pub WroteNothing : Option (List ℕ) → Option (List ℕ) → Type 0
@@ -307,14 +320,18 @@ WroteBefore t bytes had has = WroteNothing had has
 abbrev pub HasPictureSize : Mending → List ℕ → Type 0
 HasPictureSize m bytes = (events : List Placed) × Document events bytes × HasMendedSides m (events_of events)
 
+-- the same, whatever is chosen for mending
+abbrev pub HasEachSize : List ℕ → Type 0
+HasEachSize bytes = (m : Mending) → HasPictureSize m bytes
+
 -- a run of the task over these bytes, if they are known, may run out of memory: a check or a render only if a checker
 -- may allocate in them, a scan only if it may in one of the strings, a survey only if a box in range is declared in
--- them, an encode only after a whole header, a mend only for a document that has a picture's size,
+-- them, an encode only after a whole header, a mend or a comparison only for a document that has a picture's size,
 -- a show only for a document, or with --box and without --on only if a screen's size is declared in them, a list never
 abbrev pub TakesMemory : Task → Option (List ℕ) → Type 0
 TakesMemory Listing told = ⊥
-TakesMemory (Check profile) told = IfSome told (MayGrowIn (count_of profile))
-TakesMemory (Survey profile) told = IfSome told DeclareBoxIn
+TakesMemory (Check profile terminals) told = IfSome told (MayGrowIn (count_of profile))
+TakesMemory (Survey profile terminals) told = IfSome told DeclareBoxIn
 TakesMemory (Scan profile eight) told = IfSome told (MayGrowInString eight (count_of profile))
 TakesMemory (Render profile) told = IfSome told (MayGrowIn (count_of profile))
 TakesMemory (Encode profile) told = IfSome told HasWholeHeader
@@ -323,6 +340,8 @@ TakesMemory (Mend profile background showing selects) told =
 TakesMemory (Show profile showing fill selects width height) told = IfSome told IsDocument
 TakesMemory (ShowBox profile showing fill selects) told = IfSome told DeclareScreenIn
 TakesMemory (ShowOn named background area) told = IfSome told IsDocument
+TakesMemory (Differ background) told = IfSome told HasEachSize
+TakesMemory (DifferSheet background) told = IfSome told HasEachSize
 
 -- what a run with this answer appended to what the sink `had`. OutOfMemory: what `before` says; Read: what `unread`
 -- says; Write: a prefix of each text that `gives` allows; any other answer: a text that `gives` allows with that answer

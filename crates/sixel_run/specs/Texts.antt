@@ -1,7 +1,7 @@
 -- The lines that the program writes.
 use Rattle.std.specs.Prelude.{◌≡◌, ℕ, Bool, List, [], ◌∷◌, ◌++◌, Option, Some, None, codes, decimal, flat_map, map}
 use Rattle.std.specs.Prelude.{◌+◌, ◌*◌}
-use Rattle.std.specs.Prelude.{◌/◌, ◌%◌, false, if◌then◌else◌, length, nat_eq, take}
+use Rattle.std.specs.Prelude.{◌/◌, ◌%◌, false, filter, if◌then◌else◌, length, nat_eq, take}
 use Rattle.std.specs.List.{All}
 use Rattle.std.specs.Option.{option_to_list}
 use Rattle.sixel_grammar.specs.declared.command.Command.{Command}
@@ -26,10 +26,23 @@ use Rattle.sixel_judge.specs.declared.verdict.Verdict.TheVariants.{Portable, Bro
 use Rattle.sixel_judge.specs.declared.verdict.Outcome.{Outcome}
 use Rattle.sixel_judge.specs.declared.verdict.Outcome.TheVariants.{Portable as PortableSize, Broken as BrokenRule}
 use Rattle.sixel_survey.specs.declared.entry.Entry.{Entry}
-use Rattle.sixel_survey.specs.declared.entry.Survey.{Survey}
+use Rattle.sixel_asked.specs.Names.{name_of}
+use Rattle.sixel_asked.specs.declared.asking.AskedFinding.{AskedFinding}
+use Rattle.sixel_asked.specs.declared.tally.AskedEntry.{AskedEntry}
+use Rattle.sixel_asked.specs.declared.terminals.Terminals.{Terminals}
+use Rattle.sixel_named.specs.declared.rule.NamedRule.{NamedRule}
+use Rattle.sixel_named.specs.declared.rule.NamedRule.TheVariants as named
+use Rattle.sixel_named.specs.declared.surveying.NamedSurvey.{NamedSurvey}
+use Rattle.sixel_named.specs.declared.verdict.NamedOutcome.{NamedOutcome}
+use Rattle.sixel_named.specs.declared.verdict.NamedOutcome.TheVariants as outcome
+use Rattle.sixel_named.specs.declared.verdict.NamedVerdict.{NamedVerdict}
+use Rattle.sixel_named.specs.declared.verdict.NamedVerdict.TheVariants as verdict
 use Rattle.sixel_scan.specs.declared.answer.Answer.{Answer}
 use Rattle.sixel_scan.specs.declared.answer.Answer.TheVariants as scanned
 use Rattle.sixel_scan.specs.declared.answer.Scanned.{Scanned}
+use Rattle.sixel_models.specs.declared.named.Named.{Named}
+use Rattle.sixel_models.specs.declared.named.Named.TheVariants.{XTerm, MlTerm, Foot, Konsole}
+use Rattle.sixel_run.specs.declared.differences.Group.{Group}
 use Rattle.sixel_run.specs.declared.item.Item.{Item}
 use Rattle.sixel_run.specs.declared.item.Item.TheVariants as item
 use Rattle.sixel_run.specs.declared.fault.RunFault.{RunFault}
@@ -156,6 +169,11 @@ rule_name rule.Outside = codes "Outside"
 rule_name rule.Uncovered = codes "Uncovered"
 rule_name rule.EightBit = codes "EightBit"
 
+-- the name of a rule of portable pictures, or of one that named terminals ask for
+abbrev pub named_rule_name : NamedRule → Text
+named_rule_name (named.Portable rule) = rule_name rule
+named_rule_name (named.Asked rule) = name_of rule
+
 -- the column and the row, if there is a pixel
 abbrev pub column_and_row : Option (ℕ × ℕ) → List Text
 column_and_row None = []
@@ -170,6 +188,10 @@ pixel_parts _ pixel = []
 -- the line of a finding: its rule, its offset and its pixel
 abbrev pub finding_line : Finding → Text
 finding_line f = line (codes "broken") (rule_name f.rule ∷ decimal f.place ∷ pixel_parts f.rule f.pixel)
+
+-- the line of a finding of a rule that a named terminal asks for: the rule and its offset
+abbrev pub asked_line : AskedFinding → Text
+asked_line f = line (codes "broken") (name_of f.rule ∷ decimal f.place ∷ [])
 
 -- the line of a portable picture of this size: its width and its height
 abbrev pub size_line : ℕ → ℕ → Text
@@ -187,16 +209,32 @@ abbrev pub outcome_line : Outcome → Text
 outcome_line (PortableSize width height) = size_line width height
 outcome_line (BrokenRule finding) = finding_line finding
 
+-- the line of a verdict for named terminals
+abbrev pub named_verdict_line : NamedVerdict → Text
+named_verdict_line (verdict.Portable picture) = portable_line picture
+named_verdict_line (verdict.Broken finding) = finding_line finding
+named_verdict_line (verdict.Asked finding) = asked_line finding
+
+-- what a check says that ends so
+abbrev pub item_of : NamedOutcome → Item
+item_of (outcome.Portable width height) = item.Outcome (PortableSize width height)
+item_of (outcome.Broken finding) = item.Outcome (BrokenRule finding)
+item_of (outcome.Asked finding) = item.Asked finding
+
 -- ---- surveys
 
 -- the line of an entry: its rule, how often it counts, its offset and its pixel
 abbrev pub entry_line : Entry → Text
 entry_line e = line (rule_name e.rule) (decimal e.count ∷ decimal e.place ∷ pixel_parts e.rule e.pixel)
 
+-- the line of an entry of a rule that a named terminal asks for: its rule, how often it counts, and its offset
+abbrev pub asked_entry_line : AskedEntry → Text
+asked_entry_line e = line (name_of e.rule) (decimal e.count ∷ decimal e.place ∷ [])
+
 -- an item for each entry, and the size if the survey has one
-abbrev pub survey_items : Survey → List Item
+abbrev pub survey_items : NamedSurvey → List Item
 survey_items s =
-    map item.Entry s.entries.items
+    map item.Entry s.entries.items ++ map item.AskedEntry s.asked.items
     ++ map (λ size. item.Outcome (PortableSize size.0 size.1)) (option_to_list s.size)
 
 -- ---- strings of a stream
@@ -214,18 +252,59 @@ answer_line (scanned.Refused fault) = refusal_line fault
 abbrev pub string_line : Scanned → Text
 string_line s = decimal s.place ++ 32 ∷ answer_line s.answer
 
+-- ---- named terminals compared
+
+abbrev pub terminal_name : Named → Text
+terminal_name XTerm = codes "xterm"
+terminal_name MlTerm = codes "mlterm"
+terminal_name Foot = codes "foot"
+terminal_name Konsole = codes "konsole"
+
+-- the named terminals, in their order
+abbrev pub all_named : List Named
+all_named = XTerm ∷ MlTerm ∷ Foot ∷ Konsole ∷ []
+
+-- whether the terminal is one of these
+abbrev pub has_terminal : Terminals → Named → Bool
+has_terminal some XTerm = some.xterm
+has_terminal some MlTerm = some.mlterm
+has_terminal some Foot = some.foot
+has_terminal some Konsole = some.konsole
+
+-- these terminals, in their order
+abbrev pub terminals_in : Terminals → List Named
+terminals_in some = filter (has_terminal some) all_named
+
+-- the line of a group: the names of its members, and its pixel if it has one
+abbrev pub group_line : Group → Text
+group_line g =
+    line (terminal_name g.leader) (map terminal_name (terminals_in g.others) ++ column_and_row g.pixel)
+
+-- the line of a terminal whose model ends: its name, and the offset of the event at which it does
+abbrev pub unmodelled_line : Named → ℕ → Text
+unmodelled_line named place = line (terminal_name named) (codes "unmodelled" ∷ decimal place ∷ [])
+
+-- the line of equal screens: their width and their height
+abbrev pub same_line : ℕ → ℕ → Text
+same_line width height = line (codes "same") (numbers (width ∷ height ∷ []))
+
 -- ---- items
 
--- the line of what a check, a survey or a scan says
+-- the line of what a check, a survey, a scan or a comparison says
 abbrev pub item_line : Item → Text
 item_line (item.Outcome outcome) = outcome_line outcome
+item_line (item.Asked finding) = asked_line finding
 item_line (item.Entry entry) = entry_line entry
+item_line (item.AskedEntry entry) = asked_entry_line entry
 item_line (item.String s) = string_line s
+item_line (item.Same width height) = same_line width height
+item_line (item.Group group) = group_line group
+item_line (item.Unmodelled named place) = unmodelled_line named place
 
 -- the lines of the items, one after the other
 abbrev pub items_text : List Item → Text
 items_text items = flat_map item_line items
 
 -- the lines of a survey
-abbrev pub survey_text : Survey → Text
+abbrev pub survey_text : NamedSurvey → Text
 survey_text s = items_text (survey_items s)

@@ -1,5 +1,6 @@
 //! Why a run is refused.
 
+use sixel_differ::DifferFault;
 use sixel_grammar::{Fault, InputFault};
 use sixel_mend::MendFault;
 use sixel_models::ShowFault;
@@ -97,6 +98,22 @@ impl From<MendFault> for RunFault {
             MendFault::TooLarge => RunFault::TooLarge,
             MendFault::TooManyColours => RunFault::TooManyColours,
             MendFault::OutOfMemory => RunFault::OutOfMemory,
+        }
+    }
+}
+
+impl From<DifferFault> for RunFault {
+    ghost use Rattle.std.specs.Prelude.{◌≡◌};
+    ghost use Rattle.sixel_run.specs.Conversions.{of_differ};
+
+    ghost from_gives = { λ fault result. result ≡ of_differ fault };
+
+    fn from(fault: DifferFault) -> RunFault {
+        match fault {
+            DifferFault::Grammar(fault) => RunFault::Grammar(fault),
+            DifferFault::Empty => RunFault::Empty,
+            DifferFault::TooLarge => RunFault::TooLarge,
+            DifferFault::OutOfMemory => RunFault::OutOfMemory,
         }
     }
 }

@@ -1,27 +1,42 @@
-//! What one line of a check, a survey or a scan says.
+//! What one line of a check, a survey, a scan or a comparison says.
 
-ghost use Rattle.std.specs.Prelude.{◌≡◌, ◌+◌, ◌≤◌, length, map};
+ghost use Rattle.std.specs.Prelude.{◌≡◌, ◌+◌, ◌≤◌, ◌++◌, length, map};
 ghost use Rattle.arrayvec.specs.ArrayVec.{array_vec_len};
 ghost use Rattle.sixel_run.specs.declared.item.Item.TheVariants.{Entry as EntryItem};
-ghost use Rattle.sixel_run.specs.Texts.{item_line, survey_items};
+ghost use Rattle.sixel_run.specs.declared.item.Item.TheVariants.{AskedEntry as AskedItem};
+ghost use Rattle.sixel_run.specs.Texts.{item_line, item_of, survey_items};
 
-use crate::lines::{Line, outcome_line};
+use crate::differences::{Group, group_line, same_line, unmodelled_line};
+use crate::lines::{Line, asked_line, outcome_line};
 use crate::string_lines::{StringLine, string_line};
-use crate::survey_lines::entry_line;
+use crate::survey_lines::{asked_entry_line, entry_line};
 use arrayvec::ArrayVec;
+use sixel_asked::{AskedEntry, AskedFinding};
 use sixel_check::Outcome;
+use sixel_models::Named;
+use sixel_named::{NamedOutcome, NamedSurvey};
 use sixel_scan::Scanned;
-use sixel_survey::{Entry, Survey};
+use sixel_survey::Entry;
 
 /// What one line says.
 #[derive(Clone, Copy, Debug, PartialEq, Eq, Drop)]
 pub enum Item {
     /// What a check found, or the size of the picture that a survey found portable.
     Outcome(Outcome),
+    /// A rule that a check found broken and that a named terminal asks for.
+    Asked(AskedFinding),
     /// A rule that a survey found broken.
     Entry(Entry),
+    /// The same of a rule that a named terminal asks for.
+    AskedEntry(AskedEntry),
     /// A string that a scan found.
     String(Scanned),
+    /// All four named terminals show the same, on screens of these sides.
+    Same { width: u32, height: u32 },
+    /// Named terminals that show the same, if not all four do.
+    Group(Group),
+    /// A named terminal whose model ends at the event with this offset.
+    Unmodelled { named: Named, place: u64 },
 }
 
 /// What fills the room of an `ArrayVec` that isn't in use.
@@ -40,8 +55,13 @@ pub fn item_line(item: &Item) -> StringLine
 {
     match item {
         Item::Outcome(outcome) => widened(&outcome_line(outcome)),
+        Item::Asked(finding) => widened(&asked_line(finding)),
         Item::Entry(entry) => widened(&entry_line(entry)),
+        Item::AskedEntry(entry) => widened(&asked_entry_line(entry)),
         Item::String(scanned) => string_line(scanned),
+        Item::Same { width, height } => widened(&same_line(*width, *height)),
+        Item::Group(group) => widened(&group_line(group)),
+        Item::Unmodelled { named, place } => widened(&unmodelled_line(*named, *place)),
     }
 }
 
@@ -54,30 +74,57 @@ fn widened(line: &Line) -> StringLine
     wide
 }
 
-/// The items of a survey: at most 13 rules and a size.
-pub type Items = ArrayVec<Item, 14>;
+/// What a check found.
+pub(crate) fn item_of(outcome: &NamedOutcome) -> Item
+    ensures { result ≡ item_of outcome.now }
+{
+    match outcome {
+        NamedOutcome::Portable { width, height } => Item::Outcome(Outcome::Portable {
+            width: *width,
+            height: *height,
+        }),
+        NamedOutcome::Broken(finding) => Item::Outcome(Outcome::Broken(*finding)),
+        NamedOutcome::Asked(finding) => Item::Asked(*finding),
+    }
+}
+
+/// The items of a survey, at most 22 rules and a size, or of a comparison.
+pub type Items = ArrayVec<Item, 23>;
 
 /// The items of a survey: one for each entry, and the size if there is one.
-pub(crate) fn survey_items(survey: &Survey) -> Items
+pub(crate) fn survey_items(survey: &NamedSurvey) -> Items
     ensures items { result.items ≡ survey_items survey.now }
-    ensures few { array_vec_len result ≤ 14 }
+    ensures few { array_vec_len result ≤ 23 }
 {
-    let mut items = entry_items(survey.entries.as_slice());
+    let mut items = ArrayVec::new();
+    push_entries(&mut items, survey.entries.as_slice());
+    push_asked(&mut items, survey.asked.as_slice());
     if let Some((width, height)) = survey.size {
         items.push(Item::Outcome(Outcome::Portable { width, height }));
     }
     items
 }
 
-/// An item for each entry.
-fn entry_items(entries: &[Entry]) -> Items
-    requires { length entries.now ≤ 13 }
-    ensures items { result.items ≡ map EntryItem entries.now }
-    ensures few { array_vec_len result ≤ 13 }
+/// Appends an item for each entry.
+fn push_entries(items: &mut Items, entries: &[Entry])
+    requires room { array_vec_len items.old ≤ 0 }
+    requires few { length entries.now ≤ 13 }
+    ensures items { items.new.items ≡ items.old.items ++ map EntryItem entries.now }
+    ensures few { array_vec_len items.new ≤ 13 }
 {
-    let mut items = ArrayVec::new();
     for entry in entries {
         items.push(Item::Entry(*entry));
     }
-    items
+}
+
+/// The same for each entry of a rule that a named terminal asks for.
+fn push_asked(items: &mut Items, entries: &[AskedEntry])
+    requires room { array_vec_len items.old ≤ 13 }
+    requires few { length entries.now ≤ 9 }
+    ensures items { items.new.items ≡ items.old.items ++ map AskedItem entries.now }
+    ensures few { array_vec_len items.new ≤ 22 }
+{
+    for entry in entries {
+        items.push(Item::AskedEntry(*entry));
+    }
 }

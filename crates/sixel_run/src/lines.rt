@@ -4,16 +4,18 @@ ghost use Rattle.std.specs.Prelude.{◌≡◌, ◌+◌, ◌*◌, ◌≤◌, ◌+
 ghost use Rattle.arrayvec.specs.ArrayVec.{array_vec_len};
 ghost use Rattle.sixel_io.specs.Devices.{Writes};
 ghost use Rattle.sixel_run.specs.Texts.{event_line, event_parts, fault_line, finding_line, kind_name, numbers};
-ghost use Rattle.sixel_run.specs.Texts.{pixel_parts};
+ghost use Rattle.sixel_run.specs.Texts.{asked_line, named_rule_name, pixel_parts};
 ghost use Rattle.sixel_run.specs.Texts.{outcome_line, ppm_reason_name, reason_name, rule_name, spaced, verdict_line};
 
 use crate::fault::RunFault;
 use crate::survey_lines::size_line;
 use arrayvec::ArrayVec;
 use itoa::Buffer;
+use sixel_asked::AskedFinding;
 use sixel_check::{Finding, Outcome, Rule, Verdict};
 use sixel_grammar::{Command, Event, Placed, Reason};
 use sixel_io::{DeviceFault, Sink, put_all};
+use sixel_named::NamedRule;
 use sixel_ppm::PpmReason;
 
 /// A line, with its line feed: of an event at most 58 bytes, of a fault at most 46, of a verdict at most 82, of a
@@ -230,6 +232,17 @@ pub fn rule_name(rule: Rule) -> &'static str
     }
 }
 
+/// The name of a rule of portable pictures, or of one that named terminals ask for.
+pub fn named_rule_name(rule: NamedRule) -> &'static str
+    ensures text { result.now ≡ named_rule_name rule }
+    ensures short { length result.now ≤ 11 }
+{
+    match rule {
+        NamedRule::Portable(rule) => rule_name(rule),
+        NamedRule::Asked(rule) => rule.name(),
+    }
+}
+
 /// The column and the row of a pixel, if the rule names one.
 pub(crate) fn push_pixel(line: &mut Line, rule: Rule, pixel: Option<(u64, u64)>)
     requires { array_vec_len line.old ≤ 53 }
@@ -254,6 +267,18 @@ pub fn finding_line(finding: &Finding) -> Line
     push_all(&mut line, rule_name(finding.rule).as_bytes());
     push_number(&mut line, finding.place);
     push_pixel(&mut line, finding.rule, finding.pixel);
+    line.push(b'\n');
+    line
+}
+
+/// The line of a finding of a rule that a named terminal asks for.
+pub fn asked_line(finding: &AskedFinding) -> Line
+    ensures { result.items ≡ asked_line finding.now }
+{
+    let mut line = ArrayVec::new();
+    push_all(&mut line, b"broken ");
+    push_all(&mut line, finding.rule.name().as_bytes());
+    push_number(&mut line, finding.place);
     line.push(b'\n');
     line
 }

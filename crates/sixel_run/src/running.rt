@@ -7,6 +7,8 @@ ghost use Rattle.sixel_run.specs.Outputs.{CountsReads, CountsWrites, HasSides, T
 
 mod box_finder;
 mod check;
+mod differ;
+mod differ_sheet;
 mod draw;
 mod encode;
 mod kept;
@@ -17,10 +19,12 @@ mod mend;
 mod render;
 mod scan;
 mod screen;
+mod sheet;
 mod show;
 mod show_box;
 mod show_on;
 mod survey;
+mod viewed;
 mod watched;
 
 use crate::fault::RunFault;
@@ -62,7 +66,7 @@ pub fn run<S: Source, K: Sink>(
     }
 }
 
-/// Checks, surveys or scans, and writes each item by `put`. A check and a survey read into the caller's room, so a
+/// Checks, surveys, scans or compares, and writes each item by `put`. All but a scan read into the caller's room, so a
 /// caller with many inputs clears it once. It doesn't flush.
 pub fn write_lines<P: PutItem, S: Source, K: Sink>(
     alloc: Global,
@@ -77,10 +81,17 @@ pub fn write_lines<P: PutItem, S: Source, K: Sink>(
         (change (S.state input.old) (S.state input.new)) (change (K.state output.old) (K.state output.new)) }
 {
     match task {
-        Task::Check { profile } => check::check(alloc, profile, put, input, piece, output),
-        Task::Survey { profile } => survey::survey(alloc, profile, put, input, piece, output),
+        Task::Check { profile, terminals } => {
+            check::check(alloc, profile, terminals, put, input, piece, output)
+        }
+        Task::Survey { profile, terminals } => {
+            survey::survey(alloc, profile, terminals, put, input, piece, output)
+        }
         Task::Scan { profile, eight_bit } => {
             scan::scan(alloc, profile, eight_bit, put, input, output)
+        }
+        Task::Differ { background } => {
+            differ::differ(alloc, background, put, input, piece, output)
         }
         _ => unreachable!(),
     }
@@ -102,7 +113,7 @@ fn perform<S: Source, K: Sink>(
     ensures writes { CountsWrites result (K.state output.old).failures (K.state output.new).failures }
 {
     match task {
-        Task::Check { .. } | Task::Survey { .. } | Task::Scan { .. } => {
+        Task::Check { .. } | Task::Survey { .. } | Task::Scan { .. } | Task::Differ { .. } => {
             write_lines(alloc, task, &Plain, input, piece, output)
         }
         Task::List => list::list(input, piece, output),
@@ -143,5 +154,8 @@ fn perform<S: Source, K: Sink>(
             background,
             area,
         } => show_on::show_on(alloc, named, background, area, input, piece, output),
+        Task::DifferSheet { background } => {
+            differ_sheet::differ_sheet(alloc, background, input, piece, output)
+        }
     }
 }

@@ -1,9 +1,11 @@
 //! What a run does, and how it ends if it isn't refused.
 
 use crate::rule_set::RuleSet;
+use sixel_asked::{AskedFinding, Terminals};
 use sixel_check::Finding;
 use sixel_model::{Colour, Profile};
 use sixel_models::Named;
+use sixel_named::NamedFinding;
 
 /// The greatest side of a screen, in pixels.
 pub const MOST_SCREEN_SIDE: u32 = 4096;
@@ -27,12 +29,16 @@ pub enum Task {
     /// pixels, or `broken`, the first broken rule, its offset in bytes, and its pixel if it has one.
     Check {
         profile: Profile,
+        /// The rules that these terminals ask for count too.
+        terminals: Terminals,
     },
     /// A line for each rule that a sixel picture breaks, with the registers of the profile: the rule, how often it
     /// counts, the offset where it counts first, and its pixel there if it has one. Without a broken rule, the line of
     /// `Check`.
     Survey {
         profile: Profile,
+        /// As in `Check`.
+        terminals: Terminals,
     },
     /// A line for each sixel string of a stream, as a program writes it to a terminal: text, control sequences, several
     /// pictures. The line has the string's offset, and then what a check of its bytes by themselves says, with the
@@ -79,6 +85,16 @@ pub enum Task {
         background: Colour,
         area: Area,
     },
+    /// Which of the named terminals show a sixel string differently, and where first. Each screen has the size of the
+    /// mended picture, its height rounded up to whole bands of six rows.
+    Differ {
+        /// The colour of each screen before the picture.
+        background: Colour,
+    },
+    /// The same screens side by side, as a Netpbm PPM.
+    DifferSheet {
+        background: Colour,
+    },
     /// What one terminal shows of a sixel string, as a portable sixel picture with all of its paint. The terminal has
     /// 256 registers, which start as the 16 colours of a VT340, over and over.
     Mend {
@@ -116,12 +132,16 @@ pub enum Status {
     Noted(Note),
     /// The picture isn't portable: its first broken rule.
     Broken(Finding),
-    /// The same of a survey.
+    /// A named terminal may show the picture otherwise: its first broken rule is one that this terminal asks for.
+    Asked(AskedFinding),
+    /// The same of a survey: the first broken rule of those of portable pictures and those asked for.
     Surveyed {
-        first: Finding,
+        first: NamedFinding,
         /// The rules that it lists.
         rules: RuleSet,
     },
+    /// The named terminals don't all show the same, or the model of one doesn't say what it shows.
+    Differing,
     /// A string of the stream isn't portable.
     Unfit {
         /// A string of the stream, perhaps another, stands in the pass-through of tmux or GNU Screen.

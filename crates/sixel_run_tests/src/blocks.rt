@@ -1,6 +1,7 @@
 //! What one take of a list has, and the room of a check.
 
 use crate::runs::{Limits, run_counted};
+use sixel_asked::Terminals;
 use sixel_check::{Finding, Rule};
 use sixel_io::{Block, DeviceFault, PIECE, Sink, SliceSink, SliceSource};
 use sixel_model::Profile;
@@ -91,10 +92,22 @@ fn statuses(
     let mut room = [0u8; 64];
     let mut sink = SliceSink::new(&mut room, 64, None);
     let mut source = SliceSource::new(bytes, 5, None);
-    let own = run(alloc, Task::Check { profile }, &mut source, &mut sink);
+    let terminals = Terminals::none();
+    let own = run(
+        alloc,
+        Task::Check { profile, terminals },
+        &mut source,
+        &mut sink,
+    );
     let mut source = SliceSource::new(bytes, 64, None);
-    let task = Task::Check { profile };
-    let other = write_lines(alloc, task, &Plain, &mut source, piece, &mut sink);
+    let other = write_lines(
+        alloc,
+        Task::Check { profile, terminals },
+        &Plain,
+        &mut source,
+        piece,
+        &mut sink,
+    );
     (own, other)
 }
 

@@ -3,6 +3,7 @@
 ghost use Rattle.sixel_run.specs.Outputs.{HasSides};
 
 use crate::runs::mend_on_black;
+use sixel_asked::Terminals;
 use sixel_check::{Verdict, check};
 use sixel_grammar::InputFault;
 use sixel_io::{SliceSink, SliceSource};
@@ -70,6 +71,26 @@ fn ends(alloc: Global, task: Task, ended: Status, text: &[u8]) -> Option<bool>
     }
 }
 
+/// A check for no terminal.
+fn check_of(profile: Profile) -> Task
+    ensures { HasSides result }
+{
+    Task::Check {
+        profile,
+        terminals: Terminals::none(),
+    }
+}
+
+/// A survey for no terminal.
+fn survey_of(profile: Profile) -> Task
+    ensures { HasSides result }
+{
+    Task::Survey {
+        profile,
+        terminals: Terminals::none(),
+    }
+}
+
 /// A scan with 8-bit controls.
 fn scan_of(profile: Profile) -> Task
     ensures { HasSides result }
@@ -116,9 +137,9 @@ fn answer(alloc: Global, call: Call) -> Option<bool> {
         Call::BlankOfBands => is_made_blank::<BandPlane>(alloc),
         Call::ReadPpm(profile) => reads(alloc, profile),
         Call::Check(profile) => checks(alloc, profile),
-        Call::RunCheck(profile) => runs(alloc, Task::Check { profile }, b"portable 1 1\n"),
+        Call::RunCheck(profile) => runs(alloc, check_of(profile), b"portable 1 1\n"),
         Call::RunRender(profile) => runs(alloc, Task::Render { profile }, b"P6\n1 1\n100\n\0\0\0"),
-        Call::RunSurvey(profile) => runs(alloc, Task::Survey { profile }, b"portable 1 1\n"),
+        Call::RunSurvey(profile) => runs(alloc, survey_of(profile), b"portable 1 1\n"),
         Call::RunScan(profile) => runs(alloc, scan_of(profile), b"0 portable 1 1\n"),
         Call::RunMend(profile) => ends(
             alloc,

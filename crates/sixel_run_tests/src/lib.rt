@@ -2,9 +2,13 @@
 #![tactic(auto)]
 
 #[cfg(test)]
+mod asked;
+#[cfg(test)]
 mod at_limits;
 #[cfg(test)]
 mod blocks;
+#[cfg(test)]
+mod differs;
 #[cfg(test)]
 mod exhausted;
 #[cfg(test)]

@@ -2,6 +2,7 @@
 
 ghost use Rattle.sixel_run.specs.Outputs.{HasSides};
 
+use sixel_asked::Terminals;
 use sixel_check::{Verdict, check_bytes};
 use sixel_io::{SliceSink, SliceSource};
 use sixel_model::{Palette, Parts, Picture, Profile};
@@ -86,8 +87,12 @@ fn returns(alloc: Global, profile: Profile, width: u32, height: u32) -> Result<b
     let count = encode_into(alloc, profile, picture.as_slice(), &mut room).ok_or("no text")?;
     let text = room.get(..count).ok_or("the text")?;
     let line = format!(in alloc; "portable {width} {height}\n")?;
+    let check = Task::Check {
+        profile,
+        terminals: Terminals::none(),
+    };
     Ok(
-        sends(alloc, Task::Check { profile }, text, line.as_bytes())
+        sends(alloc, check, text, line.as_bytes())
             && sends(alloc, Task::Render { profile }, text, picture.as_slice()),
     )
 }

@@ -2,14 +2,24 @@
 
 ghost use Rattle.sixel_run.specs.Outputs.{HasSides};
 
+use sixel_asked::Terminals;
 use sixel_io::{SliceSink, SliceSource};
 use sixel_model::{Colour, Profile};
 use sixel_run::{RunFault, Status, Task, run};
 use sixel_test_devices::{Calls, CountingDevice};
 use std::alloc::Global;
 
+/// No named terminal.
+const NO_TERMINALS: Terminals = Terminals {
+    xterm: false,
+    mlterm: false,
+    foot: false,
+    konsole: false,
+};
+
 pub const CHECK: Task = Task::Check {
     profile: Profile::Registers16,
+    terminals: NO_TERMINALS,
 };
 
 pub const RENDER: Task = Task::Render {
@@ -18,6 +28,7 @@ pub const RENDER: Task = Task::Render {
 
 pub const SURVEY: Task = Task::Survey {
     profile: Profile::Registers16,
+    terminals: NO_TERMINALS,
 };
 
 /// Without 8-bit controls.
@@ -40,6 +51,7 @@ pub const SHOW_BOX: Task = Task::ShowBox {
 
 pub const WIDE_CHECK: Task = Task::Check {
     profile: Profile::Registers256,
+    terminals: NO_TERMINALS,
 };
 
 pub const WIDE_RENDER: Task = Task::Render {

@@ -4,6 +4,7 @@ use crate::in_turn::{Case, PIXEL, all_stop, checked, done, fault, refused};
 use crate::runs::{SURVEY, agrees, mend_on_black};
 use sixel_check::{Finding, Rule};
 use sixel_model::Profile;
+use sixel_named::{NamedFinding, NamedRule};
 use sixel_run::{Note, RuleSet, RunFault, Status, entry_line};
 use sixel_survey::Entry;
 use sixel_test_devices::filled;
@@ -14,7 +15,7 @@ use std::test::Fail;
 fn three_rules() -> RuleSet {
     let mut rules = RuleSet::new();
     for rule in [Rule::RasterFirst, Rule::RepeatZero, Rule::Unselected] {
-        rules.add(rule);
+        rules.add(NamedRule::Portable(rule));
     }
     rules
 }
@@ -30,7 +31,7 @@ fn three() -> Case {
         bytes: b"\x1bPq!0@!65535~\x1b\\",
         text: b"RasterFirst 3 3\nRepeatZero 1 3\nUnselected 2 3\n",
         answer: Ok(Status::Surveyed {
-            first,
+            first: NamedFinding::Portable(first),
             rules: three_rules(),
         }),
         calls: [(16, 46), (4, 10), (2, 1)],

@@ -7,39 +7,42 @@ ghost use Rattle.sixel_run.specs.LineTasks.{WritesItems};
 ghost use Rattle.sixel_run.specs.Outputs.{outcome_status};
 
 use crate::fault::RunFault;
-use crate::item::Item;
+use crate::item::item_of;
 use crate::put_item::PutItem;
 use crate::task::Status;
-use sixel_check::{Outcome, outcome_with};
+use sixel_asked::Terminals;
 use sixel_io::{PIECE, Sink, Source};
 use sixel_model::Profile;
+use sixel_named::{NamedOutcome, outcome_on};
 use std::alloc::Global;
 
 /// Reads the whole input, and puts the outcome. It doesn't flush.
 pub fn check<P: PutItem, S: Source, K: Sink>(
     alloc: Global,
     profile: Profile,
+    terminals: Terminals,
     put: &P,
     input: &mut S,
     piece: &mut [u8; PIECE],
     output: &mut K,
 ) -> Result<Status, RunFault>
-    ensures { WritesItems (Check profile) (P.written put.now) result
+    ensures { WritesItems (Check profile terminals) (P.written put.now) result
         (change (S.state input.old) (S.state input.new)) (change (K.state output.old) (K.state output.new)) }
 {
-    let outcome = outcome_with(alloc, profile, input, piece)?;
-    match put.put_item(&Item::Outcome(outcome), output) {
+    let outcome = outcome_on(alloc, profile, terminals, input, piece)?;
+    match put.put_item(&item_of(&outcome), output) {
         Ok(()) => Ok(status_of(&outcome)),
         Err(_) => Err(RunFault::Write),
     }
 }
 
-/// The status of an outcome: `Done` for a portable picture, `Broken` for a finding.
-fn status_of(outcome: &Outcome) -> Status
+/// The status of an outcome: `Done` for a portable picture, `Broken` or `Asked` for a finding.
+fn status_of(outcome: &NamedOutcome) -> Status
     ensures { result ≡ outcome_status outcome.now }
 {
     match outcome {
-        Outcome::Portable { .. } => Status::Done,
-        Outcome::Broken(finding) => Status::Broken(*finding),
+        NamedOutcome::Portable { .. } => Status::Done,
+        NamedOutcome::Broken(finding) => Status::Broken(*finding),
+        NamedOutcome::Asked(finding) => Status::Asked(*finding),
     }
 }

@@ -3,6 +3,7 @@
 ghost use Rattle.std.specs.Prelude.{◌≡◌, ◌≢◌, Err, IfErr, IfOk, IfSome};
 ghost use Rattle.sixel_grammar.specs.declared.fault.InputFault.TheVariants.{Read as ReadFault};
 ghost use Rattle.sixel_grammar.specs.Reading.{Explains, NoFaultBefore, failures_after};
+ghost use Rattle.sixel_io.specs.Devices.{ReadsToEnd};
 ghost use Rattle.sixel_mend.specs.Measuring.{HasMeasured};
 ghost use Rattle.sixel_model.specs.Profiles.{count_of};
 ghost use Rattle.sixel_run.specs.declared.fault.RunFault.TheVariants.{Read};
@@ -78,7 +79,7 @@ fn has_one_colour(picture: &Picture) -> bool
 
 /// Reads the source to its end. Returns the bytes of the document, if there is memory for them, and what they measure. It
 /// reads no piece after an invalid byte.
-fn read_document<S: Source>(
+pub fn read_document<S: Source>(
     alloc: Global,
     input: &mut S,
     piece: &mut [u8; PIECE],
@@ -88,6 +89,7 @@ fn read_document<S: Source>(
     ensures measured { IfOk result (λ document. IfSome document.0 (λ kept. HasMeasured document.1 kept.items)) }
     ensures told { IfOk result (λ document. IfSome (S.state input.old).remaining (HasMeasured document.1)) }
     ensures refused { IfErr result (λ fault. IfSome (S.state input.old).remaining (Explains fault)) }
+    ensures left { ReadsToEnd result (S.state input.old).remaining (S.state input.new).remaining }
     ensures memory { result ≢ Err InputFault.OutOfMemory }
     ensures failures { (S.state input.new).failures ≡ failures_after result (S.state input.old).failures }
     ensures unread { result ≡ Err ReadFault →

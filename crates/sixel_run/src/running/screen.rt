@@ -28,7 +28,7 @@ pub struct Shown {
 }
 
 /// The pixels of a screen, whose bytes begin with the percentages if they are RGB.
-struct ScreenPixels;
+pub struct ScreenPixels;
 
 impl ToRgbx<Pixel> for ScreenPixels {
     ghost rgbx = { λ _ ink. bytes_of ink };
@@ -50,7 +50,7 @@ fn are_rgb(pixels: &[Pixel]) -> bool
 }
 
 /// Whether the colour of each pixel is RGB.
-fn is_rgb_alone(screen: &Screen) -> bool
+pub fn is_rgb_alone(screen: &Screen) -> bool
     ensures { result ≡ are_rgb screen.now.colours }
 {
     are_rgb(screen.pixels())

@@ -5,28 +5,31 @@ ghost use Rattle.sixel_run.specs.declared.task.Task.TheVariants.{Survey as Surve
 ghost use Rattle.sixel_run.specs.LineTasks.{IsStatusOf, WritesItems};
 
 use crate::fault::RunFault;
+use crate::first_finding::first_of;
 use crate::item::survey_items;
 use crate::put_item::PutItem;
 use crate::rule_set::rules_of;
 use crate::task::Status;
+use sixel_asked::Terminals;
 use sixel_io::{PIECE, Sink, Source};
 use sixel_model::Profile;
-use sixel_survey::{Survey, survey_with};
+use sixel_named::{NamedSurvey, survey_on};
 use std::alloc::Global;
 
 /// Reads the whole input, and puts the items of its survey. It doesn't flush.
 pub fn survey<P: PutItem, S: Source, K: Sink>(
     alloc: Global,
     profile: Profile,
+    terminals: Terminals,
     put: &P,
     input: &mut S,
     piece: &mut [u8; PIECE],
     output: &mut K,
 ) -> Result<Status, RunFault>
-    ensures { WritesItems (Surveying profile) (P.written put.now) result
+    ensures { WritesItems (Surveying profile terminals) (P.written put.now) result
         (change (S.state input.old) (S.state input.new)) (change (K.state output.old) (K.state output.new)) }
 {
-    let survey = survey_with(alloc, profile, input, piece)?;
+    let survey = survey_on(alloc, profile, terminals, input, piece)?;
     let status = status_of(&survey);
     match put.put_items(survey_items(&survey).as_slice(), output) {
         Ok(()) => Ok(status),
@@ -35,12 +38,12 @@ pub fn survey<P: PutItem, S: Source, K: Sink>(
 }
 
 /// The status after a survey.
-fn status_of(survey: &Survey) -> Status
+fn status_of(survey: &NamedSurvey) -> Status
     ensures { IsStatusOf survey.now result }
 {
-    let Some(first) = survey.first() else {
+    let Some(first) = first_of(survey) else {
         return Status::Done;
     };
-    let rules = rules_of(survey.entries.as_slice());
+    let rules = rules_of(survey.entries.as_slice(), survey.asked.as_slice());
     Status::Surveyed { first, rules }
 }

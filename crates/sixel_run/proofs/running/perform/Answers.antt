@@ -1,5 +1,6 @@
 use Rattle.sixel_model.specs.Profiles.{count_of}
 use Rattle.sixel_ppm.specs.PpmReading.{NoPpmFaultBefore, ppm_read}
+use Rattle.sixel_run.specs.Differing.{DifferGives, sheet_output}
 use Rattle.sixel_run.specs.Outputs.{EncodeGives, MendGives, RenderGives, ShowBoxGives, ShowGives, mending}
 use Rattle.sixel_run.specs.Screens.{screen_terminal, show_choices, show_terminal}
 use Rattle.sixel_run.proofs.LineTaskLemmas.{plain_wrote}
@@ -70,3 +71,11 @@ returns-in-Show-clause-memory g c = rw c.in-Show.is c.show.ensures.memory
 
 pub returns-in-ShowBox-clause-memory : goal.returns-in-ShowBox-clause-memory
 returns-in-ShowBox-clause-memory g c = rw c.in-ShowBox.is c.show_box.ensures.memory
+
+pub returns-in-DifferSheet-clause-wrote : goal.returns-in-DifferSheet-clause-wrote
+returns-in-DifferSheet-clause-wrote g c =
+    rw c.in-DifferSheet.is
+    (unread (λ bytes. DifferGives sheet_output c.in-DifferSheet.background bytes)
+    (g.S.Source.state c.args.input.now).remaining (g.S.Source.state c.differ_sheet.new.input).remaining
+    (g.K.Sink.state c.args.output.now).taken (g.K.Sink.state c.differ_sheet.new.output).taken c.differ_sheet.result
+    c.differ_sheet.ensures.wrote c.differ_sheet.ensures.unread)

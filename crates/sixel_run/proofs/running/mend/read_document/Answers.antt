@@ -140,3 +140,17 @@ returns-in_err-count-clause-unread g c = λ is.
     let i = c.loop-kept.invariant in
     no_fault_before _ (g.S.Source.state c.loop-kept.input).remaining _ c.loop-kept.measurer.reader i.1.events i.0
     i.1.read i.2 c.in_err-count.ensures.bytes
+
+pub returns-in_err-feed-clause-left : goal.returns-in_err-feed-clause-left
+returns-in_err-feed-clause-left g c =
+    let i = c.loop-kept.invariant in
+    let exit = c.from_residual-in_err-feed in
+    let failed = err_from_is_err_and exit.result exit.ensures.1 in
+    rw (failed.1, failed.2)
+    (record {
+      read = (
+        i.0 ++ take c.in_ok-count.count c.fill.new.piece,
+        consumes-then _ _ _ i.0 (take c.in_ok-count.count c.fill.new.piece) i.2 c.in_ok-count.ensures.bytes.0,
+      );
+      ended = tt;
+    })

@@ -12,7 +12,7 @@ pub returns-in-Ok : goal.returns-in-Ok
 returns-in-Ok g c =
     let survey = c.in_ok-survey.survey in
     lines_put _ _ _ refl _ _ _ _ _ _
-    (surveyed _ (g.S.Source.state c.args.input.now).remaining survey _ c.in_ok-survey.ensures.answer
+    (surveyed _ _ (g.S.Source.state c.args.input.now).remaining survey _ c.in_ok-survey.ensures.answer
     c.status_of-status.ensures)
     c.in_ok-survey.ensures.left c.in_ok-survey.ensures.failures _ _
     (rw (c.as_slice.ensures.value, c.survey_items.ensures.items) at c.in-Ok.ensures)
@@ -21,7 +21,7 @@ pub returns-in-Err : goal.returns-in-Err
 returns-in-Err g c =
     let survey = c.in_ok-survey.survey in
     lines_cut _ _ _ refl _ _ _ _ _ _
-    (surveyed _ (g.S.Source.state c.args.input.now).remaining survey _ c.in_ok-survey.ensures.answer
+    (surveyed _ _ (g.S.Source.state c.args.input.now).remaining survey _ c.in_ok-survey.ensures.answer
     c.status_of-status.ensures)
     c.in_ok-survey.ensures.left c.in_ok-survey.ensures.failures _ _
     (rw (c.as_slice.ensures.value, c.survey_items.ensures.items) at c.in-Err.ensures)
@@ -32,7 +32,7 @@ returns-in_err-survey g c =
     let told = (g.S.Source.state c.args.input.now).remaining in
     let e = c.in_err-survey.ensures in
     rw (failed.1, failed.2)
-    (lines_refused _ (Survey c.args.profile) refl _ c.in_err-survey.field-0.0 _ _
-    (refused_if (SurveyGives (count_of c.args.profile)) told _ c.in_err-survey.field-0.0 (λ bytes f is. (refl, is))
+    (lines_refused _ (Survey c.args.profile c.args.terminals) refl _ c.in_err-survey.field-0.0 _ _
+    (refused_if (SurveyGives (count_of c.args.profile) c.args.terminals) told _ c.in_err-survey.field-0.0 (λ bytes f is. (refl, is))
     e.answer (λ is. e.unread (rw is refl)))
     (grown _ _ told c.in_err-survey.field-0.0 _ _ e.memory refl refl) e.left e.failures)

@@ -1,10 +1,10 @@
-use Rattle.std.proofs.Common.{◌≡◌, ◌≤◌, map, take}
+use Rattle.std.proofs.Common.{◌≡◌, ◌≤◌, ◌++◌, map, take}
 use Rattle.arrayvec.specs.ArrayVec.{array_vec_len}
 use Rattle.sixel_run.specs.declared.item.Item.TheVariants.{Entry}
-use Rattle.sixel_run.proofs.item.entry_items.Given as goal
+use Rattle.sixel_run.proofs.item.push_entries.Given as goal
 
 abbrev pub invariant-loop-entry : goal.invariant-loop-entry
 invariant-loop-entry l = record {
-  items : l.items.items ≡ map Entry (take l.entry-index l.entries);
+  items : l.items.items ≡ l.initial.items.items ++ map Entry (take l.entry-index l.entries);
   few : array_vec_len l.items ≤ l.entry-index;
 }
