@@ -17,6 +17,8 @@ use Rattle.std.proofs.lemmas.List.Folds.{list_any-append}
 use Rattle.std.proofs.lemmas.List.Elements.{All-contains}
 use Rattle.std.proofs.lemmas.List.Splits.{slice_split-cons_no}
 use Rattle.std.proofs.lemmas.Slice.Eq.{ends_is}
+use Rattle.sixel_asked.specs.Names.{name_of}
+use Rattle.sixel_asked.specs.declared.asking.AskedFinding.{AskedFinding}
 use Rattle.sixel_model.specs.declared.rule.Rule.{Rule as ARule}
 use Rattle.sixel_model.specs.declared.rule.Rule.TheVariants as rule
 use Rattle.sixel_judge.specs.declared.verdict.Finding.{Finding}
@@ -24,7 +26,8 @@ use Rattle.sixel_grammar.specs.declared.fault.Reason.TheVariants.{Truncated}
 use Rattle.sixel_ppm.specs.declared.ppm.PpmReason.TheVariants as ppm
 use Rattle.sixel_run.specs.declared.fault.RunFault.{RunFault}
 use Rattle.sixel_run.specs.declared.fault.RunFault.TheVariants as fault
-use Rattle.sixel_run.specs.Texts.{Text, fault_parts, finding_line, line, pixel_parts, rule_name, spaced}
+use Rattle.sixel_run.specs.Texts.{Text, asked_line, fault_parts, finding_line, line, pixel_parts}
+use Rattle.sixel_run.specs.Texts.{rule_name, spaced}
 use Rattle.sixel_run.proofs.DigitLemmas.{AreDigits, number, number_digits}
 use Rattle.sixel_explain.specs.declared.explanations.Topic.{Topic}
 use Rattle.sixel_explain.specs.declared.explanations.Topic.TheVariants as topic
@@ -477,22 +480,23 @@ two_numbers rule.Uncovered None = inl refl
 two_numbers rule.Uncovered (Some p) = inr (p.0, p.1, refl)
 two_numbers _ pixel = inl refl
 
-finding_named : (text : Text) (r : ARule) (place : ℕ) (pixel : List Text)
+-- a name, an offset, and the numbers of a pixel or none
+numbers_named : (text : Text) (t : Topic) (place : ℕ) (pixel : List Text)
     → (pixel ≡ []) ⊎ ((x : ℕ) × (y : ℕ) × (pixel ≡ decimal x ∷ decimal y ∷ []))
-    → names_in (text ++ spaced (map low (rule_name r ∷ decimal place ∷ pixel))) ≡ Some (rule_name r ∷ [])
-finding_named text r place pixel (inl none) =
-    ap (λ (p : List Text). names_in (text ++ spaced (map low (rule_name r ∷ decimal place ∷ p)))) none
-    ∙ ap (λ (d : Text). names_in (text ++ spaced (low (rule_name r) ∷ d ∷ []))) (low_number place)
-    ∙ name_before_number text (topic.Rule r) [] place (number_nameless place, tt)
-finding_named text r place pixel (inr one) =
-    let name = low (rule_name r) in
-    ap (λ (p : List Text). names_in (text ++ spaced (map low (rule_name r ∷ decimal place ∷ p)))) one.2
+    → names_in (text ++ spaced (map low (topic_name t ∷ decimal place ∷ pixel))) ≡ Some (topic_name t ∷ [])
+numbers_named text t place pixel (inl none) =
+    ap (λ (p : List Text). names_in (text ++ spaced (map low (topic_name t ∷ decimal place ∷ p)))) none
+    ∙ ap (λ (d : Text). names_in (text ++ spaced (low (topic_name t) ∷ d ∷ []))) (low_number place)
+    ∙ name_before_number text t [] place (number_nameless place, tt)
+numbers_named text t place pixel (inr one) =
+    let name = low (topic_name t) in
+    ap (λ (p : List Text). names_in (text ++ spaced (map low (topic_name t ∷ decimal place ∷ p)))) one.2
     ∙ ap (λ (d : Text). names_in (text ++ spaced (name ∷ d ∷ low (decimal one.0) ∷ low (decimal one.1) ∷ [])))
     (low_number place)
     ∙ ap (λ (d : Text). names_in (text ++ spaced (name ∷ decimal place ∷ d ∷ low (decimal one.1) ∷ [])))
     (low_number one.0)
     ∙ ap (λ (d : Text). names_in (text ++ spaced (name ∷ decimal place ∷ decimal one.0 ∷ d ∷ []))) (low_number one.1)
-    ∙ name_before_number text (topic.Rule r) (decimal place ∷ decimal one.0 ∷ []) one.1
+    ∙ name_before_number text t (decimal place ∷ decimal one.0 ∷ []) one.1
     (number_nameless place, (number_nameless one.0, (number_nameless one.1, tt)))
 
 pub line_after : (before first : Text) (parts : List Text) → before ++ line first parts ≡ line (before ++ first) parts
@@ -508,5 +512,15 @@ finding_pasted before f said are =
     ap names_in
     (pasted said (before ++ codes "broken") parts
     (are ∙ ap (λ (t : Text). 32 ∷ t) (line_after before (codes "broken") parts)))
-    ∙ finding_named (low (32 ∷ (before ++ codes "broken"))) f.rule f.place (pixel_parts f.rule f.pixel)
+    ∙ numbers_named (low (32 ∷ (before ++ codes "broken"))) (topic.Rule f.rule) f.place (pixel_parts f.rule f.pixel)
     (two_numbers f.rule f.pixel)
+
+-- the same of a rule that a named terminal asks for
+pub asked_pasted : (before : Text) (f : AskedFinding) (said : List Text) → ArePasted said (before ++ asked_line f)
+    → names_in (line_of said) ≡ Some (name_of f.rule ∷ [])
+asked_pasted before f said are =
+    let parts = name_of f.rule ∷ decimal f.place ∷ [] in
+    ap names_in
+    (pasted said (before ++ codes "broken") parts
+    (are ∙ ap (λ (t : Text). 32 ∷ t) (line_after before (codes "broken") parts)))
+    ∙ numbers_named (low (32 ∷ (before ++ codes "broken"))) (topic.Asked f.rule) f.place [] (inl refl)

@@ -2,6 +2,7 @@
 use Rattle.std.proofs.Common.{◌≡◌, ◌∙◌, ◌++◌, ◌==◌, ◌≤◌, ap, arith, drop, length, refl, subst, sym, take-append-drop}
 use Rattle.std.specs.Io.{StartsWith}
 use Rattle.std.specs.List.{after_first, before_first}
+use Rattle.sixel_asked.specs.declared.rule.AskedRule.TheVariants as asked
 use Rattle.sixel_grammar.specs.declared.fault.Reason.TheVariants as reason
 use Rattle.sixel_model.specs.declared.rule.Rule.TheVariants as rule
 use Rattle.sixel_ppm.specs.declared.ppm.PpmReason.TheVariants as ppm
@@ -17,6 +18,7 @@ cut text = before_first (λ byte. byte == 10) (after_first (λ byte. byte == 32)
 -- no name has a space; the last clause stands for each other topic
 cut_line : (t : Topic) (rest : Text) → cut (first_line t ++ rest) ≡ summary t
 cut_line (topic.Rule rule.RasterFirst) rest = refl
+cut_line (topic.Asked asked.RasterLate) rest = refl
 cut_line (topic.Grammar reason.NotSixel) rest = refl
 cut_line (topic.Ppm ppm.Header) rest = refl
 cut_line t rest = refl
@@ -29,6 +31,7 @@ cut_explanation t text starts =
 
 pub is_short : (t : Topic) → length (summary t) ≤ 69
 is_short (topic.Rule rule.RasterFirst) = omega arith
+is_short (topic.Asked asked.RasterLate) = omega arith
 is_short (topic.Grammar reason.NotSixel) = omega arith
 is_short (topic.Ppm ppm.Header) = omega arith
 is_short t = omega arith

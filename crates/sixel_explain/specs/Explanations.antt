@@ -7,6 +7,10 @@ use Rattle.std.specs.List.{concat, ends_with, list_any, slice_split}
 use Rattle.std.specs.Option.{option_and_then, option_or}
 use Rattle.std.specs.Str.{bytes_eq, str_to_ascii_lowercase}
 use Rattle.strsim.specs.Edits.{osa_table}
+use Rattle.sixel_asked.specs.Counts.{in_order}
+use Rattle.sixel_asked.specs.Names.{name_of}
+use Rattle.sixel_asked.specs.declared.rule.AskedRule.TheVariants.{RasterLate, Dropped, Stale, Large, Rows, Past, Hue}
+use Rattle.sixel_asked.specs.declared.rule.AskedRule.TheVariants.{Far, Mixed}
 use Rattle.sixel_grammar.specs.declared.fault.Reason.TheVariants.{NotSixel, BadByte, NumberTooLarge, FieldCount}
 use Rattle.sixel_grammar.specs.declared.fault.Reason.TheVariants.{BadRepeat, BadTerminator, Truncated, TooLong}
 use Rattle.sixel_grammar.specs.declared.fault.Reason.TheVariants.{Trailing}
@@ -17,9 +21,9 @@ use Rattle.sixel_model.specs.Rules.{all_rules}
 use Rattle.sixel_ppm.specs.declared.ppm.PpmReason.TheVariants.{Header, Size, Maxval, Sample, Short, TooManyColours}
 use Rattle.sixel_ppm.specs.declared.ppm.PpmReason.TheVariants.{Trailing as PpmTrailing}
 use Rattle.sixel_explain.specs.declared.explanations.Topic.{Topic}
-use Rattle.sixel_explain.specs.declared.explanations.Topic.TheVariants.{Rule, Grammar, Ppm, NotRgb, NoBox, OutOfMemory}
-use Rattle.sixel_explain.specs.declared.explanations.Topic.TheVariants.{Unmodelled, NoString, Empty, TooLarge, Read}
-use Rattle.sixel_explain.specs.declared.explanations.Topic.TheVariants.{Write}
+use Rattle.sixel_explain.specs.declared.explanations.Topic.TheVariants.{Rule, Asked, Grammar, Ppm, NotRgb, NoBox}
+use Rattle.sixel_explain.specs.declared.explanations.Topic.TheVariants.{Unmodelled, NoString, Empty, TooLarge}
+use Rattle.sixel_explain.specs.declared.explanations.Topic.TheVariants.{OutOfMemory, Read, Write}
 use Rattle.sixel_run.specs.declared.fault.RunFault.{RunFault}
 use Rattle.sixel_run.specs.declared.fault.RunFault.TheVariants as fault
 use Rattle.sixel_run.specs.Texts.{Text, ppm_reason_name, reason_name, rule_name}
@@ -27,6 +31,7 @@ use Rattle.sixel_run.specs.Texts.{Text, ppm_reason_name, reason_name, rule_name}
 -- the name of a topic; for a rule and for a reason it is the name in the line of `check` or of a fault
 abbrev pub topic_name : Topic → Text
 topic_name (Rule rule) = rule_name rule
+topic_name (Asked rule) = name_of rule
 topic_name (Grammar reason) = reason_name reason
 topic_name (Ppm reason) = ppm_reason_name reason
 topic_name NotRgb = codes "NotRgb"
@@ -57,6 +62,10 @@ topic_of fault.Write = Write
 abbrev pub rules : List Topic
 rules = map Rule all_rules
 
+-- the rules that named terminals ask for, in order of number
+abbrev pub asked_rules : List Topic
+asked_rules = map Asked in_order
+
 abbrev pub refusals_of_text : List Topic
 refusals_of_text = Grammar NotSixel ∷ Grammar BadByte ∷ Grammar NumberTooLarge ∷ Grammar FieldCount ∷ Grammar BadRepeat
     ∷ Grammar BadTerminator ∷ Grammar Truncated ∷ Grammar TooLong ∷ Grammar Trailing ∷ []
@@ -72,7 +81,7 @@ refusals_of_runs =
 
 -- the listed topics, in this order
 abbrev pub listed : List Topic
-listed = rules ++ refusals_of_text ++ refusals_of_pictures ++ refusals_of_runs
+listed = rules ++ asked_rules ++ refusals_of_text ++ refusals_of_pictures ++ refusals_of_runs
 
 abbrev pub listed_names : List Text
 listed_names = map topic_name listed
@@ -92,6 +101,15 @@ summary (Rule Redefined) = codes "a different colour for a register already pain
 summary (Rule Outside) = codes "a set bit outside the box"
 summary (Rule Uncovered) = codes "a pixel of the box that no set bit covers, at the terminator"
 summary (Rule EightBit) = codes "the byte 90 as the introducer, or 9C as the terminator"
+summary (Asked RasterLate) = codes "raster attributes after a selection or a definition"
+summary (Asked Dropped) = codes "a return right after a selection, definition or raster attributes"
+summary (Asked Stale) = codes "painting in a colour that came after the selection"
+summary (Asked Large) = codes "a width or height above 1,000"
+summary (Asked Rows) = codes "a height that is no multiple of six"
+summary (Asked Past) = codes "blanks right of the box or below it"
+summary (Asked Hue) = codes "a colour of hue, lightness and saturation"
+summary (Asked Far) = codes "sixels far outside the box, with or without a set bit"
+summary (Asked Mixed) = codes "an introducer whose second number is 5"
 summary (Grammar NotSixel) = codes "input that doesn't start like a sixel string"
 summary (Grammar BadByte) = codes "unexpected byte"
 summary (Grammar NumberTooLarge) = codes "a number above 65,535"
@@ -112,8 +130,8 @@ summary NotRgb = codes "a colour of hue, lightness and saturation that would app
 summary NoBox = codes "a text that declares no box of a possible screen size"
 summary Unmodelled = codes "a command that the model of the named terminal doesn't cover"
 summary NoString = codes "input to scan that has no sixel string"
-summary Empty = codes "a text to mend that paints nothing and declares no width or no height"
-summary TooLarge = codes "a text to mend whose picture has a side above 2,048"
+summary Empty = codes "a text that paints nothing and declares no width or no height"
+summary TooLarge = codes "a text for mend or differ whose picture has a side above 2,048"
 summary OutOfMemory = codes "an allocation failed"
 summary Read = codes "input that couldn't be opened or read"
 summary Write = codes "output that couldn't be written"

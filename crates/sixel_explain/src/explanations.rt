@@ -6,9 +6,11 @@ ghost use Rattle.std.specs.Str.{str_to_ascii_lowercase};
 ghost use Rattle.sixel_explain.specs.Explanations.{IsExplanation, summary, topic_name, topic_of};
 ghost use Rattle.sixel_explain.specs.declared.explanations.Topic.{Topic as ATopic};
 
+use crate::asked_rules::{asked_rule_named, of_asked_rule};
 use crate::refusals;
 use crate::refusals::{of_ppm_reason, of_reason, ppm_reason_named, reason_named};
 use crate::rules::{of_rule, rule_named};
+use sixel_asked::AskedRule;
 use sixel_check::Rule;
 use sixel_grammar::Reason;
 use sixel_ppm::PpmReason;
@@ -18,6 +20,8 @@ use sixel_run::{RunFault, ppm_reason_name, reason_name, rule_name};
 #[derive(Clone, Copy, Debug, PartialEq, Eq, Drop)]
 pub enum Topic {
     Rule(Rule),
+    /// A rule that a named terminal asks for.
+    Asked(AskedRule),
     /// Why bytes are no sixel document.
     Grammar(Reason),
     /// Why bytes are no PPM.
@@ -44,6 +48,7 @@ pub fn topic_name(topic: Topic) -> &'static str
 {
     match topic {
         Topic::Rule(rule) => rule_name(rule),
+        Topic::Asked(rule) => rule.name(),
         Topic::Grammar(reason) => reason_name(reason),
         Topic::Ppm(reason) => ppm_reason_name(reason),
         Topic::NotRgb => "NotRgb",
@@ -86,21 +91,24 @@ pub(crate) fn topic_named(name: &str) -> Option<Topic>
 {
     match rule_named(name) {
         Some(rule) => Some(Topic::Rule(rule)),
-        None => match reason_named(name) {
-            Some(reason) => Some(Topic::Grammar(reason)),
-            None => match ppm_reason_named(name) {
-                Some(reason) => Some(Topic::Ppm(reason)),
-                None => match name {
-                    "notrgb" => Some(Topic::NotRgb),
-                    "nobox" => Some(Topic::NoBox),
-                    "unmodelled" => Some(Topic::Unmodelled),
-                    "nostring" => Some(Topic::NoString),
-                    "empty" => Some(Topic::Empty),
-                    "toolarge" => Some(Topic::TooLarge),
-                    "outofmemory" => Some(Topic::OutOfMemory),
-                    "read" => Some(Topic::Read),
-                    "write" => Some(Topic::Write),
-                    _ => None,
+        None => match asked_rule_named(name) {
+            Some(rule) => Some(Topic::Asked(rule)),
+            None => match reason_named(name) {
+                Some(reason) => Some(Topic::Grammar(reason)),
+                None => match ppm_reason_named(name) {
+                    Some(reason) => Some(Topic::Ppm(reason)),
+                    None => match name {
+                        "notrgb" => Some(Topic::NotRgb),
+                        "nobox" => Some(Topic::NoBox),
+                        "unmodelled" => Some(Topic::Unmodelled),
+                        "nostring" => Some(Topic::NoString),
+                        "empty" => Some(Topic::Empty),
+                        "toolarge" => Some(Topic::TooLarge),
+                        "outofmemory" => Some(Topic::OutOfMemory),
+                        "read" => Some(Topic::Read),
+                        "write" => Some(Topic::Write),
+                        _ => None,
+                    },
                 },
             },
         },
@@ -132,6 +140,7 @@ pub fn explanation(topic: Option<Topic>) -> &'static str
     match topic {
         None => LIST,
         Some(Topic::Rule(rule)) => of_rule(rule),
+        Some(Topic::Asked(rule)) => of_asked_rule(rule),
         Some(Topic::Grammar(reason)) => of_reason(reason),
         Some(Topic::Ppm(reason)) => of_ppm_reason(reason),
         Some(Topic::NotRgb) => refusals::NOT_RGB,
@@ -159,6 +168,15 @@ Redefined: a different colour for a register already painted in
 Outside: a set bit outside the box
 Uncovered: a pixel of the box that no set bit covers, at the terminator
 EightBit: the byte 90 as the introducer, or 9C as the terminator
+RasterLate: raster attributes after a selection or a definition
+Dropped: a return right after a selection, definition or raster attributes
+Stale: painting in a colour that came after the selection
+Large: a width or height above 1,000
+Rows: a height that is no multiple of six
+Past: blanks right of the box or below it
+Hue: a colour of hue, lightness and saturation
+Far: sixels far outside the box, with or without a set bit
+Mixed: an introducer whose second number is 5
 NotSixel: input that doesn't start like a sixel string
 BadByte: unexpected byte
 NumberTooLarge: a number above 65,535
@@ -178,8 +196,8 @@ NotRgb: a colour of hue, lightness and saturation that would appear in a PPM
 NoBox: a text that declares no box of a possible screen size
 Unmodelled: a command that the model of the named terminal doesn't cover
 NoString: input to scan that has no sixel string
-Empty: a text to mend that paints nothing and declares no width or no height
-TooLarge: a text to mend whose picture has a side above 2,048
+Empty: a text that paints nothing and declares no width or no height
+TooLarge: a text for mend or differ whose picture has a side above 2,048
 OutOfMemory: an allocation failed
 Read: input that couldn't be opened or read
 Write: output that couldn't be written

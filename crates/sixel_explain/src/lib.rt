@@ -1,6 +1,7 @@
 //! What `explain` says of each rule and each refusal, and which of them words ask for.
 #![tactic(auto)]
 
+mod asked_rules;
 mod explanations;
 pub mod laws;
 mod lines;

@@ -192,7 +192,7 @@ fn edits(alloc: Global, name: &str, word: &str) -> Result<usize, AllocError>
 }
 
 /// The listed names.
-const NAMES: [&str; 37] = [
+const NAMES: [&str; 46] = [
     "RasterFirst",
     "RasterTwice",
     "Ratio",
@@ -206,6 +206,15 @@ const NAMES: [&str; 37] = [
     "Outside",
     "Uncovered",
     "EightBit",
+    "RasterLate",
+    "Dropped",
+    "Stale",
+    "Large",
+    "Rows",
+    "Past",
+    "Hue",
+    "Far",
+    "Mixed",
     "NotSixel",
     "BadByte",
     "NumberTooLarge",

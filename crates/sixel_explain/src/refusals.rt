@@ -316,12 +316,11 @@ terminal. If it writes the bytes 90 and 9C in place of ESC P and ESC \\, give
 --eight-bit. What a multiplexer such as tmux wraps has to be unwrapped first.
 ";
 
-pub const EMPTY: &str =
-    "Empty: a text to mend that paints nothing and declares no width or no height
+pub const EMPTY: &str = "Empty: a text that paints nothing and declares no width or no height
 
-Refused: mend needs a picture of at least one pixel. A text without raster
-attributes, or with a width or a height of 0 in them, has one only if a bit is
-set. Nothing is written.
+Refused: mend and differ need a picture of at least one pixel. A text without
+raster attributes, or with a width or a height of 0 in them, has one only if a
+bit is set. Nothing is written.
 
 String: ESC P q ESC \\
 Output of mend: sixel: Empty
@@ -329,10 +328,11 @@ Output of mend: sixel: Empty
 Fix: look at what the text should show; it paints nothing.
 ";
 
-pub const TOO_LARGE: &str = "TooLarge: a text to mend whose picture has a side above 2,048
+pub const TOO_LARGE: &str =
+    "TooLarge: a text for mend or differ whose picture has a side above 2,048
 
-Refused: mend makes a picture as large as the declared box and as what is
-painted need, but no side may be above 2,048. Nothing is written.
+Refused: the picture of mend and of differ is as large as the declared box and
+as what is painted need, but no side may be above 2,048. Nothing is written.
 
 String: ESC P q \"1;1;2049;1 ESC \\
 Output of mend: sixel: TooLarge

@@ -1,0 +1,166 @@
+//! The explanation of each rule that a named terminal asks for. docs/RULES.md has the same text.
+
+ghost use Rattle.std.specs.Prelude.{◌≡◌, IfSome, IsNone};
+ghost use Rattle.std.specs.Io.{StartsWith};
+ghost use Rattle.std.specs.Str.{str_to_ascii_lowercase};
+ghost use Rattle.sixel_asked.specs.Names.{name_of};
+ghost use Rattle.sixel_asked.specs.declared.rule.AskedRule.{AskedRule as AnAskedRule};
+ghost use Rattle.sixel_explain.specs.declared.explanations.Topic.TheVariants as topic;
+ghost use Rattle.sixel_explain.specs.Explanations.{first_line};
+
+use sixel_asked::AskedRule;
+
+/// The rule whose name this is in small letters.
+pub fn asked_rule_named(name: &str) -> Option<AskedRule>
+    ensures found { IfSome result (λ rule. str_to_ascii_lowercase (name_of rule) ≡ name.now) }
+    ensures none { IsNone result → (rule : AnAskedRule) → str_to_ascii_lowercase (name_of rule) ≡ name.now → ⊥ }
+{
+    match name {
+        "rasterlate" => Some(AskedRule::RasterLate),
+        "dropped" => Some(AskedRule::Dropped),
+        "stale" => Some(AskedRule::Stale),
+        "large" => Some(AskedRule::Large),
+        "rows" => Some(AskedRule::Rows),
+        "past" => Some(AskedRule::Past),
+        "hue" => Some(AskedRule::Hue),
+        "far" => Some(AskedRule::Far),
+        "mixed" => Some(AskedRule::Mixed),
+        _ => None,
+    }
+}
+
+/// Which terminal asks for the rule, what breaks it, what the terminal does then, a string that breaks it, how to fix
+/// it, and what `mend` does with it.
+pub fn of_asked_rule(rule: AskedRule) -> &'static str
+    ensures { StartsWith result.now (first_line (topic.Asked rule)) }
+{
+    match rule {
+        AskedRule::RasterLate => RASTER_LATE,
+        AskedRule::Dropped => DROPPED,
+        AskedRule::Stale => STALE,
+        AskedRule::Large => LARGE,
+        AskedRule::Rows => ROWS,
+        AskedRule::Past => PAST,
+        AskedRule::Hue => HUE,
+        AskedRule::Far => FAR,
+        AskedRule::Mixed => MIXED,
+    }
+}
+
+const RASTER_LATE: &str = "RasterLate: raster attributes after a selection or a definition
+
+Broken on konsole by the first raster attributes, if a selection or a definition
+comes before them. konsole ignores such raster attributes. It fills at least 30
+columns with register 0, over what is right of the box.
+
+String: ESC P q #0;2;0;0;0\"1;1;1;6#0~ ESC \\
+Output of check --on konsole: broken RasterLate 13
+
+Fix: write raster attributes right after the introducer, as sixel mend does.
+";
+
+const DROPPED: &str = "Dropped: a return right after a selection, definition or raster attributes
+
+Broken on konsole by a return or a new line right after a selection, a
+definition or raster attributes, also with a line feed or a space between.
+konsole drops the command before the return. In this string the definition has
+no effect, and the pixels aren't red.
+
+String: ESC P q \"1;1;1;6#1;2;100;0;0$#1~ ESC \\
+Output of check --on konsole: broken Dropped 23
+
+Fix: write a selection after each definition and after raster attributes, and
+sixels after the selection, as sixel mend does.
+";
+
+const STALE: &str = "Stale: painting in a colour that came after the selection
+
+Broken on foot by a command that paints in a known register, if the last
+definition of the register gives another colour than it had when a register was
+last selected, or if it had none then. foot paints in the colour that the
+register had when it was selected. This string shows black pixels instead of red
+ones.
+
+String: ESC P q \"1;1;1;6#1#1;2;100;0;0~ ESC \\
+Output of check --on foot: broken Stale 25
+
+Fix: define before you select, as sixel mend does; or select again after a
+definition.
+";
+
+const LARGE: &str = "Large: a width or height above 1,000
+
+Broken on xterm by raster attributes with a width or height above 1,000. xterm
+draws nothing of the picture.
+
+String: ESC P q \"1;1;1001;1#0;2;0;0;0#0!1001@ ESC \\
+Output of check --on xterm: broken Large 3
+
+Fix: scale the picture down, or cut it into several strings. sixel mend keeps
+its size. Or start xterm with -xrm 'XTerm*maxGraphicSize: 2048x2048': then it
+draws the picture, and the rule doesn't matter.
+";
+
+const ROWS: &str = "Rows: a height that is no multiple of six
+
+Broken on konsole by raster attributes whose height is no multiple of six.
+konsole fills the rows below the box with register 0, up to the next multiple of
+six.
+
+String: ESC P q \"1;1;1;1#0;2;0;0;0#0@ ESC \\
+Output of check --on konsole: broken Rows 3
+
+Fix: make the height a multiple of six. sixel mend keeps it. Or leave room for
+up to five rows below the picture: then the rule doesn't matter.
+";
+
+const PAST: &str = "Past: blanks right of the box or below it
+
+Broken on konsole by a sixel or a repeat without a set bit that ends right of
+the box, or is in a band that begins below it. With a set bit it breaks Outside.
+konsole fills such blanks with register 0. This string shows a black column
+right of the box.
+
+String: ESC P q \"1;1;1;6#0;2;0;0;0#0~? ESC \\
+Output of check --on konsole: broken Past 24
+
+Fix: leave out blanks past the box, as sixel mend does.
+";
+
+const HUE: &str = "Hue: a colour of hue, lightness and saturation
+
+Broken on xterm by a definition in colour system 1, which is hue, lightness and
+saturation. xterm rounds the hue down to a multiple of 60. This string shows
+blue pixels instead of violet ones.
+
+String: ESC P q \"1;1;1;6#0;1;30;50;100#0~ ESC \\
+Output of check --on xterm: broken Hue 11
+
+Fix: write red, green and blue, in system 2. sixel mend keeps hues.
+";
+
+const FAR: &str = "Far: sixels far outside the box, with or without a set bit
+
+Broken on mlterm by a sixel or a repeat, with or without a set bit, that ends
+past column 32,767 or right of the box, or whose band ends more than 512 rows
+below the box. mlterm may end at these, or show pixels that nothing paints in
+any colours.
+
+String: ESC P q \"1;1;1;6#0;2;0;0;0#0~!32767? ESC \\
+Output of check --on mlterm: broken Far 24
+
+Fix: leave out blanks past the box, as sixel mend does.
+";
+
+const MIXED: &str = "Mixed: an introducer whose second number is 5
+
+Broken on mlterm by an introducer whose second number begins with the digit 5,
+if the first is below 10; else by one whose first number has 5 as its second
+digit; and by a first number of 5, which may be written 05. mlterm mixes colours
+then: a pixel painted first in register 1 and then in 2 is in register 3.
+
+String: ESC P 0;5q\"1;1;1;6#0;2;0;0;0#0~ ESC \\
+Output of check --on mlterm: broken Mixed 0
+
+Fix: write 1 as the second number, as sixel mend does, or leave it out.
+";
