@@ -7,7 +7,7 @@ use Rattle.std.proofs.lemmas.Bool.{ltb-false}
 use Rattle.std.proofs.lemmas.List.Folds.{list_any-append}
 use Rattle.std.proofs.lemmas.List.Sums.{sum_by-append, sum_by-cons}
 use Rattle.sixel_run.specs.declared.task.Task.{Task}
-use Rattle.sixel_run.specs.declared.task.Task.TheVariants.{Check, Scan, Survey}
+use Rattle.sixel_run.specs.declared.task.Task.TheVariants.{Check, Differ, Scan, Survey}
 use Rattle.sixel_run.specs.LineTasks.{has_lines}
 use Rattle.sixel_program.specs.Files.{is_dash, labels_for, name_of, names_read}
 use Rattle.sixel_run.specs.Texts.{Text}
@@ -65,10 +65,12 @@ names_labelled (name ∷ more) = ap (λ (rest : List Text). name ∷ rest) (name
 -- the labels of what a check, a survey or a scan reads are those of the names that it reads
 pub labels_read : (t : Task) (names : List Text) → has_lines t ≡ true
     → map name_of (labels_for names) ≡ names_read t names
-labels_read (Check profile) [] has = refl
-labels_read (Check profile) (name ∷ more) has = names_labelled (name ∷ more)
-labels_read (Survey profile) [] has = refl
-labels_read (Survey profile) (name ∷ more) has = names_labelled (name ∷ more)
+labels_read (Check profile named) [] has = refl
+labels_read (Check profile named) (name ∷ more) has = names_labelled (name ∷ more)
+labels_read (Survey profile named) [] has = refl
+labels_read (Survey profile named) (name ∷ more) has = names_labelled (name ∷ more)
 labels_read (Scan profile eight) [] has = refl
 labels_read (Scan profile eight) (name ∷ more) has = names_labelled (name ∷ more)
+labels_read (Differ background) [] has = refl
+labels_read (Differ background) (name ∷ more) has = names_labelled (name ∷ more)
 labels_read _ names has = absurd (let no : false ≡ true = has in cc)

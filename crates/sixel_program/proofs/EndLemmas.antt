@@ -19,10 +19,13 @@ done_gives t (Some bytes) left (Ok status.Done) had has wrote is = (wrote.0, sta
 done_gives t (Some bytes) left (Ok (status.Noted note)) had has wrote is = (wrote.0, status.Noted note, refl, wrote.1)
 done_gives t (Some bytes) left (Ok (status.Broken finding)) had has wrote is =
     let no : exit.Broken ≡ exit.Done = is in cc
+done_gives t (Some bytes) left (Ok (status.Asked finding)) had has wrote is =
+    let no : exit.Broken ≡ exit.Done = is in cc
 done_gives t (Some bytes) left (Ok (status.Surveyed first rules)) had has wrote is =
     let no : exit.Broken ≡ exit.Done = is in cc
 done_gives t (Some bytes) left (Ok (status.Unfit wrapped)) had has wrote is =
     let no : exit.Broken ≡ exit.Done = is in cc
+done_gives t (Some bytes) left (Ok status.Differing) had has wrote is = let no : exit.Broken ≡ exit.Done = is in cc
 done_gives t (Some bytes) left (Err fault) had has wrote is = let no : exit.Refused ≡ exit.Done = is in cc
 
 pub broken_gives : (t : Task) (told left : Option (List ℕ)) (a : Result Status RunFault) (had has : Option (List ℕ))
@@ -34,10 +37,14 @@ broken_gives t (Some bytes) left (Ok (status.Noted note)) had has wrote is = λ 
     let no : exit.Done ≡ exit.Broken = is in cc
 broken_gives t (Some bytes) left (Ok (status.Broken finding)) had has wrote is = λ all.
     (wrote.0, status.Broken finding, refl, wrote.1)
+broken_gives t (Some bytes) left (Ok (status.Asked finding)) had has wrote is = λ all.
+    (wrote.0, status.Asked finding, refl, wrote.1)
 broken_gives t (Some bytes) left (Ok (status.Surveyed first rules)) had has wrote is = λ all.
     (wrote.0, status.Surveyed first rules, refl, wrote.1)
 broken_gives t (Some bytes) left (Ok (status.Unfit wrapped)) had has wrote is = λ all.
     (wrote.0, status.Unfit wrapped, refl, wrote.1)
+broken_gives t (Some bytes) left (Ok status.Differing) had has wrote is = λ all.
+    (wrote.0, status.Differing, refl, wrote.1)
 broken_gives t (Some bytes) left (Err fault) had has wrote is = λ all. let no : exit.Refused ≡ exit.Broken = is in cc
 
 -- what holds of a source's bytes holds of the bytes that it was made from

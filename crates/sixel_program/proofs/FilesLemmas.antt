@@ -312,14 +312,16 @@ no_format (Some bytes) = ([], (bytes, refl), refl)
 
 pub memory_kept : (t : Task) (told has : Option (List ℕ)) → Keeps told has → TakesMemory t has → TakesMemory t told
 memory_kept task.List told has same takes = absurd takes
-memory_kept (task.Check profile) told has same takes = kept _ told has same takes
-memory_kept (task.Survey profile) told has same takes = kept _ told has same takes
+memory_kept (task.Check profile named) told has same takes = kept _ told has same takes
+memory_kept (task.Survey profile named) told has same takes = kept _ told has same takes
 memory_kept (task.Scan profile eight) told has same takes = kept _ told has same takes
 memory_kept (task.Render profile) told has same takes = kept _ told has same takes
 memory_kept (task.Encode profile) told has same takes = kept _ told has same takes
 memory_kept (task.Show profile showing fill selects width height) told has same takes = kept _ told has same takes
 memory_kept (task.ShowBox profile showing fill selects) told has same takes = kept _ told has same takes
 memory_kept (task.ShowOn named background area) told has same takes = kept _ told has same takes
+memory_kept (task.Differ background) told has same takes = kept _ told has same takes
+memory_kept (task.DifferSheet background) told has same takes = kept _ told has same takes
 memory_kept (task.Mend profile background showing selects) told has same takes = kept _ told has same takes
 
 -- what was read of a source was read of the bytes that the source was made from
@@ -380,8 +382,9 @@ unopened t has label reason told = record {
     nothing : (t : Task) → has_lines t ≡ true → (told : Option (List ℕ))
         → IfSome told (λ bytes. Wrote t bytes told (Err run.Read) (Some []) (Some []))
     nothing t has None = tt
-    nothing (task.Check profile) has (Some bytes) = (none_given_yet bytes, refl)
-    nothing (task.Survey profile) has (Some bytes) = (none_given_yet bytes, refl)
+    nothing (task.Check profile named) has (Some bytes) = (none_given_yet bytes, refl)
+    nothing (task.Survey profile named) has (Some bytes) = (none_given_yet bytes, refl)
+    nothing (task.Differ background) has (Some bytes) = (none_given_yet bytes, refl)
     nothing (task.Scan profile eight) has (Some bytes) = ([], none_given eight (count_of profile) bytes, refl)
     nothing _ has (Some bytes) = absurd (let no : false ≡ true = has in cc)
 

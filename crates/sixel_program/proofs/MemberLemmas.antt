@@ -12,7 +12,8 @@ use Rattle.sixel_explain.specs.Explanations.{topic_of}
 use Rattle.sixel_run.specs.declared.fault.RunFault.{RunFault}
 use Rattle.sixel_run.specs.declared.fault.RunFault.TheVariants.{Grammar, Ppm, Read}
 use Rattle.sixel_run.specs.declared.item.Item.{Item}
-use Rattle.sixel_run.specs.declared.item.Item.TheVariants.{Outcome, Entry, String}
+use Rattle.sixel_run.specs.declared.item.Item.TheVariants.{Asked, AskedEntry, Outcome, Entry, Group, Same, String}
+use Rattle.sixel_run.specs.declared.item.Item.TheVariants.{Unmodelled}
 use Rattle.sixel_program.specs.declared.folder.Unopened.{Unopened}
 use Rattle.sixel_program.specs.Json.{Member, answer_members, broken_at, fault_members, item_members}
 use Rattle.sixel_program.specs.Json.{outcome_members, pixel_members, plain_refusal, unread_members}
@@ -44,8 +45,13 @@ answer_ends (Refused fault) = (refl, (refl, (refl, (refl, tt))))
 pub item_ends : (item : Item) → AllEnd (item_members item)
 unfolding item_members
 item_ends (Outcome o) = outcome_ends o
+item_ends (Asked f) = (refl, (refl, (refl, (refl, tt))))
 item_ends (Entry e) = (refl, (refl, (refl, broken_ends e.rule e.place e.pixel)))
+item_ends (AskedEntry e) = (refl, (refl, (refl, (refl, (refl, tt)))))
 item_ends (String s) = (refl, answer_ends s.answer)
+item_ends (Same width height) = tt
+item_ends (Group g) = tt
+item_ends (Unmodelled named place) = tt
 
 pub fault_ends : (fault : RunFault) → AllEnd (fault_members fault)
 unfolding fault_members

@@ -6,6 +6,7 @@ use Rattle.sixel_io.specs.Devices.{Change, SinkState, SourceState}
 use Rattle.sixel_program.specs.declared.exit.Exit.{Exit}
 use Rattle.sixel_program.specs.Lines.{all_of}
 use Rattle.sixel_program.specs.declared.lines.Lines.{Lines}
+use Rattle.sixel_program.specs.declared.lines.Lines.TheVariants.{Plain}
 use Rattle.sixel_program.specs.declared.lines.Shown.{Shown}
 use Rattle.sixel_program.specs.declared.exit.Exit.TheVariants as exit
 use Rattle.sixel_run.specs.declared.fault.RunFault.{RunFault}
@@ -57,12 +58,14 @@ module _ {O : Type 0} (folder : FolderView O) (x : Exit) (i : Change SourceState
 
   pub request_read : (t : Task) (q : Lines) (h : Shown) (names : List Text) → RequestEnds t q h names folder x i o e
       → HasRead t h names
-  request_read (task.Check profile) q h names ended =
-      inr (q, sym (labels_read (task.Check profile) names refl), ended)
-  request_read (task.Survey profile) q h names ended =
-      inr (all_of q, sym (labels_read (task.Survey profile) names refl), ended)
+  request_read (task.Check profile named) q h names ended =
+      inr (q, sym (labels_read (task.Check profile named) names refl), ended)
+  request_read (task.Survey profile named) q h names ended =
+      inr (all_of q, sym (labels_read (task.Survey profile named) names refl), ended)
   request_read (task.Scan profile eight) q h names ended =
       inr (all_of q, sym (labels_read (task.Scan profile eight) names refl), ended)
+  request_read (task.Differ background) q h names ended =
+      inr (Plain false, sym (labels_read (task.Differ background) names refl), ended)
   request_read task.List q h [] ended = inl (codes "-", refl, run_ends task.List q None x i o e ended)
   request_read task.List q h (name ∷ more) ended = inl (name, refl, file_run folder task.List q name x i o e ended)
   request_read (task.Render profile) q h [] ended =
@@ -85,6 +88,10 @@ module _ {O : Type 0} (folder : FolderView O) (x : Exit) (i : Change SourceState
       inl (codes "-", refl, run_ends (task.ShowOn named background area) q None x i o e ended)
   request_read (task.ShowOn named background area) q h (name ∷ more) ended =
       inl (name, refl, file_run folder (task.ShowOn named background area) q name x i o e ended)
+  request_read (task.DifferSheet background) q h [] ended =
+      inl (codes "-", refl, run_ends (task.DifferSheet background) q None x i o e ended)
+  request_read (task.DifferSheet background) q h (name ∷ more) ended =
+      inl (name, refl, file_run folder (task.DifferSheet background) q name x i o e ended)
   request_read (task.Mend profile background showing selects) q h [] ended =
       inl (codes "-", refl, run_ends (task.Mend profile background showing selects) q None x i o e ended)
   request_read (task.Mend profile background showing selects) q h (name ∷ more) ended =
@@ -93,9 +100,11 @@ module _ {O : Type 0} (folder : FolderView O) (x : Exit) (i : Change SourceState
 answer_no_usage : (a : Result Status RunFault) → exit_for_answer a ≢ exit.Usage
 answer_no_usage (Ok status.Done) = λ (is : exit.Done ≡ exit.Usage). cc
 answer_no_usage (Ok (status.Broken finding)) = λ (is : exit.Broken ≡ exit.Usage). cc
+answer_no_usage (Ok (status.Asked finding)) = λ (is : exit.Broken ≡ exit.Usage). cc
 answer_no_usage (Ok (status.Surveyed first rules)) = λ (is : exit.Broken ≡ exit.Usage). cc
 answer_no_usage (Ok (status.Noted note)) = λ (is : exit.Done ≡ exit.Usage). cc
 answer_no_usage (Ok (status.Unfit wrapped)) = λ (is : exit.Broken ≡ exit.Usage). cc
+answer_no_usage (Ok status.Differing) = λ (is : exit.Broken ≡ exit.Usage). cc
 answer_no_usage (Err fault) = λ (is : exit.Refused ≡ exit.Usage). cc
 
 one_of_two : (b : Bool) (x y : Exit) → x ≢ exit.Usage → y ≢ exit.Usage → (if b then y else x) ≢ exit.Usage

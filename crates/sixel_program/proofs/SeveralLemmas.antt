@@ -31,7 +31,7 @@ use Rattle.sixel_run.proofs.StringLemmas.{not_a_fault}
 use Rattle.sixel_run.specs.Outputs.{Gives, ScanGives, ScansBefore, ScansUnread, Wrote, WroteWith}
 use Rattle.sixel_run.specs.Scanned.{Finds, scan_text}
 use Rattle.sixel_run.specs.declared.task.Task.{Task}
-use Rattle.sixel_run.specs.declared.task.Task.TheVariants.{Check, Scan, Survey}
+use Rattle.sixel_run.specs.declared.task.Task.TheVariants.{Check, Differ, Scan, Survey}
 use Rattle.sixel_scan.specs.declared.answer.Scanned.{Scanned}
 use Rattle.sixel_model.specs.Profiles.{count_of}
 use Rattle.sixel_model.specs.declared.profile.Profile.{Profile}
@@ -176,8 +176,9 @@ quiet json (e ∷ ends) =
 
 refuses : (t : Task) (bytes text : Text) (fault : Fault) → has_lines t ≡ true
     → Gives t bytes text (Err (run.Grammar fault)) → Gives t bytes [] (Err (run.Grammar fault))
-refuses (Check profile) bytes text fault has gives = (refl, gives.1)
-refuses (Survey profile) bytes text fault has gives = (refl, gives.1)
+refuses (Check profile named) bytes text fault has gives = (refl, gives.1)
+refuses (Survey profile named) bytes text fault has gives = (refl, gives.1)
+refuses (Differ background) bytes text fault has gives = (refl, gives.1)
 refuses (Scan profile eight) bytes text fault has gives = absurd (not_a_fault gives.0 fault gives.3)
 refuses _ bytes text fault has gives = absurd (let no : false ≡ true = has in cc)
 

@@ -49,10 +49,13 @@ judged_gives t (Some bytes) left (Ok status.Done) had has wrote below = (wrote.0
 judged_gives t (Some bytes) left (Ok (status.Noted note)) had has wrote below = (wrote.0, status.Noted note, wrote.1)
 judged_gives t (Some bytes) left (Ok (status.Broken finding)) had has wrote below =
     (wrote.0, status.Broken finding, wrote.1)
+judged_gives t (Some bytes) left (Ok (status.Asked finding)) had has wrote below =
+    (wrote.0, status.Asked finding, wrote.1)
 judged_gives t (Some bytes) left (Ok (status.Surveyed first rules)) had has wrote below =
     (wrote.0, status.Surveyed first rules, wrote.1)
 judged_gives t (Some bytes) left (Ok (status.Unfit wrapped)) had has wrote below =
     (wrote.0, status.Unfit wrapped, wrote.1)
+judged_gives t (Some bytes) left (Ok status.Differing) had has wrote below = (wrote.0, status.Differing, wrote.1)
 judged_gives t (Some bytes) left (Err fault) had has wrote below = absurd (omega (arith, below))
 
 module _ (t : Task) (ends : List FileEnd) (each : All (IsFileEnd t) ends) where

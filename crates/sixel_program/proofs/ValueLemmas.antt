@@ -14,7 +14,8 @@ use Rattle.sixel_run.specs.declared.fault.RunFault.{RunFault}
 use Rattle.sixel_run.specs.declared.fault.RunFault.TheVariants.{Grammar, Ppm}
 use Rattle.sixel_run.specs.Texts.{Text}
 use Rattle.sixel_run.specs.declared.item.Item.{Item}
-use Rattle.sixel_run.specs.declared.item.Item.TheVariants.{Outcome, Entry, String}
+use Rattle.sixel_run.specs.declared.item.Item.TheVariants.{Asked, AskedEntry, Outcome, Entry, Group, Same, String}
+use Rattle.sixel_run.specs.declared.item.Item.TheVariants.{Unmodelled}
 use Rattle.sixel_program.specs.declared.folder.Unopened.{Unopened}
 use Rattle.sixel_program.specs.Json.{FitsAnswer, FitsFault, FitsItem, FitsOutcome, FitsPixel, HaveValues, IsValue, Member}
 use Rattle.sixel_program.specs.Json.{answer_members, broken_at, fault_members, file_member, item_members}
@@ -63,9 +64,15 @@ answer_has (Refused fault) fits = (a_text _, (a_text _, (a_number fault.place fi
 item_has : (item : Item) → FitsItem item → AllHave (item_members item)
 unfolding item_members
 item_has (Outcome o) fits = outcome_has o fits
+item_has (Asked f) fits = (a_text _, (a_text _, (a_number f.place fits, (a_text _, tt))))
 item_has (Entry e) fits =
     (a_text _, (a_text _, (a_number e.count fits.0, broken_has e.rule e.place e.pixel fits.1 fits.2)))
+item_has (AskedEntry e) fits =
+    (a_text _, (a_text _, (a_number e.count fits.0, (a_number e.place fits.1, (a_text _, tt)))))
 item_has (String s) fits = (a_number s.place fits.0, answer_has s.answer fits.1)
+item_has (Same width height) fits = tt
+item_has (Group g) fits = tt
+item_has (Unmodelled named place) fits = tt
 
 fault_has : (fault : RunFault) → FitsFault fault → AllHave (fault_members fault)
 unfolding fault_members

@@ -33,6 +33,6 @@ count_line failed all =
 
 -- the line of a task over so many inputs, of which so many failed: only a check of two or more has one
 abbrev pub count_of : Task → Lines → Bool → ℕ → ℕ → Text
-count_of (Check profile) lines is_shown failed all =
+count_of (Check profile named) lines is_shown failed all =
     if nat_lt 1 all && is_counted lines is_shown then count_line failed all else []
 count_of t lines is_shown failed all = []

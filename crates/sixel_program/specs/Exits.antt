@@ -32,8 +32,10 @@ abbrev pub exit_for_answer : Result Status RunFault → Exit
 exit_for_answer (Ok status.Done) = Done
 exit_for_answer (Ok (status.Noted note)) = Done
 exit_for_answer (Ok (status.Broken finding)) = Broken
+exit_for_answer (Ok (status.Asked finding)) = Broken
 exit_for_answer (Ok (status.Surveyed first rules)) = Broken
 exit_for_answer (Ok (status.Unfit wrapped)) = Broken
+exit_for_answer (Ok status.Differing) = Broken
 exit_for_answer (Err fault) = Refused
 
 -- ---- what is said of a run
@@ -57,8 +59,10 @@ fault_said (Some name) fault = named_fault_line name fault
 abbrev pub complaint : Task → Lines → Option Text → Result Status RunFault → Text
 complaint t lines name (Ok status.Done) = []
 complaint t lines name (Ok (status.Noted note)) = if is_quiet lines then [] else note_line note
+complaint t lines name (Ok (status.Asked finding)) = []
 complaint t lines name (Ok (status.Surveyed first rules)) = []
 complaint t lines name (Ok (status.Unfit wrapped)) = []
+complaint t lines name (Ok status.Differing) = []
 complaint t lines name (Ok (status.Broken finding)) = if is_render t then labelled name (finding_line finding) else []
 complaint t lines name (Err fault) = fault_said name fault
 

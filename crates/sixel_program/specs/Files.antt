@@ -16,7 +16,7 @@ use Rattle.sixel_run.specs.declared.fault.RunFault.TheVariants as run
 use Rattle.sixel_run.specs.declared.task.Status.{Status}
 use Rattle.sixel_run.specs.declared.task.Task.{Task}
 use Rattle.sixel_run.specs.declared.task.Task.TheVariants.{Check, Encode, Render, Scan, Show, ShowBox, ShowOn}
-use Rattle.sixel_run.specs.declared.task.Task.TheVariants.{Survey}
+use Rattle.sixel_run.specs.declared.task.Task.TheVariants.{Differ, DifferSheet, Survey}
 use Rattle.sixel_program.specs.declared.formats.Format.{Format}
 use Rattle.sixel_program.specs.declared.terminals.Terminals.{Terminals}
 use Rattle.sixel_program.specs.Formats.{IsFormat, advice_on}
@@ -42,7 +42,7 @@ use Rattle.sixel_program.specs.declared.lines.Shown.{Shown}
 abbrev pub is_dash : Text → Bool
 is_dash name = bytes_eq name (codes "-")
 
--- the labels of the inputs of a check, a survey or a scan: the names; without names there is one input, standard input,
+-- the labels of the inputs of a task with lines: the names; without names there is one input, standard input,
 -- and it has none
 abbrev pub labels_for : List Text → List (Option Text)
 labels_for [] = None ∷ []
@@ -57,13 +57,14 @@ name_of (Some name) = name
 abbrev pub told_of : (Text → Option (List ℕ)) → Option (List ℕ) → Text → Option (List ℕ)
 told_of contents input name = if is_dash name then input else contents name
 
--- the names of what a task reads: `-` if there are none; for a check, a survey or a scan all of them, and for any other
--- task the first
+-- the names of what a task reads: `-` if there are none; for a task with lines, that is a check, a survey, a scan or a
+-- comparison of terminals, all of them, and for any other task the first
 abbrev pub names_read : Task → List Text → List Text
 names_read t [] = codes "-" ∷ []
-names_read (Check profile) (name ∷ more) = name ∷ more
-names_read (Survey profile) (name ∷ more) = name ∷ more
+names_read (Check profile named) (name ∷ more) = name ∷ more
+names_read (Survey profile named) (name ∷ more) = name ∷ more
 names_read (Scan profile eight) (name ∷ more) = name ∷ more
+names_read (Differ background) (name ∷ more) = name ∷ more
 names_read t (name ∷ more) = name ∷ []
 
 -- whether the task reads standard input
@@ -111,6 +112,7 @@ writes_ppm (Render profile) = true
 writes_ppm (Show profile showing fill selects width height) = true
 writes_ppm (ShowBox profile showing fill selects) = true
 writes_ppm (ShowOn named background area) = true
+writes_ppm (DifferSheet background) = true
 writes_ppm t = false
 
 -- whether the task would write a PPM to a terminal
@@ -429,16 +431,18 @@ FilesEnd t lines shown folder labels exit input output errors =
 
 -- ---- requests
 
--- how a request ended. A check, a survey or a scan is of all files that are named, and any other task of the first;
--- without names it is of standard input. A survey and a scan write all of their lines
+-- how a request ended. A task with lines is of all files that are named, and any other task of the first; without names
+-- it is of standard input. Only a check may leave out lines, and a comparison of terminals has no JSON
 abbrev pub RequestEnds : {O : Type 0} → Task → Lines → Shown → List Text → FolderView O → Exit → Change SourceState
     → Change SinkState → Change SinkState → Type 0
-RequestEnds (Check profile) lines shown names folder exit input output errors =
-    FilesEnd (Check profile) lines shown folder (labels_for names) exit input output errors
-RequestEnds (Survey profile) lines shown names folder exit input output errors =
-    FilesEnd (Survey profile) (all_of lines) shown folder (labels_for names) exit input output errors
+RequestEnds (Check profile named) lines shown names folder exit input output errors =
+    FilesEnd (Check profile named) lines shown folder (labels_for names) exit input output errors
+RequestEnds (Survey profile named) lines shown names folder exit input output errors =
+    FilesEnd (Survey profile named) (all_of lines) shown folder (labels_for names) exit input output errors
 RequestEnds (Scan profile eight) lines shown names folder exit input output errors =
     FilesEnd (Scan profile eight) (all_of lines) shown folder (labels_for names) exit input output errors
+RequestEnds (Differ background) lines shown names folder exit input output errors =
+    FilesEnd (Differ background) (Plain false) shown folder (labels_for names) exit input output errors
 RequestEnds t lines shown [] folder exit input output errors = RunEnds t lines None exit input output errors
 RequestEnds t lines shown (name ∷ more) folder exit input output errors =
     FileEnds t lines folder name exit input output errors

@@ -8,32 +8,35 @@ use Rattle.sixel_program.specs.declared.lines.Shown.{Shown}
 use Rattle.sixel_model.specs.declared.profile.Profile.{Profile}
 use Rattle.sixel_model.specs.declared.profile.Profile.TheVariants.{Registers16}
 use Rattle.sixel_model.specs.declared.rule.Rule.TheVariants as rule
+use Rattle.sixel_named.specs.Rules.{rule_of}
+use Rattle.sixel_named.specs.declared.rule.NamedRule.TheVariants.{Portable, Asked}
 use Rattle.sixel_program.specs.declared.hints.Cause.{Cause}
 use Rattle.sixel_program.specs.declared.hints.Cause.TheVariants.{Rule, Refusal}
 use Rattle.sixel_run.specs.declared.fault.RunFault.{RunFault}
 use Rattle.sixel_run.specs.declared.fault.RunFault.TheVariants.{Grammar}
 use Rattle.sixel_run.specs.declared.task.Status.{Status}
-use Rattle.sixel_run.specs.declared.task.Status.TheVariants.{Broken, Surveyed}
+use Rattle.sixel_run.specs.declared.task.Status.TheVariants as status
 use Rattle.sixel_run.specs.declared.task.Task.{Task}
 use Rattle.sixel_run.specs.declared.task.Task.TheVariants.{Check, Survey}
 use Rattle.sixel_run.specs.RuleSets.{rules_in}
-use Rattle.sixel_run.specs.Texts.{Text, reason_name, rule_name}
+use Rattle.sixel_run.specs.Texts.{Text, named_rule_name, reason_name}
 
 -- what a run found wrong with its input: the rule that is broken, or of a survey the first one and all others; or why it
 -- is no sixel text
 abbrev pub causes_in : Result Status RunFault → List Cause
-causes_in (Ok (Broken finding)) = Rule finding.rule ∷ []
-causes_in (Ok (Surveyed first rules)) = Rule first.rule ∷ map Rule (rules_in rules)
+causes_in (Ok (status.Broken found)) = Rule (Portable found.rule) ∷ []
+causes_in (Ok (status.Asked found)) = Rule (Asked found.rule) ∷ []
+causes_in (Ok (status.Surveyed first rules)) = Rule (rule_of first) ∷ map Rule (rules_in rules)
 causes_in (Err (Grammar fault)) = Refusal fault.reason ∷ []
 causes_in _ = []
 
 abbrev pub cause_name : Cause → Text
-cause_name (Rule broken) = rule_name broken
+cause_name (Rule broken) = named_rule_name broken
 cause_name (Refusal reason) = reason_name reason
 
 -- for a register above 15 there is an option
 abbrev pub option_hint : Cause → Profile → Text
-option_hint (Rule rule.Register) Registers16 = codes "; '--wide' checks for 256 registers"
+option_hint (Rule (Portable rule.Register)) Registers16 = codes "; '--wide' checks for 256 registers"
 option_hint _ _ = []
 
 -- the hint on what was found wrong
@@ -65,6 +68,6 @@ hinted lines shown causes =
 
 -- the hints of a task on what was found wrong: only a check and a survey have some
 abbrev pub hints_of : Task → List Cause → List Text
-hints_of (Check profile) causes = map (hint_line profile) causes
-hints_of (Survey profile) causes = map (hint_line profile) causes
+hints_of (Check profile named) causes = map (hint_line profile) causes
+hints_of (Survey profile named) causes = map (hint_line profile) causes
 hints_of t causes = []

@@ -11,6 +11,11 @@ use Rattle.sixel_model.specs.declared.rule.Rule.TheVariants as rule
 use Rattle.sixel_judge.specs.declared.verdict.Finding.{Finding}
 use Rattle.sixel_judge.specs.declared.verdict.Outcome.{Outcome as AnOutcome}
 use Rattle.sixel_judge.specs.declared.verdict.Outcome.TheVariants as outcome
+use Rattle.sixel_asked.specs.declared.asking.AskedFinding.{AskedFinding}
+use Rattle.sixel_asked.specs.declared.rule.AskedRule.{AskedRule}
+use Rattle.sixel_asked.specs.declared.tally.AskedEntry.{AskedEntry as AnAskedEntry}
+use Rattle.sixel_named.specs.declared.rule.NamedRule.{NamedRule}
+use Rattle.sixel_named.specs.declared.rule.NamedRule.TheVariants as named
 use Rattle.sixel_survey.specs.declared.entry.Entry.{Entry as AnEntry}
 use Rattle.sixel_scan.specs.declared.answer.Answer.{Answer}
 use Rattle.sixel_scan.specs.declared.answer.Answer.TheVariants.{Portable, Broken, Refused}
@@ -21,8 +26,9 @@ use Rattle.sixel_explain.specs.Explanations.{summary, topic_name, topic_of}
 use Rattle.sixel_run.specs.declared.fault.RunFault.{RunFault}
 use Rattle.sixel_run.specs.declared.fault.RunFault.TheVariants.{Grammar, Ppm, Read}
 use Rattle.sixel_run.specs.declared.item.Item.{Item}
-use Rattle.sixel_run.specs.declared.item.Item.TheVariants.{Outcome, Entry, String}
-use Rattle.sixel_run.specs.Texts.{Text, ppm_reason_name, reason_name, rule_name}
+use Rattle.sixel_run.specs.declared.item.Item.TheVariants.{Asked, AskedEntry, Outcome, Entry, Group, Same, String}
+use Rattle.sixel_run.specs.declared.item.Item.TheVariants.{Unmodelled}
+use Rattle.sixel_run.specs.Texts.{Text, named_rule_name, ppm_reason_name, reason_name}
 use Rattle.sixel_program.specs.declared.folder.Unopened.{Unopened}
 use Rattle.sixel_program.specs.declared.names.Spelling.{Spelling}
 use Rattle.sixel_program.specs.declared.names.Spelling.TheVariants.{Printed, Quoted}
@@ -107,15 +113,22 @@ abbrev pub size_members : ℕ → ℕ → List Member
 size_members width height =
     result_member (codes "portable") ∷ number_member (codes "width") width ∷ number_member (codes "height") height ∷ []
 
-abbrev pub broken_members : ARule → List Member
-broken_members r = result_member (codes "broken") ∷ text_member (codes "rule") (rule_name r) ∷ []
+abbrev pub broken_members : NamedRule → List Member
+broken_members r = result_member (codes "broken") ∷ text_member (codes "rule") (named_rule_name r) ∷ []
 
 -- where a rule is broken, and what it forbids
 abbrev pub broken_at : ARule → ℕ → Option (ℕ × ℕ) → List Member
 broken_at r place pixel = offset_member place ∷ (pixel_members r pixel ++ message_member (topic.Rule r) ∷ [])
 
+-- the same of a rule that a named terminal asks for; none names a pixel
+abbrev pub asked_at : AskedRule → ℕ → List Member
+asked_at r place = offset_member place ∷ message_member (topic.Asked r) ∷ []
+
 abbrev pub finding_members : Finding → List Member
-finding_members f = broken_members f.rule ++ broken_at f.rule f.place f.pixel
+finding_members f = broken_members (named.Portable f.rule) ++ broken_at f.rule f.place f.pixel
+
+abbrev pub asked_members : AskedFinding → List Member
+asked_members f = broken_members (named.Asked f.rule) ++ asked_at f.rule f.place
 
 abbrev pub outcome_members : AnOutcome → List Member
 outcome_members (outcome.Portable width height) = size_members width height
@@ -124,7 +137,12 @@ outcome_members (outcome.Broken finding) = finding_members finding
 -- an entry of a survey also has how often it counts
 abbrev pub entry_members : AnEntry → List Member
 entry_members e =
-    broken_members e.rule ++ number_member (codes "count") e.count ∷ broken_at e.rule e.place e.pixel
+    broken_members (named.Portable e.rule)
+    ++ number_member (codes "count") e.count ∷ broken_at e.rule e.place e.pixel
+
+abbrev pub asked_entry_members : AnAskedEntry → List Member
+asked_entry_members e =
+    broken_members (named.Asked e.rule) ++ number_member (codes "count") e.count ∷ asked_at e.rule e.place
 
 -- refused for this reason
 abbrev pub refused_members : Text → List Member
@@ -150,11 +168,16 @@ answer_members (Refused fault) = refusal_members fault
 abbrev pub string_members : Scanned → List Member
 string_members s = number_member (codes "string") s.place ∷ answer_members s.answer
 
--- what a check, a survey or a scan says
+-- what a check, a survey or a scan says; a comparison of terminals has no JSON
 unfoldable pub item_members : Item → List Member
 item_members (Outcome o) = outcome_members o
+item_members (Asked f) = asked_members f
 item_members (Entry e) = entry_members e
+item_members (AskedEntry e) = asked_entry_members e
 item_members (String s) = string_members s
+item_members (Same width height) = []
+item_members (Group g) = []
+item_members (Unmodelled terminal place) = []
 
 -- not read for this reason
 abbrev pub not_read_members : Text → List Member
@@ -215,8 +238,13 @@ FitsAnswer (Refused fault) = fault.place < 2 ^ 64
 
 abbrev pub FitsItem : Item → Type 0
 FitsItem (Outcome o) = FitsOutcome o
+FitsItem (Asked f) = f.place < 2 ^ 64
 FitsItem (Entry e) = FitsEntry e
+FitsItem (AskedEntry e) = (e.count < 2 ^ 64) × (e.place < 2 ^ 64)
 FitsItem (String s) = (s.place < 2 ^ 64) × FitsAnswer s.answer
+FitsItem (Same width height) = ⊤
+FitsItem (Group g) = ⊤
+FitsItem (Unmodelled terminal place) = ⊤
 
 abbrev pub FitsFault : RunFault → Type 0
 FitsFault (Grammar fault) = fault.place < 2 ^ 64

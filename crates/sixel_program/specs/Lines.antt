@@ -1,4 +1,4 @@
--- Which lines a check, a survey or a scan writes, and which messages come last.
+-- Which lines a task with lines writes, and which messages come last.
 use Rattle.std.specs.Prelude.{Bool, not, true, false}
 use Rattle.sixel_judge.specs.declared.verdict.Outcome.TheVariants as outcome
 use Rattle.sixel_run.specs.declared.item.Item.{Item}

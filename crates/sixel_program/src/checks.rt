@@ -1,4 +1,4 @@
-//! Checks, surveys and scans, of files or of standard input.
+//! Checks, surveys, scans and comparisons of terminals, of files or of standard input.
 
 ghost use Rattle.std.specs.Prelude.{◌≡◌, ◌≢◌, ◌&&◌, ◌∷◌, [], Err, IfErr, None, OnOk, count_by, false, if◌then◌else◌};
 ghost use Rattle.std.specs.Prelude.{map, nat_lt, not, option_copied, true};
@@ -265,10 +265,10 @@ fn check_input<F: Folder, S: Source, K: Sink, E: Sink>(
     }
 }
 
-/// Checks, surveys or scans the files with these names in turn; one `-` at most is among them. Without names it is over
+/// Checks, surveys, scans or compares the files with these names in turn; one `-` at most is among them. Without names it is over
 /// standard input. A refused file doesn't end this, but a failed write does. The exit status is the greatest of theirs.
-/// At a terminal a hint on what was found wrong first comes last, or if hints are asked for one on each, but not after a
-/// quiet check or a scan; then a scan's note on wrapped strings; and then how many of several files failed, which a check
+/// At a terminal a hint on what was found wrong first comes last, or if hints are asked for one on each, but only after a
+/// check that isn't quiet or a survey; then a scan's note on wrapped strings; and then how many of several files failed, which a check
 /// of only failures says too.
 ///
 /// It isn't inlined, or its room would be on the stack of every task.

@@ -29,7 +29,10 @@ pub fn reads_input(request: &Request) -> bool
 {
     match (request.task, request.files.as_slice()) {
         (_, []) => true,
-        (Task::Check { .. } | Task::Survey { .. } | Task::Scan { .. }, names) => names_input(names),
+        (
+            Task::Check { .. } | Task::Survey { .. } | Task::Scan { .. } | Task::Differ { .. },
+            names,
+        ) => names_input(names),
         (_, [name, ..]) => name.as_str() == "-",
     }
 }
@@ -46,7 +49,7 @@ pub fn names_input_twice(request: &Request) -> bool
     ensures { result ≡ names_input_twice request.now.task (map string_bytes request.now.files.items) }
 {
     match request.task {
-        Task::Check { .. } | Task::Survey { .. } | Task::Scan { .. } => {
+        Task::Check { .. } | Task::Survey { .. } | Task::Scan { .. } | Task::Differ { .. } => {
             count_inputs(request.files.as_slice()) > 1
         }
         _ => false,

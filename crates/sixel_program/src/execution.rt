@@ -24,8 +24,8 @@ use std::alloc::Global;
 
 /// Carries out a request over `input` and the files of `folder`. Results go to `output`, messages to `errors`. A task
 /// that is to read a terminal says first that it waits. If `errors` is a terminal, a check or a survey ends with a hint
-/// on the first broken rule, unless it is quiet. `Usage`: a PPM would be written to a terminal, or a check, a survey or a
-/// scan names standard input twice. Nothing is read then.
+/// on the first broken rule, unless it is quiet. `Usage`: a PPM would be written to a terminal, or a task with lines names
+/// standard input twice. Nothing is read then.
 pub fn execute<F: Folder, S: Source, K: Sink, E: Sink>(
     alloc: Global,
     request: &Request,

@@ -9,7 +9,7 @@ use sixel_run::{RunFault, Status};
 #[derive(Clone, Copy, Debug, PartialEq, Eq)]
 pub enum Exit {
     Done,
-    /// A rule is broken, or a string of a stream isn't portable.
+    /// A rule is broken, a string of a stream isn't portable, or terminals show something else.
     Broken,
     /// The input was refused, or an allocation, a read or a write failed.
     Refused,
@@ -35,7 +35,13 @@ pub fn exit_of(answer: Result<Status, RunFault>) -> Exit
 {
     match answer {
         Ok(Status::Done | Status::Noted(_)) => Exit::Done,
-        Ok(Status::Broken(_) | Status::Surveyed { .. } | Status::Unfit { .. }) => Exit::Broken,
+        Ok(
+            Status::Broken(_)
+            | Status::Asked(_)
+            | Status::Surveyed { .. }
+            | Status::Unfit { .. }
+            | Status::Differing,
+        ) => Exit::Broken,
         Err(_) => Exit::Refused,
     }
 }

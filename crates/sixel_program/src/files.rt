@@ -21,6 +21,9 @@ use sixel_io::{Sink, Source};
 use sixel_run::{Task, run};
 use std::alloc::Global;
 
+/// The lines of a comparison of terminals: all, and never objects of JSON.
+const PLAIN: Lines = Lines::Plain { only_failed: false };
+
 /// Runs a task over an input, which has this name or none. Writes to `errors` why the input was refused, which rule
 /// kept its picture from being rendered, or what may surprise, and how to convert an input of another format. If that
 /// can't be written, the exit status stays the same.
@@ -76,9 +79,9 @@ fn report_file<F: Folder, S: Source, K: Sink, E: Sink>(
     }
 }
 
-/// Carries out a request that names standard input once at most. A check, a survey and a scan read all files that are
-/// named; any other task reads the first. Without names standard input is read. A check and a survey end with a hint on
-/// what is wrong first, if `errors` is a terminal and the check isn't quiet.
+/// Carries out a request that names standard input once at most. A task with lines reads all files that are named: a
+/// check, a survey, a scan or a comparison of terminals. Any other task reads the first. Without names standard input is
+/// read. A check and a survey end with a hint on what is wrong first, if `errors` is a terminal and the check isn't quiet.
 pub fn answer<F: Folder, S: Source, K: Sink, E: Sink>(
     alloc: Global,
     request: &Request,
@@ -115,6 +118,9 @@ pub fn answer<F: Folder, S: Source, K: Sink, E: Sink>(
             input,
             output,
             errors,
+        ),
+        (Task::Differ { .. }, _) => check_files(
+            alloc, task, PLAIN, shown, names, folder, input, output, errors,
         ),
         (_, []) => report(alloc, task, lines, None, input, output, errors),
         (_, [name, ..]) => report_file(

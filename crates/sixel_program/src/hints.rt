@@ -12,17 +12,17 @@ ghost use Rattle.sixel_program.specs.declared.hints.Cause.TheVariants.{Rule as R
 
 use crate::lines::{Lines, Shown, is_quiet};
 use arrayvec::ArrayVec;
-use sixel_check::Rule;
 use sixel_grammar::Reason;
 use sixel_io::{Sink, put_all};
-use sixel_model::{ALL_RULES, Profile};
-use sixel_run::{RuleSet, RunFault, Status, Task, reason_name, rule_name};
+use sixel_model::{Profile, Rule};
+use sixel_named::{ALL_NAMED_RULES, NamedRule};
+use sixel_run::{RuleSet, RunFault, Status, Task, named_rule_name, reason_name};
 
 /// What is wrong with an input.
 #[derive(Clone, Copy, Debug, PartialEq, Eq, Drop)]
 pub enum Cause {
     /// This rule is broken.
-    Rule(Rule),
+    Rule(NamedRule),
     /// It is no sixel text.
     Refusal(Reason),
 }
@@ -30,7 +30,7 @@ pub enum Cause {
 /// What fills the room of an `ArrayVec` that isn't in use.
 impl Default for Cause {
     fn default() -> Cause {
-        Cause::Rule(Rule::RasterFirst)
+        Cause::Rule(NamedRule::Portable(Rule::RasterFirst))
     }
 }
 
@@ -40,7 +40,7 @@ fn cause_name(cause: Cause) -> &'static str
     ensures short { length result.now ≤ 14 }
 {
     match cause {
-        Cause::Rule(rule) => rule_name(rule),
+        Cause::Rule(rule) => named_rule_name(rule),
         Cause::Refusal(reason) => reason_name(reason),
     }
 }
@@ -51,7 +51,7 @@ fn option_hint(cause: Cause, profile: Profile) -> &'static str
     ensures short { length result.now ≤ 36 }
 {
     match (cause, profile) {
-        (Cause::Rule(Rule::Register), Profile::Registers16) =>
+        (Cause::Rule(NamedRule::Portable(Rule::Register)), Profile::Registers16) =>
             "; '--wide' checks for 256 registers",
         _ => "",
     }
@@ -81,8 +81,9 @@ fn hint_line(profile: Profile, cause: Cause) -> Hint
     line
 }
 
-/// How many there are: thirteen rules, and nine reasons for no sixel text.
-const CAUSE_COUNT: usize = 22;
+/// How many there are: thirteen rules of portable pictures, nine that named terminals ask for, and nine reasons for no
+/// sixel text.
+const CAUSE_COUNT: usize = 31;
 
 /// What was found wrong, each once, in the order in which it was found first.
 #[derive(Drop)]
@@ -106,9 +107,10 @@ impl Causes {
         ensures { self.new.found.items ≡ with_causes self.old.found.items (causes_in answer.now) }
     {
         match answer {
-            Ok(Status::Broken(finding)) => self.add(Cause::Rule(finding.rule)),
+            Ok(Status::Broken(finding)) => self.add(Cause::Rule(NamedRule::Portable(finding.rule))),
+            Ok(Status::Asked(finding)) => self.add(Cause::Rule(NamedRule::Asked(finding.rule))),
             Ok(Status::Surveyed { first, rules }) => {
-                self.add(Cause::Rule(first.rule));
+                self.add(Cause::Rule(first.rule()));
                 self.add_each(rules);
             }
             Err(RunFault::Grammar(fault)) => self.add(Cause::Refusal(fault.reason)),
@@ -128,7 +130,7 @@ impl Causes {
     fn add_each(&mut self, rules: &RuleSet)
         ensures { self.new.found.items ≡ with_causes self.old.found.items (map RuleCause (rules_in rules.now)) }
     {
-        for rule in ALL_RULES {
+        for rule in ALL_NAMED_RULES {
             if rules.has(rule) {
                 self.add(Cause::Rule(rule));
             }
@@ -185,7 +187,7 @@ pub fn put_hints<E: Sink>(task: &Task, lines: Lines, shown: Shown, causes: &[Cau
         (change (E.state errors.old) (E.state errors.new)) }
 {
     match task {
-        Task::Check { profile } | Task::Survey { profile } => {
+        Task::Check { profile, .. } | Task::Survey { profile, .. } => {
             put_each(*profile, hinted(lines, shown, causes), errors);
         }
         _ => {}

@@ -38,12 +38,15 @@ ghost use Rattle.sixel_program.specs.Formats.{empty_line, is_of_empty};
 ghost use Rattle.sixel_program.specs.Names.{is_control, printed, unopened_line};
 ghost use Rattle.sixel_run.specs.declared.item.Item.{Item};
 ghost use Rattle.sixel_run.specs.Outputs.{Gives};
-ghost use Rattle.sixel_run.specs.Texts.{IsLine, Text, entry_line, finding_line, item_line, items_text, reason_name};
-ghost use Rattle.sixel_run.specs.Texts.{rule_name, string_line};
+ghost use Rattle.sixel_run.specs.Texts.{IsLine, Text, asked_entry_line, asked_line, entry_line, finding_line, item_line};
+ghost use Rattle.sixel_run.specs.Texts.{items_text, reason_name, rule_name, string_line};
 ghost use Rattle.sixel_scan.specs.declared.answer.Answer.TheVariants.{Broken, Refused};
 ghost use Rattle.sixel_survey.specs.declared.entry.Entry.{Entry};
+ghost use Rattle.sixel_asked.specs.Names.{name_of};
+ghost use Rattle.sixel_asked.specs.declared.asking.AskedFinding.{AskedFinding};
+ghost use Rattle.sixel_asked.specs.declared.tally.AskedEntry.{AskedEntry};
 
-/// The output of a check, a survey or a scan of several files is that of each, joined. Each line begins with the file's
+/// The output of a task with lines over several files is that of each, joined. Each line begins with the file's
 /// name, if it was given, and without it they are the lines that the task writes over only this file's bytes. A file
 /// that a check or a survey refuses has no line, or in JSON one object, and a grammar fault is the one that the task
 /// finds in only this file's bytes. A scan that wasn't done has the lines of the strings that it found, and the status of
@@ -88,13 +91,17 @@ pub fn names_are_printed_without_controls()
 {}
 
 /// Each line that the program writes about a broken rule, a fault, an empty input or a file that can't be opened asks for
-/// its topic, if it is pasted after `explain`. This holds for the lines of `check`, of `survey` and of `scan`, and for
-/// lines with a file's name and those without one.
+/// its topic, if it is pasted after `explain`. This holds for the lines of `check`, of `survey` and of `scan`, for rules
+/// of portable pictures and those that named terminals ask for, and for lines with a file's name and those without one.
 pub fn each_line_can_be_explained()
     ensures broken { (name : Option Text) (finding : Finding) (said : List Text) →
         ArePasted said (labelled name (finding_line finding)) → Asks (Some said) (rule_name finding.rule ∷ []) }
+    ensures asked { (name : Option Text) (finding : AskedFinding) (said : List Text) →
+        ArePasted said (labelled name (asked_line finding)) → Asks (Some said) (name_of finding.rule ∷ []) }
     ensures surveyed { (name : Option Text) (entry : Entry) (said : List Text) →
         ArePasted said (labelled name (entry_line entry)) → Asks (Some said) (rule_name entry.rule ∷ []) }
+    ensures asked_surveyed { (name : Option Text) (entry : AskedEntry) (said : List Text) →
+        ArePasted said (labelled name (asked_entry_line entry)) → Asks (Some said) (name_of entry.rule ∷ []) }
     ensures scanned { (name : Option Text) (string : Scanned) (finding : Finding) (said : List Text) →
         ArePasted said (labelled name (string_line (record string { answer = Broken finding }))) →
         Asks (Some said) (rule_name finding.rule ∷ []) }

@@ -1,4 +1,4 @@
-//! Which lines a check, a survey or a scan writes.
+//! Which lines a task with lines writes: a check, a survey, a scan or a comparison of terminals.
 
 ghost use Rattle.std.specs.Prelude.{◌≡◌};
 ghost use Rattle.sixel_program.specs.Lines.{all_of, is_json, is_portable_item, is_quiet, shown_at};
@@ -8,7 +8,7 @@ use sixel_check::Outcome;
 use sixel_run::Item;
 use sixel_scan::Answer;
 
-/// Which lines a check, a survey or a scan writes, and in which form. Any other task only may be quiet or not.
+/// Which lines a task with lines writes, and in which form. Any other task only may be quiet or not.
 #[derive(Clone, Copy, Debug, PartialEq, Eq)]
 pub enum Lines {
     /// None, and no note. Why an input is refused is said all the same, and a scan has all of its lines.

@@ -4,22 +4,24 @@ ghost use Rattle.std.specs.Prelude.{◌≡◌, ◌+◌, ◌*◌, ◌≤◌, ◌�
 ghost use Rattle.arrayvec.specs.ArrayVec.{array_vec_len};
 ghost use Rattle.json.specs.Print.{escape, escape_byte, quoted};
 ghost use Rattle.sixel_io.specs.Devices.{Writes};
-ghost use Rattle.sixel_program.specs.Json.{answer_members, broken_at, broken_members, entry_members, fault_members};
-ghost use Rattle.sixel_program.specs.Json.{file_member, finding_members, item_members, json_line, message_member};
-ghost use Rattle.sixel_program.specs.Json.{next_member, next_members, not_read_members, number_member, object_line};
-ghost use Rattle.sixel_program.specs.Json.{outcome_members, pixel_members, plain_refusal, refusal_members, refused_at};
-ghost use Rattle.sixel_program.specs.Json.{refused_members, size_members, string_members, text_member};
-ghost use Rattle.sixel_program.specs.Json.{unread_members};
+ghost use Rattle.sixel_program.specs.Json.{answer_members, asked_at, asked_entry_members, asked_members, broken_at};
+ghost use Rattle.sixel_program.specs.Json.{broken_members, entry_members, fault_members, file_member, finding_members};
+ghost use Rattle.sixel_program.specs.Json.{item_members, json_line, message_member, next_member, next_members};
+ghost use Rattle.sixel_program.specs.Json.{not_read_members, number_member, object_line, outcome_members, pixel_members};
+ghost use Rattle.sixel_program.specs.Json.{plain_refusal, refusal_members, refused_at, refused_members, size_members};
+ghost use Rattle.sixel_program.specs.Json.{string_members, text_member, unread_members};
 
 use crate::folder::{Unopened, reason_words};
 use crate::names::{is_plain, put_quoted, quoted_byte};
 use arrayvec::ArrayVec;
 use itoa::Buffer;
+use sixel_asked::{AskedEntry, AskedFinding, AskedRule};
 use sixel_check::{Finding, Outcome, Rule};
 use sixel_explain::{Topic, summary, topic_name, topic_of};
 use sixel_grammar::Fault;
 use sixel_io::{DeviceFault, Sink};
-use sixel_run::{Item, RunFault, ppm_reason_name, reason_name, rule_name};
+use sixel_named::NamedRule;
+use sixel_run::{Item, RunFault, named_rule_name, ppm_reason_name, reason_name};
 use sixel_scan::{Answer, Scanned};
 use sixel_survey::Entry;
 
@@ -127,13 +129,13 @@ fn push_pixel(text: &mut Rest, rule: Rule, pixel: Option<(u64, u64)>)
 }
 
 /// Which rule is broken.
-fn push_broken(text: &mut Rest, rule: Rule)
+fn push_broken(text: &mut Rest, rule: NamedRule)
     requires { array_vec_len text.old + 222 ≤ 1106 }
     ensures items { text.new.items ≡ text.old.items ++ next_members (broken_members rule) }
     ensures len { array_vec_len text.new ≤ array_vec_len text.old + 222 }
 {
     push_text(text, "result", "broken");
-    push_text(text, "rule", rule_name(rule));
+    push_text(text, "rule", named_rule_name(rule));
 }
 
 /// Where a rule is broken, and what it forbids.
@@ -152,8 +154,27 @@ fn push_finding(text: &mut Rest, finding: &Finding)
     ensures items { text.new.items ≡ text.old.items ++ next_members (finding_members finding.now) }
     ensures len { array_vec_len text.new ≤ array_vec_len text.old + 1032 }
 {
-    push_broken(text, finding.rule);
+    push_broken(text, NamedRule::Portable(finding.rule));
     push_broken_at(text, finding.rule, finding.place, finding.pixel);
+}
+
+/// The same of a rule that a named terminal asks for. None names a pixel.
+fn push_asked_at(text: &mut Rest, rule: AskedRule, place: u64)
+    requires { array_vec_len text.old + 666 ≤ 1106 }
+    ensures items { text.new.items ≡ text.old.items ++ next_members (asked_at rule place) }
+    ensures len { array_vec_len text.new ≤ array_vec_len text.old + 666 }
+{
+    push_number(text, "offset", place);
+    push_message(text, Topic::Asked(rule));
+}
+
+fn push_asked(text: &mut Rest, finding: &AskedFinding)
+    requires { array_vec_len text.old + 888 ≤ 1106 }
+    ensures items { text.new.items ≡ text.old.items ++ next_members (asked_members finding.now) }
+    ensures len { array_vec_len text.new ≤ array_vec_len text.old + 888 }
+{
+    push_broken(text, NamedRule::Asked(finding.rule));
+    push_asked_at(text, finding.rule, finding.place);
 }
 
 /// The size of a portable picture.
@@ -183,9 +204,19 @@ fn push_entry(text: &mut Rest, entry: &Entry)
     ensures items { text.new.items ≡ text.old.items ++ next_members (entry_members entry.now) }
     ensures len { array_vec_len text.new ≤ array_vec_len text.old + 1104 }
 {
-    push_broken(text, entry.rule);
+    push_broken(text, NamedRule::Portable(entry.rule));
     push_number(text, "count", entry.count);
     push_broken_at(text, entry.rule, entry.place, entry.pixel);
+}
+
+fn push_asked_entry(text: &mut Rest, asked: &AskedEntry)
+    requires { array_vec_len text.old + 960 ≤ 1106 }
+    ensures items { text.new.items ≡ text.old.items ++ next_members (asked_entry_members asked.now) }
+    ensures len { array_vec_len text.new ≤ array_vec_len text.old + 960 }
+{
+    push_broken(text, NamedRule::Asked(asked.rule));
+    push_number(text, "count", asked.count);
+    push_asked_at(text, asked.rule, asked.place);
 }
 
 /// Why an input is refused: the reason has at most 14 letters.
@@ -250,8 +281,12 @@ fn push_item(text: &mut Rest, item: &Item)
 {
     match item {
         Item::Outcome(outcome) => push_outcome(text, outcome),
+        Item::Asked(finding) => push_asked(text, finding),
         Item::Entry(entry) => push_entry(text, entry),
+        Item::AskedEntry(entry) => push_asked_entry(text, entry),
         Item::String(scanned) => push_scanned(text, scanned),
+        // A comparison of terminals has no JSON.
+        Item::Same { .. } | Item::Group(_) | Item::Unmodelled { .. } => {}
     }
 }
 

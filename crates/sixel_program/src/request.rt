@@ -7,7 +7,7 @@ use sixel_run::Task;
 #[derive(Debug, Drop)]
 pub struct Request {
     pub task: Task,
-    /// Which lines a check, a survey or a scan writes.
+    /// Which lines a task with lines writes.
     pub lines: Lines,
     /// Whether a check or a survey ends with a hint on each different thing that it found wrong.
     pub explains: bool,

@@ -30,7 +30,11 @@ pub fn is_misdirected(terminals: Terminals, task: Task) -> bool
     terminals.output
         && matches!(
             task,
-            Task::Render { .. } | Task::Show { .. } | Task::ShowBox { .. } | Task::ShowOn { .. }
+            Task::Render { .. }
+                | Task::Show { .. }
+                | Task::ShowBox { .. }
+                | Task::ShowOn { .. }
+                | Task::DifferSheet { .. }
         )
 }
 

@@ -3,6 +3,7 @@
 ghost use Rattle.sixel_run.specs.Outputs.{HasSides};
 
 use crate::memory_folder::MemoryFolder;
+use sixel_asked::Terminals as NamedTerminals;
 use sixel_io::{FromRead, ToWrite};
 use sixel_model::{Colour, Profile};
 use sixel_models::Named;
@@ -11,13 +12,43 @@ use sixel_run::{Area, Task};
 use std::alloc::Global;
 use std::io::{Read, Write};
 
+/// No named terminal.
+const NOT_NAMED: NamedTerminals = NamedTerminals {
+    xterm: false,
+    mlterm: false,
+    foot: false,
+    konsole: false,
+};
+
 pub const CHECK: Task = Task::Check {
     profile: Profile::Registers16,
+    terminals: NOT_NAMED,
 };
 
 pub const SURVEY: Task = Task::Survey {
     profile: Profile::Registers16,
+    terminals: NOT_NAMED,
 };
+
+/// A check by the rules that these named terminals ask for, too.
+pub fn check_for(terminals: NamedTerminals) -> Task
+    ensures { HasSides result }
+{
+    Task::Check {
+        profile: Profile::Registers16,
+        terminals,
+    }
+}
+
+/// Such a survey.
+pub fn survey_for(terminals: NamedTerminals) -> Task
+    ensures { HasSides result }
+{
+    Task::Survey {
+        profile: Profile::Registers16,
+        terminals,
+    }
+}
 
 pub const SCAN: Task = Task::Scan {
     profile: Profile::Registers16,
@@ -57,6 +88,24 @@ pub fn show_on(named: Named) -> Task
         named,
         background: Colour::of_percentages(100, 100, 100),
         area: Area::Box,
+    }
+}
+
+/// `differ` on white screens.
+pub fn differ() -> Task
+    ensures { HasSides result }
+{
+    Task::Differ {
+        background: Colour::of_percentages(100, 100, 100),
+    }
+}
+
+/// The sheet of these screens.
+pub fn sheet() -> Task
+    ensures { HasSides result }
+{
+    Task::DifferSheet {
+        background: Colour::of_percentages(100, 100, 100),
     }
 }
 

@@ -3,7 +3,9 @@
 ghost use Rattle.std.specs.Prelude.{◌≡◌, IfOk};
 ghost use Rattle.sixel_run.specs.Outputs.{HasSides};
 
+mod differing;
 mod faults;
+mod for_terminals;
 mod hints;
 mod lines;
 mod mended;
@@ -20,6 +22,7 @@ mod twice;
 
 use crate::ends::{CHECK, NO_TERMINALS};
 use crate::memory_folder::MemoryFolder;
+use sixel_asked::Terminals as NamedTerminals;
 use sixel_io::{FromRead, ToWrite};
 use sixel_model::Profile;
 use sixel_program::{Exit, Lines, Peeked, Request, Terminals, Unopened, execute};
@@ -47,6 +50,15 @@ const LOG: &[u8] = b"ab\x1bPq\"1;1;1;1#0;2;0;0;0#0@\x1b\\cd\x1bPq\"2;1;1;1#0;2;0
 /// A portable string, and the first bytes of another.
 const HALVED: &[u8] = b"\x1bPq\"1;1;1;1#0;2;0;0;0#0@\x1b\\\x1bPq\"1";
 
+/// Six black pixels, one above the other, in a box of one column.
+const FULL: &[u8] = b"\x1bPq\"1;1;1;6#0;2;0;0;0#0~\x1b\\";
+
+/// The same in a box of two columns.
+const HALF: &[u8] = b"\x1bPq\"1;1;2;6#0;2;0;0;0#0~\x1b\\";
+
+/// Six pixels in register 1, which is selected before it is defined.
+const PEN: &[u8] = b"\x1bPq\"1;1;1;6#1#1;2;100;0;0~\x1b\\";
+
 const PNG: &[u8] = b"\x89PNG\r\n\x1a\n\0\0\0\rIHDR";
 
 /// One red pixel.
@@ -60,6 +72,9 @@ const FOLDER: MemoryFolder<'static> = MemoryFolder {
         ("wide", WIDE),
         ("ratio", RATIO),
         ("three", THREE),
+        ("full", FULL),
+        ("half", HALF),
+        ("pen", PEN),
         ("blank", b"\x1bPq\x1b\\"),
         ("large", b"\x1bPq\"1;1;2049;1\x1b\\"),
         ("text", b"x"),
@@ -345,8 +360,11 @@ fn files_in_the_wide_profile(rt: HostRuntime) -> Result<(), Fail> {
     let names = ["wide", "pixel"];
     let narrow = b"wide: broken Register 11\npixel: portable 1 1\n";
     assert!(rt; checks(rt.alloc(), &names, Exit::Broken, narrow, b"")?);
-    let profile = Profile::Registers256;
-    let asked = asked_of(Task::Check { profile }, &names, RATIO);
+    let wide = Task::Check {
+        profile: Profile::Registers256,
+        terminals: NamedTerminals::none(),
+    };
+    let asked = asked_of(wide, &names, RATIO);
     let portable = b"wide: portable 2 1\npixel: portable 1 1\n";
     let ended = unread(Exit::Done, portable, b"");
     assert!(rt; ends_over(rt.alloc(), &asked, STREAMS, ended)?);

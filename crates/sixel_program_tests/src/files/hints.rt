@@ -7,6 +7,7 @@ use super::{
     ends_over, unread,
 };
 use crate::ends::{RENDER, SURVEY};
+use sixel_asked::Terminals as NamedTerminals;
 use sixel_model::Profile;
 use sixel_program::{Exit, Lines};
 use sixel_run::Task;
@@ -73,8 +74,11 @@ fn a_register(rt: HostRuntime) -> Result<(), Fail> {
     let hint =
         b"sixel: 'sixel explain Register' tells how to fix it; '--wide' checks for 256 registers\n";
     assert!(rt; hints(alloc, &narrow, Exit::Broken, line, true, hint)?);
-    let profile = Profile::Registers256;
-    let wide = asked_of(Task::Check { profile }, &[], b"\x1bPq\"1;1;2;1#256\x1b\\");
+    let check = Task::Check {
+        profile: Profile::Registers256,
+        terminals: NamedTerminals::none(),
+    };
+    let wide = asked_of(check, &[], b"\x1bPq\"1;1;2;1#256\x1b\\");
     let hint = b"sixel: 'sixel explain Register' tells how to fix it\n";
     assert!(rt; hints(alloc, &wide, Exit::Broken, line, true, hint)?);
     Ok(())

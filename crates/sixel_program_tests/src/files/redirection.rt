@@ -5,7 +5,7 @@ ghost use Rattle.sixel_run.specs.Outputs.{HasSides};
 use super::{
     INTERACTIVE, PIXEL, RED, STREAMS, Streams, after_input, asked_of, check_of, ends_over, unread,
 };
-use crate::ends::{ENCODE, NO_TERMINALS, RENDER, SHOW, SHOW_BOX, show_on};
+use crate::ends::{ENCODE, NO_TERMINALS, RENDER, SHOW, SHOW_BOX, sheet, show_on};
 use sixel_models::Named;
 use sixel_program::{Exit, Terminals};
 use sixel_run::Task;
@@ -40,6 +40,7 @@ fn a_ppm_is_not_written_to_a_terminal(rt: HostRuntime) -> Result<(), Fail> {
     assert!(rt; is_redirected(rt.alloc(), SHOW, &["pixel"])?);
     assert!(rt; is_redirected(rt.alloc(), SHOW_BOX, &["-"])?);
     assert!(rt; is_redirected(rt.alloc(), show_on(Named::Foot), &["pixel"])?);
+    assert!(rt; is_redirected(rt.alloc(), sheet(), &["full"])?);
     Ok(())
 }
 

@@ -5,6 +5,7 @@ use super::{
     unread,
 };
 use crate::ends::SURVEY;
+use sixel_asked::Terminals as NamedTerminals;
 use sixel_model::Profile;
 use sixel_program::Exit;
 use sixel_run::Task;
@@ -54,6 +55,7 @@ fn the_wide_profile(rt: HostRuntime) -> Result<(), Fail> {
     assert!(rt; ends_unread(alloc, SURVEY, &["wide"], Exit::Broken, lines, b"")?);
     let wide = Task::Survey {
         profile: Profile::Registers256,
+        terminals: NamedTerminals::none(),
     };
     let lines = b"wide: portable 2 1\n";
     assert!(rt; ends_unread(alloc, wide, &["wide"], Exit::Done, lines, b"")?);

@@ -3,6 +3,7 @@
 ghost use Rattle.std.specs.Prelude.{◌≡◌, Err, IfOk, Ok, Some, false, if◌then◌else◌};
 ghost use Rattle.std.specs.Str.{bytes_eq};
 ghost use Rattle.sixel_model.specs.declared.profile.Profile.TheVariants.{Registers16};
+ghost use Rattle.sixel_named.specs.Laws.{none};
 ghost use Rattle.sixel_program.specs.Files.{is_dash};
 ghost use Rattle.sixel_program.specs.declared.folder.Unopened.TheVariants.{NotFound};
 ghost use Rattle.sixel_run.specs.Outputs.{Gives};
@@ -43,7 +44,7 @@ impl<'a> Folder for ToldFile<'a> {
 fn checked(alloc: Global, file: ToldFile<'_>) -> Result<Exit, AllocError>
     requires { is_dash file.name.now ≡ false }
     ensures { IfOk result (λ exit. exit ≡ Exit.Done →
-        (text : Text) × Gives (Check Registers16) file.entry.bytes.now text (Ok Done)) }
+        (text : Text) × Gives (Check Registers16 none) file.entry.bytes.now text (Ok Done)) }
 {
     let mut files = Vec::new(alloc);
     files.push(String::from_str(alloc, file.name)?)?;

@@ -5,7 +5,7 @@ ghost use Rattle.sixel_run.specs.Outputs.{HasSides};
 use super::{
     Ended, INTERACTIVE, PIXEL, STREAMS, Streams, after_input, asked_of, check_of, ends_over, unread,
 };
-use crate::ends::{RENDER, SCAN, SURVEY};
+use crate::ends::{RENDER, SCAN, SURVEY, differ};
 use sixel_program::Exit;
 use sixel_run::Task;
 use std::alloc::{AllocError, Global};
@@ -30,6 +30,7 @@ fn is_refused(alloc: Global, task: Task, names: &[&str]) -> Result<bool, AllocEr
 fn several_tasks(rt: HostRuntime) -> Result<(), Fail> {
     assert!(rt; is_refused(rt.alloc(), SURVEY, &["-", "-"])?);
     assert!(rt; is_refused(rt.alloc(), SCAN, &["-", "pixel", "-"])?);
+    assert!(rt; is_refused(rt.alloc(), differ(), &["full", "-", "-"])?);
     let twice = check_of(false, &["-", "-"], PIXEL);
     assert!(rt; ends_over(rt.alloc(), &twice, STREAMS, refused())?);
     let quiet = check_of(true, &["-", "-"], PIXEL);

@@ -6,15 +6,21 @@ use Rattle.sixel_grammar.specs.declared.fault.Reason.TheVariants.{Truncated}
 use Rattle.sixel_judge.specs.declared.verdict.Finding.{Finding}
 use Rattle.sixel_run.specs.declared.fault.RunFault.{RunFault}
 use Rattle.sixel_run.specs.declared.fault.RunFault.TheVariants as fault
+use Rattle.sixel_asked.specs.Names.{name_of}
+use Rattle.sixel_asked.specs.declared.asking.AskedFinding.{AskedFinding}
+use Rattle.sixel_asked.specs.declared.tally.AskedEntry.{AskedEntry}
 use Rattle.sixel_survey.specs.declared.entry.Entry.{Entry}
 use Rattle.sixel_scan.specs.declared.answer.Scanned.{Scanned}
 use Rattle.sixel_scan.specs.declared.answer.Answer.TheVariants.{Broken, Refused}
-use Rattle.sixel_run.specs.Texts.{Text, entry_line, finding_line, line, reason_name, rule_name, string_line}
+use Rattle.sixel_run.specs.Texts.{Text, asked_entry_line, asked_line, entry_line, finding_line, line, reason_name}
+use Rattle.sixel_run.specs.Texts.{rule_name, string_line}
 use Rattle.sixel_explain.specs.declared.explanations.Topic.TheVariants.{Grammar, Read}
 use Rattle.sixel_explain.specs.Explanations.{ArePasted, line_of, names_in, topic_name, topic_of, topic_of_end}
-use Rattle.sixel_explain.proofs.PastedLemmas.{EndsInColon, ending_pasted, fault_pasted, finding_pasted, is_a_folder}
-use Rattle.sixel_explain.proofs.PastedLemmas.{low, no_such_file, not_utf8, permission_denied, read_failed, the_input_is_empty}
-use Rattle.sixel_program.proofs.EntryLemmas.{entry_pasted, entry_pasted_after}
+use Rattle.sixel_explain.proofs.PastedLemmas.{EndsInColon, asked_pasted, ending_pasted, fault_pasted, finding_pasted}
+use Rattle.sixel_explain.proofs.PastedLemmas.{is_a_folder, low, no_such_file, not_utf8, permission_denied, read_failed}
+use Rattle.sixel_explain.proofs.PastedLemmas.{the_input_is_empty}
+use Rattle.sixel_program.proofs.EntryLemmas.{asked_entry_pasted, asked_entry_pasted_after, entry_pasted}
+use Rattle.sixel_program.proofs.EntryLemmas.{entry_pasted_after}
 use Rattle.sixel_program.proofs.StringLineLemmas.{string_finding_pasted, string_refusal_pasted}
 use Rattle.sixel_program.specs.declared.folder.Unopened.{Unopened}
 use Rattle.sixel_program.specs.declared.folder.Unopened.TheVariants.{Failed, IsFolder, NotFound, NotText}
@@ -52,15 +58,32 @@ broken : (name : Option Text) (finding : Finding) (said : List Text)
 broken None finding said are = finding_pasted [] finding said are
 broken (Some name) finding said are = finding_pasted (printed name ++ codes ": ") finding said are
 
+asked : (name : Option Text) (finding : AskedFinding) (said : List Text)
+    → ArePasted said (labelled name (asked_line finding))
+    → names_in (line_of said) ≡ Some (name_of finding.rule ∷ [])
+asked None finding said are = asked_pasted [] finding said are
+asked (Some name) finding said are = asked_pasted (printed name ++ codes ": ") finding said are
+
+-- a name, a colon, a space and a line
+after_colon : (name text : Text) → (printed name ++ codes ": ") ++ text ≡ (printed name ++ codes ":") ++ 32 ∷ text
+after_colon name text =
+    append_assoc (printed name) (codes ": ") text ∙ sym (append_assoc (printed name) (codes ":") (32 ∷ text))
+
 surveyed : (name : Option Text) (entry : Entry) (said : List Text)
     → ArePasted said (labelled name (entry_line entry))
     → names_in (line_of said) ≡ Some (rule_name entry.rule ∷ [])
 surveyed None entry said are = entry_pasted entry said are
 surveyed (Some name) entry said are =
     entry_pasted_after (printed name ++ codes ":") entry said
-    (are ∙ ap (λ (t : Text). 32 ∷ t)
-    (append_assoc (printed name) (codes ": ") (entry_line entry)
-    ∙ sym (append_assoc (printed name) (codes ":") (32 ∷ entry_line entry))))
+    (are ∙ ap (λ (t : Text). 32 ∷ t) (after_colon name (entry_line entry)))
+
+asked_surveyed : (name : Option Text) (entry : AskedEntry) (said : List Text)
+    → ArePasted said (labelled name (asked_entry_line entry))
+    → names_in (line_of said) ≡ Some (name_of entry.rule ∷ [])
+asked_surveyed None entry said are = asked_entry_pasted entry said are
+asked_surveyed (Some name) entry said are =
+    asked_entry_pasted_after (printed name ++ codes ":") entry said
+    (are ∙ ap (λ (t : Text). 32 ∷ t) (after_colon name (asked_entry_line entry)))
 
 scanned : (name : Option Text) (string : Scanned) (finding : Finding) (said : List Text)
     → ArePasted said (labelled name (string_line (record string { answer = Broken finding })))
@@ -113,7 +136,9 @@ unopened name Failed said are = ending_pasted (begun name) (reason_text Failed) 
 pub returns : goal.returns
 returns c = record {
   broken = broken;
+  asked = asked;
   surveyed = surveyed;
+  asked_surveyed = asked_surveyed;
   scanned = scanned;
   scan_refused = scan_refused;
   refused = refused;

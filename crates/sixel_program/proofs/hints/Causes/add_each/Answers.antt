@@ -1,5 +1,5 @@
 use Rattle.std.proofs.Common.{◌∙◌, sym}
-use Rattle.sixel_model.specs.Rules.{all_rules}
+use Rattle.sixel_named.specs.Rules.{all_named_rules}
 use Rattle.sixel_run.specs.RuleSets.{has_rule}
 use Rattle.sixel_program.proofs.CauseLemmas.{kept_next, passed_over}
 use Rattle.sixel_program.proofs.hints.Causes.add_each.Goals as goal
@@ -12,9 +12,9 @@ loop-rule-preserved c =
     let i = c.loop-rule.rule-index in
     elim c.if-has.branch [
       | then-has w ↦
-          rw w.self-is (kept_next keeps causes all_rules i _ _ _ c.loop-rule-test.true (sym c.has.ensures ∙ w.if-has.true)
+          rw w.self-is (kept_next keeps causes all_named_rules i _ _ _ c.loop-rule-test.true (sym c.has.ensures ∙ w.if-has.true)
           c.loop-rule.invariant w.add.ensures)
       | else-has w ↦
-          rw w.self-is (passed_over keeps causes all_rules i _ _ c.loop-rule-test.true (sym c.has.ensures ∙ w.if-has.false)
+          rw w.self-is (passed_over keeps causes all_named_rules i _ _ c.loop-rule-test.true (sym c.has.ensures ∙ w.if-has.false)
           c.loop-rule.invariant)
     ]

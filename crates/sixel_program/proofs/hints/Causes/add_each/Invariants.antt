@@ -1,5 +1,5 @@
 use Rattle.std.proofs.Common.{◌≡◌, filter, map, take}
-use Rattle.sixel_model.specs.Rules.{all_rules}
+use Rattle.sixel_named.specs.Rules.{all_named_rules}
 use Rattle.sixel_run.specs.RuleSets.{has_rule}
 use Rattle.sixel_program.specs.declared.hints.Cause.TheVariants.{Rule}
 use Rattle.sixel_program.specs.Hints.{with_causes}
@@ -9,4 +9,4 @@ use Rattle.sixel_program.proofs.hints.Causes.add_each.Given as goal
 abbrev pub invariant-loop-rule : goal.invariant-loop-rule
 invariant-loop-rule l =
     l.self.found.items
-    ≡ with_causes l.fn.self.found.items (map Rule (filter (has_rule l.rules) (take l.rule-index all_rules)))
+    ≡ with_causes l.fn.self.found.items (map Rule (filter (has_rule l.rules) (take l.rule-index all_named_rules)))

@@ -12,39 +12,48 @@ use Rattle.sixel_program.specs.Openings.{Told, bytes_told}
 use Rattle.sixel_program.specs.declared.folder.Unopened.TheVariants.{NotFound}
 use Rattle.sixel_run.specs.Outputs.{Gives}
 use Rattle.sixel_run.specs.Texts.{Text}
-use Rattle.sixel_judge.specs.declared.verdict.Verdict.TheVariants.{Portable, Broken as JudgedBroken}
+use Rattle.sixel_named.specs.Laws.{none}
+use Rattle.sixel_named.specs.declared.verdict.NamedVerdict.TheVariants as verdict
 use Rattle.sixel_program.specs.Exits.{exit_for_answer}
 use Rattle.sixel_program.specs.declared.exit.Exit.TheVariants as exit
 use Rattle.sixel_run.specs.declared.task.Status.{Status}
-use Rattle.sixel_run.specs.declared.task.Status.TheVariants.{Done, Noted, Broken, Surveyed, Unfit}
+use Rattle.sixel_run.specs.declared.task.Status.TheVariants.{Done, Noted, Asked, Broken, Surveyed, Unfit, Differing}
+use Rattle.sixel_run.specs.declared.task.Task.{Task}
 use Rattle.sixel_run.specs.declared.task.Task.TheVariants.{Check}
 use Rattle.sixel_program_tests.proofs.files.told.checked.Goals as goal
 
+abbrev check : Task
+check = Check Registers16 none
+
 -- a check that is done has no note
 no_note : (bytes : List ℕ) (text : Text) (found : Status) → exit_for_answer (Ok found) ≡ exit.Done
-    → Gives (Check Registers16) bytes text (Ok found) → Gives (Check Registers16) bytes text (Ok Done)
+    → Gives check bytes text (Ok found) → Gives check bytes text (Ok Done)
 no_note bytes text Done is gives = gives
-no_note bytes text (Noted note) is (events, document, (Portable picture, judged, same, status)) =
+no_note bytes text (Noted note) is (events, document, (verdict.Portable picture, judged, same, status)) =
     let no : Noted note ≡ Done = status in cc
-no_note bytes text (Noted note) is (events, document, (JudgedBroken finding, judged, same, status)) =
+no_note bytes text (Noted note) is (events, document, (verdict.Broken finding, judged, same, status)) =
     let no : Noted note ≡ Broken finding = status in cc
+no_note bytes text (Noted note) is (events, document, (verdict.Asked finding, judged, same, status)) =
+    let no : Noted note ≡ Asked finding = status in cc
 no_note bytes text (Broken finding) is gives = let no : exit.Broken ≡ exit.Done = is in cc
+no_note bytes text (Asked finding) is gives = let no : exit.Broken ≡ exit.Done = is in cc
 no_note bytes text (Surveyed first rules) is gives = let no : exit.Broken ≡ exit.Done = is in cc
 no_note bytes text (Unfit wrapped) is gives = let no : exit.Broken ≡ exit.Done = is in cc
+no_note bytes text Differing is gives = let no : exit.Broken ≡ exit.Done = is in cc
 
 -- a check of one file that a folder tells is done over what it tells
 done_alone : (contents : Text → Option (List ℕ)) (input : Option (List ℕ)) (names : List Text) (name : Text)
     (bytes : List ℕ) → names ≡ name ∷ [] → is_dash name ≡ false → contents name ≡ Some bytes
-    → All (λ n. IsDoneOver (Check Registers16) (told_of contents input n)) (names_read (Check Registers16) names)
-    → (text : Text) × Gives (Check Registers16) bytes text (Ok Done)
+    → All (λ n. IsDoneOver check (told_of contents input n)) (names_read check names)
+    → (text : Text) × Gives check bytes text (Ok Done)
 done_alone contents input names name bytes one file tells all =
     let told : told_of contents input name ≡ Some bytes =
     ap (λ (b : Bool). if b then input else contents name) file ∙ tells in
-    let here = All-head (λ n. IsDoneOver (Check Registers16) (told_of contents input n)) name []
+    let here = All-head (λ n. IsDoneOver check (told_of contents input n)) name []
     (subst (λ (ns : List Text).
-    All (λ n. IsDoneOver (Check Registers16) (told_of contents input n)) (names_read (Check Registers16) ns)) one
+    All (λ n. IsDoneOver check (told_of contents input n)) (names_read check ns)) one
     all) in
-    let done : IsDoneOver (Check Registers16) (Some bytes) = subst (IsDoneOver (Check Registers16)) told here in
+    let done : IsDoneOver check (Some bytes) = subst (IsDoneOver check) told here in
     (done.0, no_note bytes done.0 done.1 done.2 done.3)
 
 tells_it : (name : Text) (bytes : List ℕ)
