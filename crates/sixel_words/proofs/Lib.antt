@@ -1,5 +1,6 @@
 pub mod CommandLemmas
 pub mod MatchLemmas
+pub mod DifferLemmas
 pub mod ExplainLemmas
 pub mod FaultLemmas
 pub mod WishLemmas
@@ -8,3 +9,4 @@ pub mod ArgumentLemmas
 pub mod ColourLemmas
 pub mod TellingLemmas
 pub mod LiteralLemmas
+pub mod NamesLemmas

@@ -22,7 +22,7 @@ use Rattle.sixel_run.specs.declared.task.Area.{Area}
 use Rattle.sixel_run.specs.declared.task.Area.TheVariants.{Box, Sides}
 use Rattle.sixel_run.specs.declared.task.Task.{Task}
 use Rattle.sixel_run.specs.declared.task.Task.TheVariants.{List as Listing, Check, Survey, Render, Show, ShowBox, ShowOn}
-use Rattle.sixel_run.specs.declared.task.Task.TheVariants.{Mend, Encode, Scan}
+use Rattle.sixel_run.specs.declared.task.Task.TheVariants.{Differ, DifferSheet, Mend, Encode, Scan}
 use Rattle.sixel_program.specs.declared.request.Request.{Request}
 use Rattle.sixel_model.specs.declared.colour.Parts.{Parts}
 use Rattle.sixel_words.specs.Words.{HasArea, HasColour, HasSide, IsSideText, IsTask, describes, files_of, is_given}
@@ -118,6 +118,9 @@ not_survey is = let second : 104 ≡ 117 = ap (λ (t : Text). slice_index t 1) i
 not_scan : codes "show" ≡ codes "scan" → ⊥
 not_scan is = let second : 104 ≡ 99 = ap (λ (t : Text). slice_index t 1) is in omega (arith, second)
 
+not_differ : codes "show" ≡ codes "differ" → ⊥
+not_differ is = let first : 115 ≡ 100 = ap (λ (t : Text). slice_index t 0) is in omega (arith, first)
+
 not_mend : codes "show" ≡ codes "mend" → ⊥
 not_mend is = let first : 115 ≡ 109 = ap (λ (t : Text). slice_index t 0) is in omega (arith, first)
 
@@ -129,12 +132,14 @@ pub not_shown : (rows : List Row) (t : Task)
     → HasColour (codes "background") rows colour → HasArea rows area → describes rows ≡ false → ⊥)
     → IsTask (codes "show") rows t → ⊥
 not_shown rows Listing described named is = not_list is
-not_shown rows (Check profile) described named is = not_check is.0
+not_shown rows (Check profile terminals) described named is = not_check is.0
 not_shown rows (Render profile) described named is = not_render is.0
 not_shown rows (Encode profile) described named is = not_encode is.0
-not_shown rows (Survey profile) described named is = not_survey is.0
+not_shown rows (Survey profile terminals) described named is = not_survey is.0
 not_shown rows (Scan profile eight) described named is = not_scan is.0
 not_shown rows (Mend profile background showing selects) described named is = not_mend is.0
+not_shown rows (Differ background) described named is = not_differ is.0
+not_shown rows (DifferSheet background) described named is = not_differ is.0
 not_shown rows (Show profile showing fill selects width height) described named is =
     described (Sides width height) is.5 is.6 is.7
 not_shown rows (ShowBox profile showing fill selects) described named is = described Box is.5 is.6 is.7
@@ -199,8 +204,9 @@ other_first name first starts other is =
 pub without_colour : (rows : List Row) (t : Task) → ((c : Parts) → HasColour (codes "background") rows c → ⊥)
     → IsTask (codes "mend") rows t → ⊥
 without_colour rows Listing none is = other_first (codes "list") 108 refl (λ e. omega (arith, e)) is
-without_colour rows (Check profile) none is = other_first (codes "check") 99 refl (λ e. omega (arith, e)) is.0
-without_colour rows (Survey profile) none is = other_first (codes "survey") 115 refl (λ e. omega (arith, e)) is.0
+without_colour rows (Check profile terminals) none is = other_first (codes "check") 99 refl (λ e. omega (arith, e)) is.0
+without_colour rows (Survey profile terminals) none is =
+    other_first (codes "survey") 115 refl (λ e. omega (arith, e)) is.0
 without_colour rows (Scan profile eight) none is = other_first (codes "scan") 115 refl (λ e. omega (arith, e)) is.0
 without_colour rows (Render profile) none is = other_first (codes "render") 114 refl (λ e. omega (arith, e)) is.0
 without_colour rows (Encode profile) none is = other_first (codes "encode") 101 refl (λ e. omega (arith, e)) is.0
@@ -210,6 +216,10 @@ without_colour rows (ShowBox profile showing fill selects) none is =
     other_first (codes "show") 115 refl (λ e. omega (arith, e)) is.0
 without_colour rows (ShowOn named background area) none is =
     other_first (codes "show") 115 refl (λ e. omega (arith, e)) is.0
+without_colour rows (Differ background) none is =
+    other_first (codes "differ") 100 refl (λ e. omega (arith, e)) is.0
+without_colour rows (DifferSheet background) none is =
+    other_first (codes "differ") 100 refl (λ e. omega (arith, e)) is.0
 without_colour rows (Mend profile background showing selects) none is = none background is.2
 
 abbrev pub name_in : Option (Text × List Row) → Text
@@ -228,11 +238,11 @@ same_task o n m r s t e f is =
     let rows : r ≡ s = sym (ap rows_in e) ∙ ap rows_in f in
     subst (λ (k : Text). IsTask k s t) name (subst (λ (k : List Row). IsTask n k t) rows is)
 
--- the arguments ask for `show` with options that have no task
-pub none_named : (o : Option (Text × List Row)) (name : Text) (rows : List Row) (t : Task) → o ≡ Some (name, rows)
-    → IsTask name rows t → name_in o ≡ codes "show" → (IsTask (codes "show") (rows_in o) t → ⊥) → ⊥
-none_named o name rows t e is called none =
-    let n : name ≡ codes "show" = sym (ap name_in e) ∙ called in
+-- the arguments ask for this subcommand with options that have no task
+pub none_called : (sub : Text) (o : Option (Text × List Row)) (name : Text) (rows : List Row) (t : Task)
+    → o ≡ Some (name, rows) → IsTask name rows t → name_in o ≡ sub → (IsTask sub (rows_in o) t → ⊥) → ⊥
+none_called sub o name rows t e is called none =
+    let n : name ≡ sub = sym (ap name_in e) ∙ called in
     let r : rows ≡ rows_in o = sym (ap rows_in e) in
     none (subst (λ (k : Text). IsTask k (rows_in o) t) n (subst (λ (k : List Row). IsTask name k t) r is))
 

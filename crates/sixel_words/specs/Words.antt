@@ -1,7 +1,7 @@
 -- The command line: what the arguments ask for, in the terms of clap's contracts.
 use Rattle.std.specs.Prelude.{◌≡◌, ◌≢◌, ◌⊎◌, ◌≤◌, ℕ, Bool, false, true, List, [], ◌∷◌, Option, Some, None, codes, pos}
-use Rattle.std.specs.Prelude.{◌++◌, ◌||◌, ⊤, find, length, map, if◌then◌else◌, unwrap_or}
-use Rattle.std.specs.List.{list_any}
+use Rattle.std.specs.Prelude.{◌++◌, ◌==◌, ◌||◌, ⊤, find, length, map, if◌then◌else◌, unwrap_or}
+use Rattle.std.specs.List.{list_all, list_any, slice_split}
 use Rattle.std.specs.Option.{option_and_then, option_map_or}
 use Rattle.std.specs.Str.{bytes_eq}
 use Rattle.std.specs.Str.Parse.{IsNumeral, digits_value, without_leading_plus}
@@ -11,6 +11,7 @@ use Rattle.sixel_model.specs.declared.profile.Profile.{Profile}
 use Rattle.sixel_model.specs.declared.profile.Profile.TheVariants.{Registers16, Registers256}
 use Rattle.sixel_models.specs.declared.named.Named.{Named}
 use Rattle.sixel_models.specs.declared.named.Named.TheVariants.{XTerm, MlTerm, Foot, Konsole}
+use Rattle.sixel_asked.specs.declared.terminals.Terminals.{Terminals}
 use Rattle.sixel_ppm.specs.PpmReading as ppm
 use Rattle.sixel_terminal.specs.Limits.{most_screen_side}
 use Rattle.clap.specs.Faults.{fault_of}
@@ -67,7 +68,7 @@ side name fallback = record (new_rule name) {
   parser = Some (parser.Signed (pos 1) (pos most_screen_side));
 }
 
--- `--on NAME`
+-- `--on NAME` or `--on NAMES`
 abbrev pub on : Rule
 on = record (new_rule (codes "on")) { long = Some (codes "on"); value_names = 1 }
 
@@ -86,8 +87,9 @@ profiled_app name = with_rule (with_rule (new_app name) (flag (codes "wide"))) f
 -- `check`
 abbrev pub check_app : App
 check_app =
-    with_rule (with_rule (with_rule (with_rule (with_rule (with_rule (new_app (codes "check"))
+    with_rule (with_rule (with_rule (with_rule (with_rule (with_rule (with_rule (new_app (codes "check"))
     (flag (codes "wide")))
+    on)
     quiet)
     (flag (codes "failed")))
     (flag (codes "json")))
@@ -97,8 +99,9 @@ check_app =
 -- `survey`
 abbrev pub survey_app : App
 survey_app =
-    with_rule (with_rule (with_rule (with_rule (new_app (codes "survey"))
+    with_rule (with_rule (with_rule (with_rule (with_rule (new_app (codes "survey"))
     (flag (codes "wide")))
+    on)
     (flag (codes "json")))
     (flag (codes "explain")))
     files
@@ -130,6 +133,13 @@ show_app =
     (background (codes "100,100,100")))
     file
 
+-- `differ`
+abbrev pub differ_app : App
+differ_app =
+    with_rule (with_rule (with_rule (new_app (codes "differ")) (background (codes "100,100,100")))
+    (flag (codes "sheet")))
+    files
+
 -- `mend`
 abbrev pub mend_app : App
 mend_app =
@@ -151,7 +161,7 @@ explain_app =
 abbrev pub sixel_app : App
 sixel_app =
     with_subcommand (with_subcommand (with_subcommand (with_subcommand (with_subcommand (with_subcommand
-    (with_subcommand (with_subcommand (with_subcommand
+    (with_subcommand (with_subcommand (with_subcommand (with_subcommand
     (on_top (λ s. record s {
       has_version = true;
       propagate_version = true;
@@ -159,7 +169,7 @@ sixel_app =
       args_override_self = true;
     }) (new_app (codes "sixel")))
     (plain_app (codes "list")).top) check_app.top) survey_app.top) scan_app.top) (profiled_app (codes "render")).top)
-    (profiled_app (codes "encode")).top) show_app.top) mend_app.top) explain_app.top
+    (profiled_app (codes "encode")).top) show_app.top) differ_app.top) mend_app.top) explain_app.top
 
 -- the flags of `check` for its profile and for no lines
 abbrev pub check_flags : List Text
@@ -255,17 +265,58 @@ terminal_name MlTerm = codes "mlterm"
 terminal_name Foot = codes "foot"
 terminal_name Konsole = codes "konsole"
 
+-- the names of the four
+abbrev pub terminal_names : List Text
+terminal_names = map terminal_name (XTerm ∷ MlTerm ∷ Foot ∷ Konsole ∷ [])
+
+abbrev pub no_terminals : Terminals
+no_terminals = record { xterm = false; mlterm = false; foot = false; konsole = false }
+
+abbrev pub all_terminals : Terminals
+all_terminals = record { xterm = true; mlterm = true; foot = true; konsole = true }
+
+-- the parts of a text between its commas
+abbrev pub parts_of : Text → List Text
+parts_of text = slice_split (λ byte. byte == 44) text
+
+-- the terminals whose names are among these
+abbrev pub terminals_among : List Text → Terminals
+terminals_among names = record {
+  xterm = is_among names (terminal_name XTerm);
+  mlterm = is_among names (terminal_name MlTerm);
+  foot = is_among names (terminal_name Foot);
+  konsole = is_among names (terminal_name Konsole);
+}
+
+-- the text names these terminals: it is `all`; or each of its parts is the name of one, and these are they
+abbrev pub NamesTerminals : Text → Terminals → Type 0
+NamesTerminals text terminals =
+    ((text ≡ codes "all") × (terminals ≡ all_terminals))
+    ⊎ ((list_all (is_among terminal_names) (parts_of text) ≡ true) × (terminals ≡ terminals_among (parts_of text)))
+
+-- the value of `--on` names these terminals; without the option there are none
+abbrev pub HasTerminals : List Row → Terminals → Type 0
+HasTerminals rows terminals =
+    ((first_of (codes "on") rows ≡ None) × (terminals ≡ no_terminals))
+    ⊎ ((text : Text) × (first_of (codes "on") rows ≡ Some text) × NamesTerminals text terminals)
+
 -- a flag that describes the terminal of `show` is given
 abbrev pub describes : List Row → Bool
 describes rows = is_given (codes "wide") rows || is_given (codes "showing") rows || is_given (codes "fill") rows
     || is_given (codes "define-selects") rows
 
--- the task of a subcommand with this name and these options. With `--on` there is a task if its value is the name of a
--- terminal, and no flag describes one; without it, if `--background` isn't given
+-- the names of the files, in the order of the arguments
+abbrev pub files_of : List Row → List Text
+files_of rows = unwrap_or (all_of (codes "FILE") rows) []
+
+-- the task of a subcommand with this name and these options. Of `show` with `--on` there is a task if its value is the
+-- name of a terminal, and no flag describes one; without it, if `--background` isn't given. A sheet has a file at most
 abbrev pub IsTask : Text → List Row → Task → Type 0
 IsTask name rows task.List = name ≡ codes "list"
-IsTask name rows (task.Check profile) = (name ≡ codes "check") × (profile_of rows ≡ profile)
-IsTask name rows (task.Survey profile) = (name ≡ codes "survey") × (profile_of rows ≡ profile)
+IsTask name rows (task.Check profile terminals) = (name ≡ codes "check") × (profile_of rows ≡ profile)
+    × HasTerminals rows terminals
+IsTask name rows (task.Survey profile terminals) = (name ≡ codes "survey") × (profile_of rows ≡ profile)
+    × HasTerminals rows terminals
 IsTask name rows (task.Scan profile eight) = (name ≡ codes "scan") × (profile_of rows ≡ profile)
     × (is_given (codes "eight-bit") rows ≡ eight)
 IsTask name rows (task.Render profile) = (name ≡ codes "render") × (profile_of rows ≡ profile)
@@ -291,6 +342,13 @@ IsTask name rows (task.ShowOn named colour area) = (name ≡ codes "show")
     × HasColour (codes "background") rows colour
     × HasArea rows area
     × (describes rows ≡ false)
+IsTask name rows (task.Differ colour) = (name ≡ codes "differ")
+    × HasColour (codes "background") rows colour
+    × (is_given (codes "sheet") rows ≡ false)
+IsTask name rows (task.DifferSheet colour) = (name ≡ codes "differ")
+    × HasColour (codes "background") rows colour
+    × (is_given (codes "sheet") rows ≡ true)
+    × (length (files_of rows) ≤ 1)
 IsTask name rows (task.Mend profile colour showing selects) = (name ≡ codes "mend")
     × (profile_of rows ≡ profile)
     × HasColour (codes "background") rows colour
@@ -309,10 +367,6 @@ abbrev pub lines_of : List Row → Lines
 lines_of rows = if is_given (codes "quiet") rows then Nothing (is_given (codes "json") rows)
     else if is_given (codes "json") rows then Json (is_given (codes "failed") rows)
     else Plain (is_given (codes "failed") rows)
-
--- the names of the files, in the order of the arguments
-abbrev pub files_of : List Row → List Text
-files_of rows = unwrap_or (all_of (codes "FILE") rows) []
 
 -- what the arguments ask for, the first being the program's name: the task, its lines, whether it ends with hints, and
 -- the files

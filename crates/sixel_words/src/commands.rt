@@ -4,8 +4,9 @@ ghost use Rattle.std.specs.Prelude.{◌≡◌, IfOk, codes, false};
 ghost use Rattle.clap.specs.Walk.{rule_of};
 ghost use Rattle.clap.specs.Simple.{app_of, new_app};
 ghost use Rattle.clap.specs.declared.builder.command.Command.TheViews.{out-Command as fields_of};
-ghost use Rattle.sixel_words.specs.Words.{background, check_app, explain_app, file, files, flag, mend_app, plain_app};
-ghost use Rattle.sixel_words.specs.Words.{on, profiled_app, quiet, scan_app, show_app, side, sixel_app, survey_app};
+ghost use Rattle.sixel_words.specs.Words.{background, check_app, differ_app, explain_app, file, files, flag, mend_app};
+ghost use Rattle.sixel_words.specs.Words.{on, plain_app, profiled_app, quiet, scan_app, show_app, side, sixel_app};
+ghost use Rattle.sixel_words.specs.Words.{survey_app};
 
 mod help;
 
@@ -40,6 +41,7 @@ pub fn sixel_command<'a>(alloc: Global) -> Result<Command<'a>, AllocError>
         .subcommand(render_command(alloc)?)?
         .subcommand(encode_command(alloc)?)?
         .subcommand(show_command(alloc)?)?
+        .subcommand(differ_command(alloc)?)?
         .subcommand(mend_command(alloc)?)?
         .subcommand(explain_command(alloc)?)
 }
@@ -146,6 +148,7 @@ pub fn check_command<'a>(alloc: Global) -> Result<Command<'a>, AllocError>
         help::CHECK,
     )?
     .arg(wide_arg(alloc))?
+    .arg(names_arg(alloc))?
     .arg(quiet_arg(alloc, "Print no verdict; use the exit status"))?
     .arg(flag_arg(
         alloc,
@@ -169,6 +172,7 @@ pub fn survey_command<'a>(alloc: Global) -> Result<Command<'a>, AllocError>
         help::SURVEY,
     )?
     .arg(wide_arg(alloc))?
+    .arg(names_arg(alloc))?
     .arg(json_arg(alloc))?
     .arg(explain_arg(alloc))?
     .arg(files_arg(alloc))
@@ -233,13 +237,41 @@ pub fn show_command<'a>(alloc: Global) -> Result<Command<'a>, AllocError>
         "The screen's height in pixels, 1 to 4096",
     ))?
     .arg(flag_arg(alloc, "box", "Make the screen as large as the declared box"))?
-    .arg(on_arg(alloc))?
+    .arg(on_arg(
+        alloc,
+        "NAME",
+        "Draw as this terminal does: xterm, mlterm, foot or konsole",
+    ))?
     .arg(background_arg(
         alloc,
         "100,100,100",
         "With --on: the screen before the picture, in percent, or '#RRGGBB'",
     ))?
     .arg(file_arg(alloc))
+}
+
+/// `differ`, with two options and any number of files.
+pub fn differ_command<'a>(alloc: Global) -> Result<Command<'a>, AllocError>
+    ensures app { IfOk result (λ c. app_of c ≡ differ_app) }
+    ensures local { IfOk result (λ c. (fields_of c).has_globals ≡ false) }
+{
+    task_command(
+        alloc,
+        "differ",
+        "Says which of four terminals show the picture differently, and where",
+        help::DIFFER,
+    )?
+    .arg(background_arg(
+        alloc,
+        "100,100,100",
+        "The screens before the picture, in percent, or '#RRGGBB'",
+    ))?
+    .arg(flag_arg(
+        alloc,
+        "sheet",
+        "Write the four screens side by side, as a PPM, instead",
+    ))?
+    .arg(files_arg(alloc))
 }
 
 /// `mend`, with five options and an optional file.
@@ -297,13 +329,26 @@ fn side_arg<'a>(alloc: Global, name: &'a str, fallback: &'a str, help: &'a str) 
         .help(help)
 }
 
-/// `--on NAME`, of a terminal.
-fn on_arg<'a>(alloc: Global) -> Arg<'a>
+/// `--on NAME` of a terminal, or `--on NAMES` of several.
+fn on_arg<'a>(alloc: Global, value: &'a str, help: &'a str) -> Arg<'a>
     ensures rule { rule_of result ≡ on }
     ensures local { result.global ≡ false }
 {
-    Arg::new(alloc, "on").long("on").value_name("NAME").help(
-        "Draw as this terminal does: xterm, mlterm, foot or konsole",
+    Arg::new(alloc, "on")
+        .long("on")
+        .value_name(value)
+        .help(help)
+}
+
+/// `--on NAMES`, of terminals whose rules count.
+fn names_arg<'a>(alloc: Global) -> Arg<'a>
+    ensures rule { rule_of result ≡ on }
+    ensures local { result.global ≡ false }
+{
+    on_arg(
+        alloc,
+        "NAMES",
+        "Count the rules of these terminals, too: xterm, mlterm, foot, konsole or all",
     )
 }
 

@@ -12,12 +12,12 @@ ghost use Rattle.sixel_models.specs.declared.named.Named.TheVariants.{Konsole, X
 ghost use Rattle.sixel_run.specs.declared.task.Area.TheVariants.{Box, Sides};
 ghost use Rattle.sixel_run.specs.declared.task.Task.{Task};
 ghost use Rattle.sixel_run.specs.declared.task.Task.TheVariants.{Check, List as Listing, Mend, Scan, Show, ShowBox};
-ghost use Rattle.sixel_run.specs.declared.task.Task.TheVariants.{ShowOn, Survey};
+ghost use Rattle.sixel_run.specs.declared.task.Task.TheVariants.{Differ, DifferSheet, ShowOn, Survey};
 ghost use Rattle.sixel_explain.specs.Explanations.{topic_name};
 ghost use Rattle.sixel_run.specs.Texts.{Text};
 ghost use Rattle.sixel_program.specs.declared.lines.Lines.TheVariants.{Json, Nothing, Plain};
-ghost use Rattle.sixel_words.specs.Words.{AsksFor, IsRequestOf, IsTaskOf, check_flags, is_among, kinds_of};
-ghost use Rattle.sixel_words.specs.Words.{sixel_app, subcommands};
+ghost use Rattle.sixel_words.specs.Words.{AsksFor, IsRequestOf, IsTaskOf, all_terminals, check_flags};
+ghost use Rattle.sixel_words.specs.Words.{is_among, kinds_of, no_terminals, sixel_app, subcommands};
 
 /// The command line `sixel list` is accepted, and asks for the task `List`.
 pub fn the_word_list_gives_a_list()
@@ -28,12 +28,36 @@ pub fn the_word_list_gives_a_list()
 /// `sixel survey` is accepted, and surveys with 16 registers. So it is with `--wide` and over files in turn, and has 256.
 pub fn the_word_survey_gives_a_survey()
     ensures taken { (program : Text) → takes sixel_app (program ∷ codes "survey" ∷ []) ≡ true }
-    ensures task { (program : Text) → IsTaskOf (program ∷ codes "survey" ∷ []) (Survey Registers16) }
+    ensures task { (program : Text) → IsTaskOf (program ∷ codes "survey" ∷ []) (Survey Registers16 no_terminals) }
     ensures files_taken { (program : Text) →
         takes sixel_app (program ∷ codes "survey" ∷ codes "--wide" ∷ codes "a" ∷ codes "b" ∷ []) ≡ true }
     ensures files { (program : Text) →
         IsRequestOf (program ∷ codes "survey" ∷ codes "--wide" ∷ codes "a" ∷ codes "b" ∷ [])
-        (Survey Registers256) (Plain false) false (codes "a" ∷ codes "b" ∷ []) }
+        (Survey Registers256 no_terminals) (Plain false) false (codes "a" ∷ codes "b" ∷ []) }
+{}
+
+/// `check --on` and `survey --on` name terminals whose rules count: a check of `xterm,foot,xterm` is for these two, and
+/// a survey of `all` for the four; of several values the last counts. There is no task if a part between commas is no
+/// name, for an empty value, and for `all` with another name.
+pub fn the_option_on_names_terminals()
+    ensures taken { (program : Text) →
+        takes sixel_app (program ∷ codes "check" ∷ codes "--on" ∷ codes "xterm,foot,xterm" ∷ []) ≡ true }
+    ensures several { (program : Text) →
+        IsTaskOf (program ∷ codes "check" ∷ codes "--on" ∷ codes "xterm,foot,xterm" ∷ [])
+        (Check Registers16 (record { xterm = true; mlterm = false; foot = true; konsole = false })) }
+    ensures every { (program : Text) → IsTaskOf (program ∷ codes "survey" ∷ codes "--on" ∷ codes "all" ∷ [])
+        (Survey Registers16 all_terminals) }
+    ensures last { (program : Text) →
+        IsTaskOf (program ∷ codes "check" ∷ codes "--on" ∷ codes "kitty" ∷ codes "--on" ∷ codes "konsole" ∷ [])
+        (Check Registers16 (record { xterm = false; mlterm = false; foot = false; konsole = true })) }
+    ensures no_other_name { (program : Text) (task : Task) →
+        IsTaskOf (program ∷ codes "check" ∷ codes "--on" ∷ codes "xterm,kitty" ∷ []) task → ⊥ }
+    ensures no_empty_name { (program : Text) (task : Task) →
+        IsTaskOf (program ∷ codes "survey" ∷ codes "--on" ∷ codes "xterm," ∷ []) task → ⊥ }
+    ensures no_value { (program : Text) (task : Task) →
+        IsTaskOf (program ∷ codes "check" ∷ codes "--on" ∷ [] ∷ []) task → ⊥ }
+    ensures no_more_than_all { (program : Text) (task : Task) →
+        IsTaskOf (program ∷ codes "check" ∷ codes "--on" ∷ codes "all,foot" ∷ []) task → ⊥ }
 {}
 
 /// `sixel scan` is accepted, and scans with 16 registers and without 8-bit controls. So it is with `--wide` and
@@ -106,6 +130,24 @@ pub fn the_words_show_on_name_a_terminal()
         IsTaskOf (program ∷ codes "show" ∷ codes "--background" ∷ codes "100,50,0" ∷ []) task → ⊥ }
 {}
 
+/// `sixel differ` is accepted, and compares white screens. `--background` gives another colour, and it takes several files.
+/// `--sheet` asks for the screens themselves, of one file; with two files there is no task.
+pub fn the_word_differ_gives_a_differ()
+    ensures taken { (program : Text) → takes sixel_app (program ∷ codes "differ" ∷ []) ≡ true }
+    ensures task { (program : Text) → IsTaskOf (program ∷ codes "differ" ∷ []) (Differ (Rgb 100 100 100)) }
+    ensures files_taken { (program : Text) → takes sixel_app (program ∷ codes "differ" ∷ codes "--background"
+        ∷ codes "100,50,0" ∷ codes "a" ∷ codes "b" ∷ []) ≡ true }
+    ensures files { (program : Text) → IsRequestOf (program ∷ codes "differ" ∷ codes "--background"
+        ∷ codes "100,50,0" ∷ codes "a" ∷ codes "b" ∷ [])
+        (Differ (Rgb 100 50 0)) (Plain false) false (codes "a" ∷ codes "b" ∷ []) }
+    ensures sheet_taken { (program : Text) →
+        takes sixel_app (program ∷ codes "differ" ∷ codes "--sheet" ∷ codes "a" ∷ []) ≡ true }
+    ensures sheet { (program : Text) → IsRequestOf (program ∷ codes "differ" ∷ codes "--sheet" ∷ codes "a" ∷ [])
+        (DifferSheet (Rgb 100 100 100)) (Plain false) false (codes "a" ∷ []) }
+    ensures no_sheet { (program : Text) (task : Task) →
+        IsTaskOf (program ∷ codes "differ" ∷ codes "--sheet" ∷ codes "a" ∷ codes "b" ∷ []) task → ⊥ }
+{}
+
 /// clap finds that the arguments `--help`, `-h`, and `--help` after the name of each subcommand ask for help, and that
 /// `--version`, `-V`, and `--version` after the name of each subcommand ask for the version.
 pub fn the_word_help_asks_for_help()
@@ -142,7 +184,7 @@ pub fn an_option_may_come_again()
         takes sixel_app (program ∷ codes "check" ∷ flags) ≡ true }
     ensures request { (program : Text) (flags : List Text) → All (Contains check_flags) flags →
         IsRequestOf (program ∷ codes "check" ∷ flags)
-        (Check (if is_among flags (codes "--wide") then Registers256 else Registers16))
+        (Check (if is_among flags (codes "--wide") then Registers256 else Registers16) no_terminals)
         (if is_among flags (codes "-q") || is_among flags (codes "--quiet") then Nothing false else Plain false)
         false [] }
     ensures number_taken { (program : Text) → takes sixel_app (program ∷ codes "show" ∷ codes "--width" ∷ codes "3"
@@ -156,28 +198,28 @@ pub fn an_option_may_come_again()
 /// hints.
 pub fn options_ask_for_lines()
     ensures failed { (program : Text) → IsRequestOf (program ∷ codes "check" ∷ codes "--failed" ∷ codes "a" ∷ [])
-        (Check Registers16) (Plain true) false (codes "a" ∷ []) }
+        (Check Registers16 no_terminals) (Plain true) false (codes "a" ∷ []) }
     ensures check { (program : Text) → IsRequestOf (program ∷ codes "check" ∷ codes "--json" ∷ codes "a" ∷ [])
-        (Check Registers16) (Json false) false (codes "a" ∷ []) }
+        (Check Registers16 no_terminals) (Json false) false (codes "a" ∷ []) }
     ensures survey { (program : Text) → IsRequestOf (program ∷ codes "survey" ∷ codes "--json" ∷ [])
-        (Survey Registers16) (Json false) false [] }
+        (Survey Registers16 no_terminals) (Json false) false [] }
     ensures scan { (program : Text) → IsRequestOf (program ∷ codes "scan" ∷ codes "--json" ∷ [])
         (Scan Registers16 false) (Json false) false [] }
     ensures both { (program : Text) →
         IsRequestOf (program ∷ codes "check" ∷ codes "--json" ∷ codes "--failed" ∷ [])
-        (Check Registers16) (Json true) false [] }
+        (Check Registers16 no_terminals) (Json true) false [] }
     ensures quiet { (program : Text) →
         IsRequestOf (program ∷ codes "check" ∷ codes "--json" ∷ codes "-q" ∷ codes "--failed" ∷ [])
-        (Check Registers16) (Nothing true) false [] }
+        (Check Registers16 no_terminals) (Nothing true) false [] }
     ensures quiet_scan { (program : Text) →
         IsRequestOf (program ∷ codes "scan" ∷ codes "-q" ∷ codes "--json" ∷ codes "a" ∷ [])
         (Scan Registers16 false) (Nothing true) false (codes "a" ∷ []) }
     ensures quiet_box { (program : Text) → IsRequestOf (program ∷ codes "show" ∷ codes "--box" ∷ codes "--quiet" ∷ [])
         (ShowBox Registers16 false false false) (Nothing false) false [] }
     ensures explained { (program : Text) → IsRequestOf (program ∷ codes "check" ∷ codes "--explain" ∷ [])
-        (Check Registers16) (Plain false) true [] }
+        (Check Registers16 no_terminals) (Plain false) true [] }
     ensures survey_explained { (program : Text) → IsRequestOf (program ∷ codes "survey" ∷ codes "--explain" ∷ [])
-        (Survey Registers16) (Plain false) true [] }
+        (Survey Registers16 no_terminals) (Plain false) true [] }
     ensures taken { (program : Text) → takes sixel_app (program ∷ codes "check" ∷ codes "--json" ∷ codes "-q"
         ∷ codes "--failed" ∷ codes "--explain" ∷ []) ≡ true }
 {}

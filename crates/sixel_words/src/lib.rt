@@ -2,8 +2,10 @@
 #![tactic(auto)]
 
 mod arguments;
+mod check_words;
 mod colours;
 mod commands;
+mod differ_words;
 pub mod laws;
 mod options;
 mod show_errors;

@@ -5,8 +5,8 @@ ghost use Rattle.clap.specs.Values.{kind_of};
 ghost use Rattle.sixel_words.specs.Words.{may_get_a_tip};
 
 use crate::commands::{
-    check_command, encode_command, explain_command, list_command, mend_command, render_command,
-    scan_command, show_command, sixel_command, survey_command,
+    check_command, differ_command, encode_command, explain_command, list_command, mend_command,
+    render_command, scan_command, show_command, sixel_command, survey_command,
 };
 use clap::error::ErrorKind;
 use clap::{Command, Error};
@@ -75,6 +75,39 @@ pub fn terminal_error(alloc: Global, name: &str) -> Result<Error, AllocError>
     )
 }
 
+/// A usage error of `check`: this value of `--on` names no terminals.
+pub fn unchecked_error(alloc: Global, value: &str) -> Result<Error, AllocError>
+    ensures { IfOk result (λ e. kind_of e ≡ ErrorKind.InvalidValue) }
+{
+    let reason = names_reason(alloc, value)?;
+    error_of(
+        check_command(alloc)?,
+        "sixel check",
+        ErrorKind::InvalidValue,
+        reason.as_str(),
+    )
+}
+
+/// The same of `survey`.
+pub fn unsurveyed_error(alloc: Global, value: &str) -> Result<Error, AllocError>
+    ensures { IfOk result (λ e. kind_of e ≡ ErrorKind.InvalidValue) }
+{
+    let reason = names_reason(alloc, value)?;
+    error_of(
+        survey_command(alloc)?,
+        "sixel survey",
+        ErrorKind::InvalidValue,
+        reason.as_str(),
+    )
+}
+
+fn names_reason(alloc: Global, value: &str) -> Result<String, AllocError> {
+    format!(in alloc;
+        "invalid value '{value}' for '--on <NAMES>'\n  \
+        [possible values: xterm, mlterm, foot, konsole with commas between them, or all]"
+    )
+}
+
 /// A usage error of `mend`: this value of `--background` is no colour.
 pub fn background_error(alloc: Global, value: &str) -> Result<Error, AllocError>
     ensures { IfOk result (λ e. kind_of e ≡ ErrorKind.ValueValidation) }
@@ -98,6 +131,31 @@ pub fn uncoloured_error(alloc: Global, value: &str) -> Result<Error, AllocError>
         "sixel show",
         ErrorKind::ValueValidation,
         reason.as_str(),
+    )
+}
+
+/// The same of `differ`.
+pub fn undiffered_error(alloc: Global, value: &str) -> Result<Error, AllocError>
+    ensures { IfOk result (λ e. kind_of e ≡ ErrorKind.ValueValidation) }
+{
+    let reason = colour_reason(alloc, value)?;
+    error_of(
+        differ_command(alloc)?,
+        "sixel differ",
+        ErrorKind::ValueValidation,
+        reason.as_str(),
+    )
+}
+
+/// A usage error of `differ`: a sheet of several files.
+pub fn sheet_error(alloc: Global) -> Result<Error, AllocError>
+    ensures { IfOk result (λ e. kind_of e ≡ ErrorKind.ArgumentConflict) }
+{
+    error_of(
+        differ_command(alloc)?,
+        "sixel differ",
+        ErrorKind::ArgumentConflict,
+        "the argument '--sheet' cannot be used with several files",
     )
 }
 
@@ -233,6 +291,7 @@ fn unknown_error(alloc: Global, name: &str, error: &Error) -> Result<Option<Erro
         "render" => render_command(alloc)?,
         "encode" => encode_command(alloc)?,
         "show" => show_command(alloc)?,
+        "differ" => differ_command(alloc)?,
         "mend" => mend_command(alloc)?,
         "explain" => explain_command(alloc)?,
         _ => return Ok(None),
@@ -255,7 +314,7 @@ fn unknown_reason(alloc: Global, name: &str, told: &str) -> Result<Option<String
         return Ok(None);
     }
     let reason = format!(in alloc;
-        "{reason}\n\n  tip: '{name}' reads one file; only 'check', 'survey' and 'scan' read several"
+        "{reason}\n\n  tip: '{name}' reads one file; only 'check', 'survey', 'scan' and 'differ' read several"
     )?;
     Ok(Some(reason))
 }

@@ -13,11 +13,15 @@ ghost use Rattle.sixel_words.specs.Words.{IsUnexplained};
 ghost use Rattle.sixel_words.specs.Words.{files_of, is_given, kinds_of, lines_of};
 ghost use Rattle.sixel_explain.specs.Explanations.{Asks};
 
+use crate::check_words::{check_task, survey_task};
 use crate::commands::sixel_command;
+use crate::differ_words::{differ_error, differ_task};
 use crate::options::{colour_in, flag_of, profile_of};
 use crate::show_errors::show_error;
 use crate::show_words::show_task;
-use crate::usage_errors::{background_error, unnamed_error, usage_error, with_tip};
+use crate::usage_errors::{
+    background_error, unchecked_error, unnamed_error, unsurveyed_error, usage_error, with_tip,
+};
 use clap::error::ErrorKind;
 use clap::{ArgMatches, Error};
 use sixel_explain::{Topic, topics_asked};
@@ -86,8 +90,11 @@ fn without_task(alloc: Global, name: &str, matches: &ArgMatches<'_>) -> WordsFau
 {
     match name {
         "explain" => asked(alloc, matches),
+        "check" => unchecked(alloc, matches),
+        "survey" => unsurveyed(alloc, matches),
         "mend" => uncoloured(alloc, matches),
         "show" => unshown(alloc, matches),
+        "differ" => undiffered(alloc, matches),
         _ => untasked(alloc),
     }
 }
@@ -121,6 +128,28 @@ fn unexplained(alloc: Global, said: &[&str]) -> WordsFault
     }
 }
 
+/// A usage error of `check`: the value of `--on` names no terminals.
+fn unchecked(alloc: Global, matches: &ArgMatches<'_>) -> WordsFault
+    ensures sorted { IsSortedOut result }
+    ensures refusal { IsRefusal result }
+{
+    match unchecked_error(alloc, matches.get_str("on").unwrap_or("")) {
+        Ok(unchecked) => WordsFault::Usage(unchecked),
+        Err(_) => WordsFault::OutOfMemory,
+    }
+}
+
+/// The same of `survey`.
+fn unsurveyed(alloc: Global, matches: &ArgMatches<'_>) -> WordsFault
+    ensures sorted { IsSortedOut result }
+    ensures refusal { IsRefusal result }
+{
+    match unsurveyed_error(alloc, matches.get_str("on").unwrap_or("")) {
+        Ok(unsurveyed) => WordsFault::Usage(unsurveyed),
+        Err(_) => WordsFault::OutOfMemory,
+    }
+}
+
 /// A usage error: the value of `--background` is no colour.
 fn uncoloured(alloc: Global, matches: &ArgMatches<'_>) -> WordsFault
     ensures sorted { IsSortedOut result }
@@ -139,6 +168,17 @@ fn unshown(alloc: Global, matches: &ArgMatches<'_>) -> WordsFault
 {
     match show_error(alloc, matches) {
         Ok(unshown) => WordsFault::Usage(unshown),
+        Err(_) => WordsFault::OutOfMemory,
+    }
+}
+
+/// A usage error of `differ`.
+fn undiffered(alloc: Global, matches: &ArgMatches<'_>) -> WordsFault
+    ensures sorted { IsSortedOut result }
+    ensures refusal { IsRefusal result }
+{
+    match differ_error(alloc, matches) {
+        Ok(undiffered) => WordsFault::Usage(undiffered),
         Err(_) => WordsFault::OutOfMemory,
     }
 }
@@ -244,12 +284,8 @@ fn task_of(name: &str, matches: &ArgMatches<'_>) -> Option<Task>
 {
     match name {
         "list" => Some(Task::List),
-        "check" => Some(Task::Check {
-            profile: profile_of(matches),
-        }),
-        "survey" => Some(Task::Survey {
-            profile: profile_of(matches),
-        }),
+        "check" => check_task(matches),
+        "survey" => survey_task(matches),
         "scan" => Some(Task::Scan {
             profile: profile_of(matches),
             eight_bit: flag_of(matches, "eight-bit"),
@@ -261,6 +297,7 @@ fn task_of(name: &str, matches: &ArgMatches<'_>) -> Option<Task>
             profile: profile_of(matches),
         }),
         "show" => show_task(matches),
+        "differ" => differ_task(matches),
         "mend" => mend_task(matches),
         _ => None,
     }

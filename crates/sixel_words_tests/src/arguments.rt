@@ -101,7 +101,9 @@ fn asks_with_arguments_that_are_no_text(rt: HostRuntime) -> Result<(), Fail> {
     let rows: [(&[&[u8]], &str); 3] = [
         (
             &[b"sixel", b"check", b"a.six", b"\xff.six", b"b.six"],
-            "Request { task: Check { profile: Registers16 }, lines: Plain { only_failed: false }, explains: false, \
+            "Request { task: Check { profile: Registers16, \
+             terminals: Terminals { xterm: false, mlterm: false, foot: false, konsole: false } }, \
+             lines: Plain { only_failed: false }, explains: false, \
              files: [\"a.six\", \"\u{fffd}.six\", \"b.six\"] }",
         ),
         (

@@ -10,6 +10,13 @@ fn asks_for_an_explanation(rt: HostRuntime) -> Result<(), Fail> {
         ("sixel explain", "explain []"),
         ("sixel explain Ratio", "explain [Rule(Ratio)]"),
         ("sixel explain EightBit", "explain [Rule(EightBit)]"),
+        ("sixel explain RasterLate", "explain [Asked(RasterLate)]"),
+        ("sixel explain mixed", "explain [Asked(Mixed)]"),
+        (
+            "sixel explain rows.six: broken Past 24",
+            "explain [Asked(Past)]",
+        ),
+        ("sixel explain Rows 2 3", "explain [Asked(Rows)]"),
         ("sixel explain BadByte", "explain [Grammar(BadByte)]"),
         ("sixel explain Trailing", "explain [Grammar(Trailing)]"),
         ("sixel explain Short", "explain [Ppm(Short)]"),
@@ -102,6 +109,10 @@ fn asks_for_several_explanations(rt: HostRuntime) -> Result<(), Fail> {
             "explain [Rule(Uncovered), Ppm(Short), Rule(Ratio)]",
         ),
         (
+            "sixel explain Hue Ratio far",
+            "explain [Asked(Hue), Rule(Ratio), Asked(Far)]",
+        ),
+        (
             "sixel explain NoBox Empty NoBox",
             "explain [NoBox, Empty, NoBox]",
         ),
@@ -133,6 +144,8 @@ fn refuses_unknown_names(rt: HostRuntime) -> Result<(), Fail> {
         ("sixel explain Ratio: 3", "Ratio:", "Ratio"),
         ("sixel explain Ratio Rato", "Rato", "Ratio"),
         ("sixel explain Rato Ratio", "Rato", "Ratio"),
+        ("sixel explain droped", "droped", "Dropped"),
+        ("sixel explain Ratio plot Uncovered", "plot", "Past"),
     ] {
         let text = format!(in rt.alloc();
             "usage error: no rule or refusal has the name '{word}'; 'sixel explain' lists the names\n\n  \
@@ -143,7 +156,7 @@ fn refuses_unknown_names(rt: HostRuntime) -> Result<(), Fail> {
     for (line, word) in [
         ("sixel explain picture", "picture"),
         ("sixel explain portable 70 46", "portable"),
-        ("sixel explain Ratio plot Uncovered", "plot"),
+        ("sixel explain Ratio plotted Uncovered", "plotted"),
         ("sixel explain Ratio  Uncovered", ""),
         ("sixel explain plot.six Ratio", "plot.six"),
     ] {

@@ -19,6 +19,7 @@ Commands:
   render   Converts a portable picture to a PPM
   encode   Converts a PPM to portable sixel text
   show     Draws the picture as one terminal would, and writes its screen as a PPM
+  differ   Says which of four terminals show the picture differently, and where
   mend     Makes a portable picture of what one terminal shows of a broken one
   explain  Explains rules and refusals by their names, or lists all names
   help     Print this message or the help of the given subcommand(s)
@@ -55,7 +56,7 @@ fn shows_the_version(rt: HostRuntime) -> Result<(), Fail> {
 #[test]
 fn shows_the_version_of_a_task(rt: HostRuntime) -> Result<(), Fail> {
     for name in [
-        "list", "check", "survey", "scan", "render", "encode", "show", "mend", "explain",
+        "list", "check", "survey", "scan", "render", "encode", "show", "differ", "mend", "explain",
     ] {
         for flag in ["--version", "-V"] {
             let line = format!(in rt.alloc(); "sixel {name} {flag}")?;
@@ -113,13 +114,14 @@ Arguments:
   [FILE]...  Files to read in turn; without any, or for `-`, standard input
 
 Options:
-      --wide     Use 256 colour registers instead of 16
-  -q, --quiet    Print no verdict; use the exit status
-      --failed   Print only the lines of files that aren't portable
-      --json     Print objects of JSON, one a line, also for refusals
-      --explain  End with a hint on each rule or refusal, also into a pipe
-  -h, --help     Print help
-  -V, --version  Print version
+      --wide        Use 256 colour registers instead of 16
+      --on <NAMES>  Count the rules of these terminals, too: xterm, mlterm, foot, konsole or all
+  -q, --quiet       Print no verdict; use the exit status
+      --failed      Print only the lines of files that aren't portable
+      --json        Print objects of JSON, one a line, also for refusals
+      --explain     End with a hint on each rule or refusal, also into a pipe
+  -h, --help        Print help
+  -V, --version     Print version
 
 Reads sixel text from each FILE in turn or, without one, from standard input.
 Writes one line for each to standard output: `portable` and the size, or
@@ -129,13 +131,16 @@ standard error, and the files after it are still checked. sixel explain NAME
 says what a rule or a refusal means, and how to fix it. With --failed the last
 line on standard error says how many of several files aren't portable.
 
-Terminals have limits of their own: xterm draws nothing of a box with a side
-above 1,000 pixels, and docs/FIELD.md has the rest.
+Terminals that were measured have rules of their own: xterm, for example, draws
+nothing of a box with a side above 1,000 pixels. These rules count with --on.
+NAMES are one or more of xterm, mlterm, foot and konsole, with commas between
+them, or all.
 
 Exit status: 0 portable, 1 broken, 2 refused, 3 usage error; with several files
 the greatest.
 
-Example: sixel check plots/*.six
+Examples: sixel check plots/*.six
+          sixel check --on xterm,foot plot.six
 ";
     for line in ["sixel check --help", "sixel help check"] {
         assert!(rt; says(&rt, line, check)?, "{line}");
@@ -193,11 +198,12 @@ Arguments:
   [FILE]...  Files to read in turn; without any, or for `-`, standard input
 
 Options:
-      --wide     Use 256 colour registers instead of 16
-      --json     Print objects of JSON, one a line, also for refusals
-      --explain  End with a hint on each rule or refusal, also into a pipe
-  -h, --help     Print help
-  -V, --version  Print version
+      --wide        Use 256 colour registers instead of 16
+      --on <NAMES>  Count the rules of these terminals, too: xterm, mlterm, foot, konsole or all
+      --json        Print objects of JSON, one a line, also for refusals
+      --explain     End with a hint on each rule or refusal, also into a pipe
+  -h, --help        Print help
+  -V, --version     Print version
 
 Reads sixel text from each FILE in turn or, without one, from standard input.
 Writes a line for each broken rule to standard output: the rule, how often it is
@@ -205,7 +211,8 @@ broken, the byte offset of the first time and, for two rules, a pixel. If none
 is broken, it writes `portable` and the size. With files, each line starts with
 `FILE: `. If a file is refused, the reason goes to standard error, and the files
 after it are still read. sixel explain NAME says what a rule or a refusal means,
-and how to fix it.
+and how to fix it. With --on NAMES the rules of these terminals count, too, as
+in check.
 
 Exit status: 0 portable, 1 broken, 2 refused, 3 usage error; with several files
 the greatest.

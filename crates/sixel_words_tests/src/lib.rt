@@ -4,6 +4,10 @@
 #[cfg(test)]
 mod arguments;
 #[cfg(test)]
+mod checking;
+#[cfg(test)]
+mod differing;
+#[cfg(test)]
 mod explain;
 #[cfg(test)]
 mod help;

@@ -1,5 +1,6 @@
 //! Command lines, and what they ask for.
 
+use crate::checking::{CHECK, CHECK_WIDE, SURVEY, SURVEY_WIDE};
 use sixel_program::Request;
 use sixel_words::{WordsFault, parse_request, parse_words, task_in};
 use std::alloc::{AllocError, Global};
@@ -60,14 +61,14 @@ pub fn says(rt: &HostRuntime, line: &str, text: &str) -> Result<bool, Fail> {
 pub const ALL: &str = "Plain { only_failed: false }";
 
 /// None.
-const QUIET: &str = "Nothing { is_json: false }";
+pub const QUIET: &str = "Nothing { is_json: false }";
 
 /// None, or for a scan objects of JSON.
-const QUIET_JSON: &str = "Nothing { is_json: true }";
+pub const QUIET_JSON: &str = "Nothing { is_json: true }";
 
-const FAILED: &str = "Plain { only_failed: true }";
+pub const FAILED: &str = "Plain { only_failed: true }";
 
-const JSON: &str = "Json { only_failed: false }";
+pub const JSON: &str = "Json { only_failed: false }";
 
 /// Whether the words ask for this task, with these lines, over these files. There is memory for it, so they get it.
 pub fn asks(
@@ -94,10 +95,10 @@ pub fn refuses(rt: &HostRuntime, line: &str, text: &str) -> Result<bool, Fail> {
 fn names_the_task(rt: HostRuntime) -> Result<(), Fail> {
     let rows = [
         ("sixel list", "List"),
-        ("sixel check", "Check { profile: Registers16 }"),
-        ("sixel check --wide", "Check { profile: Registers256 }"),
-        ("sixel survey", "Survey { profile: Registers16 }"),
-        ("sixel survey --wide", "Survey { profile: Registers256 }"),
+        ("sixel check", CHECK),
+        ("sixel check --wide", CHECK_WIDE),
+        ("sixel survey", SURVEY),
+        ("sixel survey --wide", SURVEY_WIDE),
         (
             "sixel scan",
             "Scan { profile: Registers16, eight_bit: false }",
@@ -110,10 +111,7 @@ fn names_the_task(rt: HostRuntime) -> Result<(), Fail> {
         ("sixel render --wide", "Render { profile: Registers256 }"),
         ("sixel encode", "Encode { profile: Registers16 }"),
         ("sixel encode --wide", "Encode { profile: Registers256 }"),
-        (
-            "sixel check --wide --wide",
-            "Check { profile: Registers256 }",
-        ),
+        ("sixel check --wide --wide", CHECK_WIDE),
         (
             "sixel show --width 3 --height 1 --fill --width 2 --fill",
             "Show { profile: Registers16, showing: false, fill: true, selects: false, width: 2, height: 1 }",
@@ -173,63 +171,6 @@ fn names_the_task(rt: HostRuntime) -> Result<(), Fail> {
     ];
     for (line, task) in rows {
         assert!(rt; asks(&rt, line, task, ALL, "[]")?, "{line}");
-    }
-    Ok(())
-}
-
-/// The files are in the order of the arguments, `-` among them; after `--` each argument is a file.
-#[test]
-fn names_the_files_to_check(rt: HostRuntime) -> Result<(), Fail> {
-    let rows = [
-        ("sixel check a b", ALL, "[\"a\", \"b\"]"),
-        ("sixel check b a b", ALL, "[\"b\", \"a\", \"b\"]"),
-        ("sixel check -", ALL, "[\"-\"]"),
-        ("sixel check - a -", ALL, "[\"-\", \"a\", \"-\"]"),
-        ("sixel check -- -x", ALL, "[\"-x\"]"),
-        (
-            "sixel check a -- -q --wide",
-            ALL,
-            "[\"a\", \"-q\", \"--wide\"]",
-        ),
-        ("sixel check -q", QUIET, "[]"),
-        ("sixel check --quiet", QUIET, "[]"),
-        ("sixel check -q -q", QUIET, "[]"),
-        ("sixel check -qq", QUIET, "[]"),
-        ("sixel check -q a --quiet", QUIET, "[\"a\"]"),
-        ("sixel check -q a", QUIET, "[\"a\"]"),
-        ("sixel check --quiet a b", QUIET, "[\"a\", \"b\"]"),
-        ("sixel check a -q -", QUIET, "[\"a\", \"-\"]"),
-        ("sixel check --failed a", FAILED, "[\"a\"]"),
-        ("sixel check a --json", JSON, "[\"a\"]"),
-        (
-            "sixel check --failed --json",
-            "Json { only_failed: true }",
-            "[]",
-        ),
-        ("sixel check --failed --json -q", QUIET_JSON, "[]"),
-        ("sixel check -q --failed a", QUIET, "[\"a\"]"),
-    ];
-    for (line, lines, files) in rows {
-        let task = "Check { profile: Registers16 }";
-        assert!(rt; asks(&rt, line, task, lines, files)?, "{line}");
-    }
-    for line in ["sixel check --wide -q a", "sixel check -q a --wide"] {
-        let task = "Check { profile: Registers256 }";
-        assert!(rt; asks(&rt, line, task, QUIET, "[\"a\"]")?, "{line}");
-    }
-    Ok(())
-}
-
-#[test]
-fn names_the_files_to_survey(rt: HostRuntime) -> Result<(), Fail> {
-    let rows = [
-        ("sixel survey a b", "Registers16", "[\"a\", \"b\"]"),
-        ("sixel survey - a --wide", "Registers256", "[\"-\", \"a\"]"),
-        ("sixel survey -- -x", "Registers16", "[\"-x\"]"),
-    ];
-    for (line, profile, files) in rows {
-        let task = format!(in rt.alloc(); "Survey {{ profile: {profile} }}")?;
-        assert!(rt; asks(&rt, line, task.as_str(), ALL, files)?, "{line}");
     }
     Ok(())
 }
@@ -329,7 +270,7 @@ fn other_tasks_may_be_quiet(rt: HostRuntime) -> Result<(), Fail> {
 }
 
 const NO_COMMAND: &str = "usage error: 'sixel' requires a subcommand but one was not provided
-  [subcommands: list, check, survey, scan, render, encode, show, mend, explain, help]
+  [subcommands: list, check, survey, scan, render, encode, show, differ, mend, explain, help]
 
 Usage: sixel <COMMAND>";
 
@@ -343,7 +284,7 @@ const NOT_QUIET: &str = "usage error: unexpected argument '-q' found
 
 Usage: sixel list [FILE]";
 
-/// A second file. Only `check`, `survey` and `scan` read several.
+/// A second file. Only `check`, `survey`, `scan` and `differ` read several.
 #[test]
 fn refuses_a_second_file(rt: HostRuntime) -> Result<(), Fail> {
     let rows = [
@@ -357,7 +298,7 @@ fn refuses_a_second_file(rt: HostRuntime) -> Result<(), Fail> {
         let text = format!(in rt.alloc();
             "usage error: unexpected argument 'b' found
 
-  tip: '{name}' reads one file; only 'check', 'survey' and 'scan' read several
+  tip: '{name}' reads one file; only 'check', 'survey', 'scan' and 'differ' read several
 
 Usage: sixel {name} {usage}"
         )?;
@@ -419,6 +360,7 @@ fn refuses_unknown_options(rt: HostRuntime) -> Result<(), Fail> {
         ("sixel render --many", "sixel render [OPTIONS] [FILE]"),
         ("sixel encode --many", "sixel encode [OPTIONS] [FILE]"),
         ("sixel show --many", "sixel show [OPTIONS] [FILE]"),
+        ("sixel differ --many", "sixel differ [OPTIONS] [FILE]..."),
         ("sixel mend --many", "sixel mend [OPTIONS] [FILE]"),
         ("sixel explain --many", "sixel explain [NAME]..."),
         ("sixel --many", "sixel <COMMAND>"),
@@ -488,26 +430,6 @@ fn refuses_a_box_beside_a_side(rt: HostRuntime) -> Result<(), Fail> {
     ];
     for (line, text) in rows {
         assert!(rt; refuses(&rt, line, text)?, "{line}");
-    }
-    Ok(())
-}
-
-#[test]
-fn asks_for_hints(rt: HostRuntime) -> Result<(), Fail> {
-    let rows = [
-        (
-            "sixel check --explain a",
-            "Request { task: Check { profile: Registers16 }, lines: Plain { only_failed: false }, explains: true, \
-             files: [\"a\"] }",
-        ),
-        (
-            "sixel survey --explain --json",
-            "Request { task: Survey { profile: Registers16 }, lines: Json { only_failed: false }, explains: true, \
-             files: [] }",
-        ),
-    ];
-    for (line, request) in rows {
-        assert!(rt; says(&rt, line, request)?, "{line}");
     }
     Ok(())
 }

@@ -23,13 +23,16 @@ standard error, and the files after it are still checked. sixel explain NAME
 says what a rule or a refusal means, and how to fix it. With --failed the last
 line on standard error says how many of several files aren't portable.
 
-Terminals have limits of their own: xterm draws nothing of a box with a side
-above 1,000 pixels, and docs/FIELD.md has the rest.
+Terminals that were measured have rules of their own: xterm, for example, draws
+nothing of a box with a side above 1,000 pixels. These rules count with --on.
+NAMES are one or more of xterm, mlterm, foot and konsole, with commas between
+them, or all.
 
 Exit status: 0 portable, 1 broken, 2 refused, 3 usage error; with several files
 the greatest.
 
-Example: sixel check plots/*.six";
+Examples: sixel check plots/*.six
+          sixel check --on xterm,foot plot.six";
 
 pub const SURVEY: &str =
     "Reads sixel text from each FILE in turn or, without one, from standard input.
@@ -38,7 +41,8 @@ broken, the byte offset of the first time and, for two rules, a pixel. If none
 is broken, it writes `portable` and the size. With files, each line starts with
 `FILE: `. If a file is refused, the reason goes to standard error, and the files
 after it are still read. sixel explain NAME says what a rule or a refusal means,
-and how to fix it.
+and how to fix it. With --on NAMES the rules of these terminals count, too, as
+in check.
 
 Exit status: 0 portable, 1 broken, 2 refused, 3 usage error; with several files
 the greatest.
@@ -92,6 +96,21 @@ Exit status: 0 done, 2 refused, 3 usage error.
 
 Examples: sixel show --wide --box plot.six > plot.ppm
           sixel show --on xterm plot.six > xterm.ppm";
+
+pub const DIFFER: &str =
+    "Reads sixel text from each FILE in turn or, without one, from standard input.
+Draws it as xterm, mlterm, foot and konsole do, by models of them. Writes `same`
+and the size if all four show the same. Else it writes a line for each group of
+terminals that show the same and, from the second on, the column and the row of
+the first pixel that differs from the first group's, counted from 0. A terminal
+whose model can't say what it shows has a line with `unmodelled` and an offset.
+With files, each line starts with `FILE: `. --sheet reads one file; the screens
+are in the order above, and grey where the model can't say.
+
+Exit status: 0 same, 1 not the same, 2 refused, 3 usage error; with several
+files the greatest.
+
+Example: sixel differ plot.six";
 
 pub const MEND: &str =
     "Reads sixel text from FILE or, without one, from standard input. Draws it as one

@@ -39,7 +39,9 @@ returns c =
     c.in_ok-subcommand-6.ensures in
     let show = with_sub encode c.in_ok-show_command.ensures.app c.in_ok-show_command.ensures.local
     c.in_ok-subcommand-7.ensures in
-    let mend = with_sub show c.in_ok-mend_command.ensures.app c.in_ok-mend_command.ensures.local
+    let differ = with_sub show c.in_ok-differ_command.ensures.app c.in_ok-differ_command.ensures.local
     c.in_ok-subcommand-8.ensures in
-    IfOk-weaker c.subcommand-9.result _ _ (λ r h. with_sub mend c.in_ok-explain_command.ensures.app
-    c.in_ok-explain_command.ensures.local h) c.subcommand-9.ensures
+    let mend = with_sub differ c.in_ok-mend_command.ensures.app c.in_ok-mend_command.ensures.local
+    c.in_ok-subcommand-9.ensures in
+    IfOk-weaker c.subcommand-10.result _ _ (λ r h. with_sub mend c.in_ok-explain_command.ensures.app
+    c.in_ok-explain_command.ensures.local h) c.subcommand-10.ensures

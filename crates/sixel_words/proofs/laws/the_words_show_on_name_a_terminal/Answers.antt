@@ -6,7 +6,7 @@ use Rattle.sixel_models.specs.declared.named.Named.{Named}
 use Rattle.sixel_models.specs.declared.named.Named.TheVariants.{XTerm, MlTerm, Foot, Konsole}
 use Rattle.sixel_words.specs.Words.{sixel_app, terminal_name}
 use Rattle.sixel_words.proofs.LiteralLemmas.{all, half, high, none, wide}
-use Rattle.sixel_words.proofs.MatchLemmas.{coloured_beside, described_beside, none_named, rows_in, without_name}
+use Rattle.sixel_words.proofs.MatchLemmas.{coloured_beside, described_beside, none_called, rows_in, without_name}
 use Rattle.sixel_words.proofs.laws.the_words_show_on_name_a_terminal.Goals as goal
 
 begins_so : (named : Named) (first : ℕ) → slice_index (terminal_name named) 0 ≡ first → first ≢ 88
@@ -58,16 +58,19 @@ pub returns-clause-no_wide : goal.returns-clause-no_wide
 unfolding walked
 returns-clause-no_wide c = λ program task is.
     let found = subcommand_of sixel_app (program ∷ codes "show" ∷ codes "--on" ∷ codes "foot" ∷ codes "--wide" ∷ []) in
-    none_named found is.0 is.1 task is.2 is.3 refl (described_beside (rows_in found) task (codes "foot") refl refl)
+    none_called (codes "show") found is.0 is.1 task is.2 is.3 refl
+    (described_beside (rows_in found) task (codes "foot") refl refl)
 
 pub returns-clause-no_other_name : goal.returns-clause-no_other_name
 unfolding walked
 returns-clause-no_other_name c = λ program task is.
     let found = subcommand_of sixel_app (program ∷ codes "show" ∷ codes "--on" ∷ codes "XTerm" ∷ []) in
-    none_named found is.0 is.1 task is.2 is.3 refl (without_name (rows_in found) task (codes "XTerm") refl small)
+    none_called (codes "show") found is.0 is.1 task is.2 is.3 refl
+    (without_name (rows_in found) task (codes "XTerm") refl small)
 
 pub returns-clause-no_background : goal.returns-clause-no_background
 unfolding walked
 returns-clause-no_background c = λ program task is.
     let found = subcommand_of sixel_app (program ∷ codes "show" ∷ codes "--background" ∷ codes "100,50,0" ∷ []) in
-    none_named found is.0 is.1 task is.2 is.3 refl (coloured_beside (rows_in found) task refl refl)
+    none_called (codes "show") found is.0 is.1 task is.2 is.3 refl
+    (coloured_beside (rows_in found) task refl refl)
