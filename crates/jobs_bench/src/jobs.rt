@@ -7,6 +7,7 @@ use crate::pixels::Content;
 use crate::session::{Files, Session};
 use crate::stock::{Form, Stock, ppm, put_picture};
 use crate::styles::Style;
+use sixel_asked::Terminals;
 use sixel_model::{Colour, Profile};
 use sixel_run::Task;
 use std::alloc::{AllocError, Global};
@@ -153,8 +154,14 @@ fn large(content: Content, style: Style, registers: u64) -> Form {
 
 /// Checks of a test suite: many small files, and some large pictures.
 pub fn checks(work: &mut Work) -> Result<(), AllocError> {
-    let narrow = Task::Check { profile: NARROW };
-    let wide = Task::Check { profile: WIDE };
+    let narrow = Task::Check {
+        profile: NARROW,
+        terminals: Terminals::none(),
+    };
+    let wide = Task::Check {
+        profile: WIDE,
+        terminals: Terminals::none(),
+    };
     work.over_files(&narrow, &small(Content::Photo, 16), 7, 200)?;
     work.over_files(&narrow, &small(Content::Plot, 10), 7, 200)?;
     let photo = large(Content::Photo, Style::Registers, 16);
@@ -169,8 +176,14 @@ pub fn checks(work: &mut Work) -> Result<(), AllocError> {
 
 /// Surveys of pictures that break rules, and of some that don't.
 pub fn surveys(work: &mut Work) -> Result<(), AllocError> {
-    let narrow = Task::Survey { profile: NARROW };
-    let wide = Task::Survey { profile: WIDE };
+    let narrow = Task::Survey {
+        profile: NARROW,
+        terminals: Terminals::none(),
+    };
+    let wide = Task::Survey {
+        profile: WIDE,
+        terminals: Terminals::none(),
+    };
     let mut cut = large(Content::Photo, Style::Registers, 16);
     cut.cut = 2;
     cut.undefined = 5;
@@ -261,7 +274,10 @@ pub fn logs(work: &mut Work) -> Result<(), AllocError> {
 /// Inputs that are rare and hard: a select or a return at each column, registers without order, samples that are
 /// rounded alike, pictures of one column or three bands, paint far outside the box, and strings of one pixel.
 pub fn awkward(work: &mut Work) -> Result<(), AllocError> {
-    let check = Task::Check { profile: WIDE };
+    let check = Task::Check {
+        profile: WIDE,
+        terminals: Terminals::none(),
+    };
     work.over_texts(
         &check,
         &large(Content::Columns, Style::Columns, 256),
@@ -275,7 +291,10 @@ pub fn awkward(work: &mut Work) -> Result<(), AllocError> {
     let mut outside = large(Content::Photo, Style::Registers, 16);
     outside.narrowed = 1590;
     work.over_texts(&check, &outside, BANDS / 3)?;
-    let survey = Task::Survey { profile: WIDE };
+    let survey = Task::Survey {
+        profile: WIDE,
+        terminals: Terminals::none(),
+    };
     work.over_texts(&survey, &outside, 10)?;
     let encode = Task::Encode { profile: WIDE };
     let noise = Form::whole(Content::Noise, Style::Registers, 256, 800);

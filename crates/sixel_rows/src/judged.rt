@@ -9,7 +9,7 @@ use sixel_grammar::InputFault;
 use sixel_model::Profile;
 use std::alloc::Global;
 
-/// The profile of a row's check, if its task is one.
+/// The profile of a row's check, if its task is one, and only the rules of portable pictures count.
 fn profile_of(words: &str) -> Option<Profile> {
     match words {
         "check" => Some(Profile::Registers16),
@@ -18,18 +18,19 @@ fn profile_of(words: &str) -> Option<Profile> {
     }
 }
 
-/// Whether the check of the row's input and its neighbours agrees with the plain judge, and the terminals agree with
-/// the verdict. If two terminals differ by the choice of a broken rule, the rule is added to `rules`.
-fn is_right(alloc: Global, row: &Row<'_>, rules: &mut Vec<Rule>) -> Result<bool, InputFault> {
-    let bytes = row.input.as_slice();
-    match profile_of(row.words) {
-        None => Ok(true),
-        Some(profile) => Ok(
-            is_judged_alike(alloc, profile, bytes)?
-                && are_neighbours_alike(alloc, profile, bytes)?
-                && is_shown_so(alloc, profile, bytes, rules)?,
-        ),
-    }
+/// Whether the check of the bytes and of their neighbours agrees with the plain judge, and the terminals agree with the
+/// verdict. If two terminals differ by the choice of a broken rule, the rule is added to `rules`.
+fn is_right(
+    alloc: Global,
+    profile: Profile,
+    bytes: &[u8],
+    rules: &mut Vec<Rule>,
+) -> Result<bool, InputFault> {
+    Ok(
+        is_judged_alike(alloc, profile, bytes)?
+            && are_neighbours_alike(alloc, profile, bytes)?
+            && is_shown_so(alloc, profile, bytes, rules)?,
+    )
 }
 
 /// The error for a fault that keeps the judges from judging.
@@ -41,29 +42,34 @@ fn reason_of(fault: InputFault) -> anyhow::Error {
     }
 }
 
-/// Judges the rows, and prints their number and each one on which the judges or the terminals disagree. Returns the
-/// number of these.
+/// Judges the rows in which only the rules of portable pictures count, and prints their number and each one on which
+/// the judges or the terminals disagree. Returns the number of these.
 pub fn judge_rows(
     rt: &(impl AllocGlobal + Print),
     name: &str,
     rows: &[Row<'_>],
 ) -> Result<u64, anyhow::Error> {
     let mut wrong: u64 = 0;
+    let mut judged: u64 = 0;
     let mut rules = Vec::new(rt.alloc());
     for row in rows {
-        if !is_right(rt.alloc(), row, &mut rules).map_err(reason_of)? {
-            println!(rt;
-                "{name}:{}: {}: the plain judge or the terminals disagree",
-                row.line, row.words
-            )?;
-            wrong = wrong.saturating_add(1);
+        if let Some(profile) = profile_of(row.words) {
+            judged = judged.saturating_add(1);
+            let right = is_right(rt.alloc(), profile, row.input.as_slice(), &mut rules);
+            if !right.map_err(reason_of)? {
+                println!(rt;
+                    "{name}:{}: {}: the plain judge or the terminals disagree",
+                    row.line, row.words
+                )?;
+                wrong = wrong.saturating_add(1);
+            }
         }
     }
     if rules.len() < DIFFERENCES {
         println!(rt; "{name}: terminals differ only by {:?}", rules.as_slice())?;
         wrong = wrong.saturating_add(1);
     }
-    println!(rt; "{name}: {} rows judged", rows.len())?;
+    println!(rt; "{name}: {judged} rows judged")?;
     Ok(wrong)
 }
 

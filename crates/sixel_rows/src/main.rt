@@ -29,7 +29,7 @@ use std::fs;
 use std::process::ExitCode;
 
 /// The files of rows, one for each task.
-const FILES: [&str; 8] = [
+const FILES: [&str; 9] = [
     "list.rows",
     "check.rows",
     "survey.rows",
@@ -38,6 +38,7 @@ const FILES: [&str; 8] = [
     "show.rows",
     "encode.rows",
     "mend.rows",
+    "differ.rows",
 ];
 
 /// The file whose rows the plain judge judges too.

@@ -141,7 +141,13 @@ fn end_of(alloc: Global, task: &Task, bytes: &[u8], cutting: Cutting) -> Ended
 fn code_of(answer: &Result<Status, RunFault>) -> u8 {
     match answer {
         Ok(Status::Done | Status::Noted(_)) => 0,
-        Ok(Status::Broken(_) | Status::Surveyed { .. } | Status::Unfit { .. }) => 1,
+        Ok(
+            Status::Broken(_)
+            | Status::Asked(_)
+            | Status::Surveyed { .. }
+            | Status::Differing
+            | Status::Unfit { .. },
+        ) => 1,
         Err(_) => 2,
     }
 }

@@ -5,6 +5,7 @@ ghost use Rattle.sixel_ppm.specs.Ppm.{is_file_side};
 ghost use Rattle.sixel_run.specs.Outputs.{HasSides, HasSidesIn};
 
 use crate::format::RowFault;
+use sixel_asked::Terminals;
 use sixel_model::{Colour, Profile};
 use sixel_models::Named;
 use sixel_run::{Area, MOST_SCREEN_SIDE, Task};
@@ -18,6 +19,7 @@ struct Options<'a> {
     fill: bool,
     selects: bool,
     boxed: bool,
+    sheet: bool,
     on: Option<&'a str>,
     background: Option<&'a str>,
     width: Option<&'a str>,
@@ -43,14 +45,22 @@ pub fn task_of(words: &str) -> Result<Task, RowFault>
     let (is_wide, is_plain) = kind_of(options);
     let profile = profile_of(options.wide);
     match name {
-        "scan" if is_wide => Ok(Task::Scan {
+        "scan" if is_wide && !options.sheet => Ok(Task::Scan {
             profile,
             eight_bit: options.eight_bit,
         }),
         _ if options.eight_bit => Err(RowFault::Words),
+        "differ" => differing(options),
+        _ if options.sheet => Err(RowFault::Words),
         "list" if is_plain => Ok(Task::List),
-        "check" if is_wide => Ok(Task::Check { profile }),
-        "survey" if is_wide => Ok(Task::Survey { profile }),
+        "check" if is_ruled(options) => Ok(Task::Check {
+            profile,
+            terminals: terminals_of(options.on)?,
+        }),
+        "survey" if is_ruled(options) => Ok(Task::Survey {
+            profile,
+            terminals: terminals_of(options.on)?,
+        }),
         "render" if is_wide => Ok(Task::Render { profile }),
         "encode" if is_wide => Ok(Task::Encode { profile }),
         "mend" => mended(profile, options),
@@ -70,6 +80,39 @@ fn kind_of(options: Options<'_>) -> (bool, bool) {
         && options.width.is_none()
         && options.height.is_none();
     (is_wide, is_wide && !options.wide)
+}
+
+/// Whether there is no option except `--wide`, `--on` and `--eight-bit`.
+fn is_ruled(options: Options<'_>) -> bool {
+    let (is_wide, _) = kind_of(Options {
+        on: None,
+        ..options
+    });
+    is_wide
+}
+
+/// The terminals whose rules count.
+fn terminals_of(names: Option<&str>) -> Result<Terminals, RowFault> {
+    let mut terminals = Terminals::none();
+    match names {
+        None => {}
+        Some("all") => terminals = Terminals::all(),
+        Some(names) => {
+            for name in names.split(',') {
+                add_terminal(&mut terminals, named_of(name)?);
+            }
+        }
+    }
+    Ok(terminals)
+}
+
+fn add_terminal(terminals: &mut Terminals, named: Named) {
+    match named {
+        Named::XTerm => terminals.xterm = true,
+        Named::MlTerm => terminals.mlterm = true,
+        Named::Foot => terminals.foot = true,
+        Named::Konsole => terminals.konsole = true,
+    }
 }
 
 fn profile_of(wide: bool) -> Profile {
@@ -94,6 +137,25 @@ fn mended(profile: Profile, options: Options<'_>) -> Result<Task, RowFault>
         background: colour_of(options.background.unwrap_or("0,0,0"))?,
         showing: options.showing,
         selects: options.selects,
+    })
+}
+
+/// By default on a white background.
+fn differing(options: Options<'_>) -> Result<Task, RowFault>
+    ensures { IfOk result HasSides }
+{
+    let (_, is_plain) = kind_of(Options {
+        background: None,
+        ..options
+    });
+    if !is_plain {
+        return Err(RowFault::Words);
+    }
+    let background = colour_of(options.background.unwrap_or("100,100,100"))?;
+    Ok(if options.sheet {
+        Task::DifferSheet { background }
+    } else {
+        Task::Differ { background }
     })
 }
 
@@ -230,6 +292,7 @@ fn take_word<'a>(
         (_, "--fill") => options.fill = true,
         (_, "--define-selects") => options.selects = true,
         (_, "--box") => options.boxed = true,
+        (_, "--sheet") => options.sheet = true,
         (_, "--on") => return Ok(Awaited::On),
         (_, "--background") => return Ok(Awaited::Background),
         (_, "--width") => return Ok(Awaited::Width),
