@@ -148,27 +148,72 @@ def palette(words):
     return lambda register: (SAMPLES, *bytes.fromhex(words[register])) if register < len(words) else BLACK
 
 
-# mlterm 3.9.0.
+# mlterm 3.9.0. The machine code of its decoder says how its buffer grows, and when it copies past it.
+MOST, RIGHT, DOWN = 32767, 512, 516
+
+
+class Buffer:
+    """The pixels of mlterm's picture: so wide and so high, in a block of memory that has room for so many. `reach` is the
+    greatest column at which a data command ended."""
+
+    def __init__(self):
+        self.width = self.height = self.room = self.reach = self.x = self.y = 0
+        self.cut = False
+
+    def resize(self, width, height):
+        """No less wide. Whether it copies rows from past its block, or past the new one."""
+        rows, more = self.y + 6, width * height > self.width * self.height
+        past = more and 0 < self.width < width and (rows * self.width > self.room or rows > height)
+        if more:
+            self.room = width * height
+        self.width, self.height = width, height
+        return past
+
+    def raster(self, width, height):
+        if width and height:
+            return self.resize(max(width, self.width), max((height + 5) // 6 * 6, self.height))
+        return False
+
+    def data(self, count, bits):
+        """Whether what it does isn't known."""
+        end, rows = self.x + count, self.y + 6
+        if end > MOST or rows > MOST:
+            return True
+        width, height = self.width, self.height if rows <= self.height else self.height + DOWN
+        if end > width:
+            fits = self.width * self.height // (self.width + RIGHT)
+            width, height = self.width + RIGHT, fits // 6 * 6 if rows + 5 <= fits else height
+        past = self.resize(width, height)
+        self.x, self.reach = end, max(self.reach, end)
+        return past or rows > height or bool(bits) and end > width
+
+    def newline(self):
+        """The first one that finds columns past the reach cuts them off."""
+        if not self.cut and self.width > self.reach > 0:
+            self.width, self.cut = self.reach, True
+        self.x, self.y = 0, self.y + 6
+
+
+def mixes(parameters):
+    """Whether it mixes, by the introducer's numbers: it looks at one digit, the first of the second number, or the second
+    of the first number. (As it is written: `05` mixes, and `7;05` doesn't. Events don't tell.)"""
+    one, two = (*parameters, 0, 0)[:2]
+    return (str(two)[0] if one <= 9 else str(one)[1]) == "5"
+
 
 def mlterm(events):
     """A definition selects. The box is never filled. Register 0 starts as the text's colour, others as the background;
-    but those from 448 on have colours of chance. So have pixels that aren't painted, if the first sixel past the box is
-    both right of it and below it. Of several boxes the least width and height count here. Colour system 3 gives
-    samples."""
-    given, defined, sampled, register, x, band, box = [], set(), set(), 0, 0, 0, None
-    grown, widest, passed = False, 0, False
-    if second(events) == 5:
+    but those from 448 on have colours of chance. Colour system 3 gives samples."""
+    given, defined, sampled, register, buffer = [], set(), set(), 0, Buffer()
+    if mixes(events[0][2]):
         raise Unsaid(0, "it mixes")
     for number, event in enumerate(events):
         kind, *numbers = event
         if kind == "raster":
             if not any(numbers):
                 raise Unsaid(number, "raster attributes of zeros: without a number they swallow a byte")
-            if band and 0 < widest < numbers[2] and not passed:
-                raise Unsaid(number, "wider raster attributes below the first band without data: the terminal may end")
-            widest = max(widest, numbers[2])
-            if any(numbers[2:]):
-                box = [min(sides) for sides in zip(box or numbers[2:], numbers[2:])]
+            if buffer.raster(*numbers[2:]):
+                raise Unsaid(number, "raster attributes at which it copies past its memory")
         elif kind in NAMING:
             register = numbers[0] if numbers[0] < 1024 else 0
             if kind == "define":
@@ -182,25 +227,19 @@ def mlterm(events):
             given.append(("select", register))
         elif kind == "sixel":
             count, bits = numbers
-            x, passed = x + count, True
             if not count:
                 raise Unsaid(number, "a repeat of 0")
-            if x > 32767 or 6 * band > 32767:
-                raise Unsaid(number, "a sixel past column or row 32,767: the terminal ends")
-            wide, high = box or (0, 0)
-            if bits and (x > wide + 512 or 6 * (band + 1) > high + 512):
-                raise Unsaid(number, "paint more than 512 columns or rows past the box: the terminal may end")
+            if buffer.data(count, bits):
+                raise Unsaid(number, "a sixel that is past its memory, or past column or row 32,767")
             if bits and register in sampled:
                 raise Unsaid(number, "paint in a colour of samples, by colour system 3")
             if bits and register > 255 and register not in defined:
                 raise Unsaid(number, "paint in a register above 255 that isn't defined")
-            right, below = x > wide, 6 * band >= high
-            if right and below and not grown and box:
-                raise Unsaid(number, "the first sixel past the box is both right of it and below it")
-            grown = grown or right or below
             given.append(event)
         elif kind in MOVING:
-            x, band = 0, band + (kind == "newline")
+            if kind == "newline":
+                buffer.newline()
+            buffer.x = 0
             given.append(event)
     return Setting(lambda register: BACKGROUND if register else TEXT, at_end=False), given
 
