@@ -6,7 +6,7 @@ _sixel() {
     for ((i = 1; i < COMP_CWORD; i++)); do
         if [[ ! $ended && ${COMP_WORDS[i]} == -- ]]; then
             ended=yes
-        elif [[ ! $ended && ${COMP_WORDS[i]} == @(--width|--height|--on|--background) ]]; then
+        elif [[ ! $ended && ${COMP_WORDS[i]} == @(--on|--width|--height|--background) ]]; then
             valued=${COMP_WORDS[i]}
             ((++i))
             [[ ${COMP_WORDS[i]} != = ]] || ((++i))
@@ -20,8 +20,10 @@ _sixel() {
     done
     # The word at the cursor is the value of an option: one of a few, or a number or a colour.
     if ((i != COMP_CWORD)); then
-        case $valued in
-            --on) options='xterm mlterm foot konsole' ;;
+        case $command:$valued in
+            check:--on) options='xterm mlterm foot konsole all' ;;
+            survey:--on) options='xterm mlterm foot konsole all' ;;
+            show:--on) options='xterm mlterm foot konsole' ;;
         esac
         [[ ! $options ]] || mapfile -t COMPREPLY < <(compgen -W "$options" -- "${2#=}")
         return
@@ -29,24 +31,26 @@ _sixel() {
     # For a command that takes any number of files or names the operands don't count.
     case $command in
         '') options='-h --help -V --version'
-            names='list check survey scan render encode show mend explain help'
+            names='list check survey scan render encode show differ mend explain help'
             ;;
         list) options='-h --help -V --version' ;;
-        check) options='--wide -q --quiet --failed --json --explain -h --help -V --version' operands=0 ;;
-        survey) options='--wide --json --explain -h --help -V --version' operands=0 ;;
+        check) options='--wide --on -q --quiet --failed --json --explain -h --help -V --version' operands=0 ;;
+        survey) options='--wide --on --json --explain -h --help -V --version' operands=0 ;;
         scan) options='--wide -q --quiet --eight-bit --json -h --help -V --version' operands=0 ;;
         render) options='--wide -h --help -V --version' ;;
         encode) options='--wide -h --help -V --version' ;;
         show) options='--wide -q --quiet --showing --fill --define-selects --width --height --box --on --background -h --help -V --version' ;;
+        differ) options='--background --sheet -h --help -V --version' operands=0 ;;
         mend) options='--wide -q --quiet --background --showing --define-selects -h --help -V --version' ;;
         explain) options='-h --help -V --version' operands=0
             names='RasterFirst RasterTwice Ratio BoxSize Register ColourValue RepeatZero Unselected Undefined
-                Redefined Outside Uncovered EightBit NotSixel BadByte NumberTooLarge FieldCount BadRepeat
-                BadTerminator Truncated TooLong Trailing Header Size Maxval Sample TooManyColours Short NotRgb NoBox
-                Unmodelled NoString Empty TooLarge OutOfMemory Read Write'
+                Redefined Outside Uncovered EightBit RasterLate Dropped Stale Large Rows Past Hue Far Mixed NotSixel
+                BadByte NumberTooLarge FieldCount BadRepeat BadTerminator Truncated TooLong Trailing Header Size
+                Maxval Sample TooManyColours Short NotRgb NoBox Unmodelled NoString Empty TooLarge OutOfMemory Read
+                Write'
             ;;
         help)
-            names='list check survey scan render encode show mend explain help'
+            names='list check survey scan render encode show differ mend explain help'
             ;;
         *) return ;;
     esac
