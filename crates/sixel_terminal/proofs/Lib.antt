@@ -17,3 +17,5 @@ pub mod SixelLemmas
 pub mod PlainLemmas
 pub mod ClipLemmas
 pub mod FollowLemmas
+pub mod FixLemmas
+pub mod UnderLemmas

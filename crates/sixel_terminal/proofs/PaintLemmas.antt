@@ -71,25 +71,25 @@ box_pixel t width height x y p q =
     ∙ and_cross (nat_le t.choices.origin_x x) (nat_le t.choices.origin_y y)
     (nat_lt (x - t.choices.origin_x) width) (nat_lt (y - t.choices.origin_y) height)
 
--- the pixels of a box at the origin
-pub box_pixels : (t : Display) (width height : ℕ) (columns rows : Span) (ink : Ink) (old new : List Ink)
+-- the pixels of a box at the origin are what f makes of them
+pub box_pixels : (t : Display) (width height : ℕ) (columns rows : Span) (f : Ink → Ink) (old new : List Ink)
     → length old ≡ t.choices.screen_width * t.choices.screen_height → 0 < t.choices.screen_width
     → columns ≡ span_of t.choices.origin_x width t.choices.screen_width
     → rows ≡ span_of t.choices.origin_y height t.choices.screen_height
     → ((i : ℕ) → i < length old
     → get_or new i black
-    ≡ cond (is_in_span columns (i % t.choices.screen_width) && is_in_span rows (i / t.choices.screen_width)) ink
-    (get_or old i black))
+    ≡ cond (is_in_span columns (i % t.choices.screen_width) && is_in_span rows (i / t.choices.screen_width))
+    (f (get_or old i black)) (get_or old i black))
     → (i : ℕ) → i < length old
     → get_or new i black
     ≡ cond (is_from_origin t (i % t.choices.screen_width) (i / t.choices.screen_width)
     && (nat_lt (i % t.choices.screen_width - t.choices.origin_x) width
-    && nat_lt (i / t.choices.screen_width - t.choices.origin_y) height)) ink (get_or old i black)
-box_pixels t width height columns rows ink old new whole some across down filled i lt =
+    && nat_lt (i / t.choices.screen_width - t.choices.origin_y) height)) (f (get_or old i black)) (get_or old i black)
+box_pixels t width height columns rows f old new whole some across down filled i lt =
     let in_width = mod_below i t.choices.screen_width some in
     let in_height = div_below i t.choices.screen_width t.choices.screen_height some (omega (arith, whole, lt)) in
     filled i lt
-    ∙ ap (λ (v : Bool). cond v ink (get_or old i black))
+    ∙ ap (λ (v : Bool). cond v (f (get_or old i black)) (get_or old i black))
     (rw (across, down)
     (box_pixel t width height (i % t.choices.screen_width) (i / t.choices.screen_width) in_width in_height))
 
@@ -189,7 +189,7 @@ off_screen t p count bits columns ink xs across empty i lt =
     (nat_le p.column px && nat_lt px (p.column + count))
     (any_below 6 (bit_covers p.band p.height bits (y - t.choices.origin_y))) none))
 
-no_columns : (l line rows bits x y : ℕ) → covers l 0 line rows bits x y ≡ false
+pub no_columns : (l line rows bits x y : ℕ) → covers l 0 line rows bits x y ≡ false
 unfolding covers
 no_columns l line rows bits x y = rw (outside l x) refl
   where

@@ -2,8 +2,8 @@ pub mod Displays
 pub mod Limits
 pub mod Backdrops
 pub mod Drawing
-pub mod Pixels
 pub mod Canvases
+pub mod Pixels
 pub mod Steps
 pub mod Standing
 pub mod Screens

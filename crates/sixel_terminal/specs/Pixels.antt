@@ -1,8 +1,9 @@
 -- The pixels of a screen as numbers of four bytes.
 use Rattle.std.specs.Prelude.{◌≡◌, ◌==◌, ◌<◌, ◌^◌, ◌+◌, ◌-◌, ◌*◌, ◌/◌, ◌%◌, ◌∷◌, [], ℕ, Bool, true, false, List}
-use Rattle.std.specs.Prelude.{Option, Some, None, if◌then◌else◌}
+use Rattle.std.specs.Prelude.{Option, Some, None, IsSome, slice_index_or, if◌then◌else◌}
 use Rattle.sixel_model.specs.declared.colour.Parts.TheVariants.{Rgb, Hls}
 use Rattle.sixel_model.specs.Colours.{IsColour}
+use Rattle.sixel_terminal.specs.Canvases.{black}
 use Rattle.sixel_terminal.specs.declared.pixel.Ink.{Ink}
 use Rattle.sixel_terminal.specs.declared.pixel.Ink.TheVariants.{Fixed, Bound}
 
@@ -43,6 +44,10 @@ is_rgb_ink (Bound register) = false
 abbrev pub register_in_ink : Ink → Option ℕ
 register_in_ink (Fixed colour) = None
 register_in_ink (Bound register) = Some register
+
+-- this ink of a list is a register's
+abbrev pub IsBoundAt : List Ink → ℕ → Type 0
+IsBoundAt inks at = IsSome (register_in_ink (slice_index_or inks at black))
 
 -- the colour is in range, and the register a `u16`
 abbrev pub IsInk : Ink → Type 0

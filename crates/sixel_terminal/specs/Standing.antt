@@ -1,7 +1,7 @@
 -- What a terminal stores after a list of events. `HasDrawn` of `Drawings` builds on it; `Drawing` defines what a
 -- terminal shows.
-use Rattle.std.specs.Prelude.{◌≡◌, ◌<◌, ℕ, ◌+◌, ◌*◌, ◌/◌, ◌%◌, List, Option, length, min, slice_index_or, unwrap_or}
-use Rattle.std.specs.Prelude.{if◌then◌else◌}
+use Rattle.std.specs.Prelude.{◌≡◌, ◌<◌, ◌++◌, ℕ, ◌+◌, ◌*◌, ◌/◌, ◌%◌, EachIndex, List, Option, drop, length, map, min}
+use Rattle.std.specs.Prelude.{slice_index_or, take, unwrap_or, if◌then◌else◌}
 use Rattle.std.specs.Option.{option_map}
 use Rattle.sixel_grammar.specs.declared.command.Event.{Event}
 use Rattle.sixel_model.specs.declared.colour.Parts.{Parts}
@@ -58,3 +58,15 @@ shown_in colours (Bound r) = slice_index_or colours r (Rgb 0 0 0)
 abbrev pub IsInkBelow : ℕ → Ink → Type 0
 IsInkBelow n (Fixed colour) = Unit {0}
 IsInkBelow n (Bound register) = register < n
+
+-- each register of an ink is one of the first n
+abbrev pub AreInksBelow : ℕ → List Ink → Type 0
+AreInksBelow n inks = EachIndex inks (λ i. IsInkBelow n (slice_index_or inks i black))
+
+-- the ink of a pixel with the colour that it shows
+abbrev pub fixed_at : List Parts → List Ink → ℕ → Ink
+fixed_at colours inks at = Fixed (shown_in colours (slice_index_or inks at black))
+
+-- the first n inks have the colours that they show
+abbrev pub fixed_below : List Parts → ℕ → List Ink → List Ink
+fixed_below colours n inks = map (λ ink. Fixed (shown_in colours ink)) (take n inks) ++ drop n inks

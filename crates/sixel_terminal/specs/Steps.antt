@@ -13,6 +13,9 @@ use Rattle.sixel_terminal.specs.declared.pixel.Ink.{Ink}
 use Rattle.sixel_terminal.specs.declared.pixel.Ink.TheVariants.{Fixed, Bound}
 use Rattle.sixel_terminal.specs.declared.pen.Pen.{Pen}
 use Rattle.sixel_terminal.specs.declared.pen.Sides.{Sides}
+use Rattle.sixel_terminal.specs.declared.choices.Ground.{Ground}
+use Rattle.sixel_terminal.specs.declared.choices.Ground.TheVariants.{Kept, Filled}
+use Rattle.sixel_terminal.specs.Canvases.{laid_under}
 use Rattle.sixel_terminal.specs.Displays.{Display, registers_of}
 use Rattle.sixel_terminal.specs.Drawing.{filled_on}
 
@@ -96,3 +99,8 @@ ink_by_colours t colours r = if t.choices.binds_at_showing then Bound r else Fix
 -- the ink of the pixel after the event
 abbrev pub ink_after_event : Display → Pen → List Parts → Event → ℕ → ℕ → Ink → Ink
 ink_after_event t p colours e x y ink = unwrap_or (option_map (ink_by_colours t colours) (painted_by t p e x y)) ink
+
+-- the ink of a pixel in a box that raster attributes before all events declare, if it had this ink without them
+abbrev pub ink_over : Ground → Ink → Ink
+ink_over Kept ink = ink
+ink_over (Filled register) ink = laid_under (Bound register) ink

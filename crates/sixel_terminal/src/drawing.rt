@@ -1,7 +1,10 @@
 //! Draws events one by one.
 
-ghost use Rattle.std.specs.Prelude.{◌≡◌, ◌<◌, ◌*◌, ◌++◌, ◌∷◌, [], ℕ, List, IfOk, IsTrue, length, slice_index};
+ghost use Rattle.std.specs.Prelude.{◌≡◌, ◌<◌, ◌*◌, ◌++◌, ◌∷◌, [], ℕ, List, IfOk, IsTrue, false, length};
+ghost use Rattle.std.specs.Prelude.{slice_index, true};
+ghost use Rattle.sixel_grammar.specs.declared.command.Command.TheVariants.{Raster};
 ghost use Rattle.sixel_grammar.specs.declared.command.Event.{Event as AnEvent};
+ghost use Rattle.sixel_grammar.specs.declared.command.Event.TheVariants.{Step};
 ghost use Rattle.sixel_grammar.specs.Bytes.{is_data};
 ghost use Rattle.sixel_model.specs.Events.{is_eight_bit};
 ghost use Rattle.sixel_terminal.specs.Drawing.{screen_on};
@@ -123,6 +126,22 @@ impl Drawing {
         for byte in bytes {
             self.push(&Event::Step(Command::Sixel(byte - b'?')));
         }
+    }
+
+    /// Draws raster attributes before all events, which give the terminal's own ratio, and a box of this width and
+    /// height in pixels. The terminal binds at showing and doesn't clip.
+    ///
+    /// Where the terminal fills its ground, the box lies under all that is painted.
+    pub fn fill_under(&mut self, width: u16, height: u16)
+        requires binds { self.old.terminal.choices.binds_at_showing ≡ true }
+        requires unclipped { self.old.terminal.choices.clips ≡ false }
+        ensures terminal { self.new.terminal ≡ self.old.terminal }
+        ensures drawn { (before : List AnEvent) → HasDrawn self.old before
+            → HasDrawn self.new (Step (Raster self.old.terminal.choices.tall 1 width height) ∷ before) }
+    {
+        self.pen = self
+            .terminal
+            .draw_under(self.pen, width, height, &mut self.pixels);
     }
 
     /// The screen after the events. A terminal without 8-bit controls shows nothing of a list with an 8-bit start or

@@ -16,7 +16,7 @@ mod terminal;
 
 pub use choices::{Choices, Ground};
 pub use drawing::Drawing;
-pub use pixel::{Ink, Pixel};
+pub use pixel::{Ink, Pixel, are_four_same};
 pub use screen::Screen;
 pub use starts::vt340_colour;
 pub use terminal::{Terminal, TerminalFault, TerminalReason};

@@ -63,6 +63,16 @@ impl Pen {
         }
     }
 
+    /// The pen if the first raster attributes had declared this box.
+    pub(crate) fn after_box(self, sides: Sides) -> Pen
+        ensures { result ≡ record self { declared = Some sides } }
+    {
+        Pen {
+            declared: Some(sides),
+            ..self
+        }
+    }
+
     pub(crate) fn with_selected(self, selected: u16) -> Pen
         ensures { result ≡ record self { selected = selected } }
     {

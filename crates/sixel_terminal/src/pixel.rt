@@ -1,11 +1,11 @@
 //! The pixels of a screen during drawing, in four bytes each.
 
-ghost use Rattle.std.specs.Prelude.{◌≡◌, ◌==◌, ◌≤◌, ◌<◌, ◌↔◌, ◌&&◌, ◌+◌, ◌-◌, ℕ, EachIndex, IfOk, IsTrue, length, map};
-ghost use Rattle.std.specs.Prelude.{nat_le, nat_lt, slice_index, slice_index_or, if◌then◌else◌};
+ghost use Rattle.std.specs.Prelude.{◌≡◌, ◌==◌, ◌≤◌, ◌<◌, ◌↔◌, ◌&&◌, ◌+◌, ◌-◌, ℕ, EachIndex, IfOk, IsSome, IsTrue, length};
+ghost use Rattle.std.specs.Prelude.{map, nat_le, nat_lt, slice_get, slice_index, slice_index_or, if◌then◌else◌};
 ghost use Rattle.std.specs.Int.{bit_at};
 ghost use Rattle.sixel_model.specs.Geometry.{band_rows};
 ghost use Rattle.sixel_terminal.specs.Canvases.{black};
-ghost use Rattle.sixel_terminal.specs.Pixels.{bytes_of, is_rgb_ink, packed, register_in_ink};
+ghost use Rattle.sixel_terminal.specs.Pixels.{bytes_of, IsBoundAt, is_rgb_ink, packed, register_in_ink};
 ghost use Rattle.sixel_terminal.specs.Screens.{colour_in_ink};
 ghost use Rattle.sixel_terminal.specs.declared.pixel.Ink.TheVariants.{Fixed as FixedInk, Bound as BoundInk};
 
@@ -103,6 +103,31 @@ pub(crate) fn paint_four(
     pixels[at + 3] = Pixel { code: codes[3] };
 }
 
+/// Whether four pixels, from `at` on, have registers' colours at the end. It takes no branch.
+#[inline(always)]
+pub(crate) fn are_four_bound(pixels: &[Pixel], at: usize) -> bool
+    requires { at + LANES ≤ length pixels.now }
+    ensures { IsTrue result → (k : ℕ) → k < LANES → IsBoundAt pixels.now (at + k) }
+{
+    pixels[at].is_bound()
+        & pixels[at + 1].is_bound()
+        & pixels[at + 2].is_bound()
+        & pixels[at + 3].is_bound()
+}
+
+/// Whether four pixels, from `at` on, are the same in both lists. It takes no branch.
+#[inline(always)]
+pub fn are_four_same(a: &[Pixel], b: &[Pixel], at: usize) -> bool
+    requires a { at + 4 ≤ length a.now }
+    requires b { at + 4 ≤ length b.now }
+    ensures { IsTrue result ↔ ((k : ℕ) → k < 4 → slice_get a.now (at + k) ≡ slice_get b.now (at + k)) }
+{
+    a[at].is_same(&b[at])
+        & a[at + 1].is_same(&b[at + 1])
+        & a[at + 2].is_same(&b[at + 2])
+        & a[at + 3].is_same(&b[at + 3])
+}
+
 /// Pixels of these colours.
 pub(crate) fn fixed_pixels(alloc: Global, colours: &[Colour]) -> Result<Vec<Pixel>, AllocError>
     ensures { IfOk result (λ pixels. pixels.items ≡ map (λ c. FixedInk c) colours.now) }
@@ -154,6 +179,14 @@ impl Pixel {
         Some((self.code % 65_536) as u16)
     }
 
+    /// Whether the pixel shows the colour that a register has at the end.
+    #[inline(always)]
+    fn is_bound(&self) -> bool
+        ensures { IsTrue result → IsSome (register_in_ink self.now) }
+    {
+        self.code >= LEAST_BOUND
+    }
+
     /// Four bytes: of an RGB colour its percentages of red, green and blue, and 0.
     pub fn bytes(&self) -> [u8; 4]
         ensures { result ≡ bytes_of self.now }
@@ -169,6 +202,7 @@ impl Pixel {
     }
 
     /// Whether two pixels show the same.
+    #[inline(always)]
     pub fn is_same(&self, other: &Pixel) -> bool
         ensures { IsTrue result ↔ (self.now ≡ other.now) }
     {

@@ -3,6 +3,7 @@
 mod drawing;
 mod painting;
 mod steps;
+mod under;
 
 ghost use Rattle.std.specs.Prelude.{◌≡◌, ◌↔◌, ◌*◌, List, None, Some, IfErr, IfOk, IsTrue, MatchResult, length};
 ghost use Rattle.sixel_model.specs.declared.colour.Parts.{Parts};

@@ -17,3 +17,5 @@ mod fixtures;
 mod making;
 #[cfg(test)]
 mod stretches;
+#[cfg(test)]
+mod under;

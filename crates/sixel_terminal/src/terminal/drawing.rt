@@ -1,23 +1,25 @@
 //! What a drawing does on its terminal, and drawing a whole list.
 
-ghost use Rattle.std.specs.Prelude.{◌≡◌, ◌<◌, ◌*◌, ◌++◌, ◌∷◌, [], ℕ, EachIndex, List, IfOk, IfSome, IsNone};
-ghost use Rattle.std.specs.Prelude.{IsTrue, length, map, replicate, slice_index, slice_index_or};
+ghost use Rattle.std.specs.Prelude.{◌≡◌, ◌<◌, ◌≤◌, ◌+◌, ◌*◌, ◌++◌, ◌∷◌, [], ℕ, EachIndex, List, IfOk, IfSome, IsNone};
+ghost use Rattle.std.specs.Prelude.{IsTrue, length, map, replicate, slice_index, slice_index_or, slice_set};
 ghost use Rattle.std.specs.List.{list_any};
 ghost use Rattle.sixel_grammar.specs.declared.command.Event.{Event};
 ghost use Rattle.sixel_grammar.specs.Bytes.{is_data};
 ghost use Rattle.sixel_grammar.specs.Document.{events_of};
 ghost use Rattle.sixel_model.specs.Events.{is_eight_bit};
 ghost use Rattle.sixel_terminal.specs.declared.pen.Pen.{Pen as APen};
+ghost use Rattle.sixel_terminal.specs.declared.pixel.Ink.{Ink as AnInk};
 ghost use Rattle.sixel_terminal.specs.declared.pixel.Ink.TheVariants.{Fixed};
 ghost use Rattle.sixel_terminal.specs.Canvases.{black};
 ghost use Rattle.sixel_terminal.specs.Drawing.{screen_on};
 ghost use Rattle.sixel_terminal.specs.Screens.{IsAllFixed, colour_in_ink};
 ghost use Rattle.sixel_terminal.specs.Stretches.{sixels_of};
-ghost use Rattle.sixel_terminal.specs.Standing.{IsInkBelow, IsPenAfter, StandsAfter, shown_in};
+ghost use Rattle.sixel_terminal.specs.Pixels.{IsBoundAt};
+ghost use Rattle.sixel_terminal.specs.Standing.{AreInksBelow, IsPenAfter, StandsAfter, fixed_at, fixed_below, shown_in};
 
 use crate::drawing::Drawing;
 use crate::pen::Pen;
-use crate::pixel::{Pixel, fixed_pixels};
+use crate::pixel::{LANES, Pixel, are_four_bound, fixed_pixels};
 use crate::registers::Registers;
 use crate::terminal::{Backdrop, Terminal};
 use sixel_grammar::{Event, Placed};
@@ -48,25 +50,79 @@ fn plain_pixels(alloc: Global, count: usize, colour: Colour) -> Result<Vec<Pixel
     vec![in alloc; Pixel::fixed(colour); count]
 }
 
-/// Gives each pixel the colour that it shows if the registers have these colours.
+/// Gives each pixel the colour that it shows if the registers have these colours. Four are done at once.
 fn fix(pixels: &mut [Pixel], colours: &Registers)
-    requires { EachIndex pixels.old (λ i. IsInkBelow (length colours.now) (slice_index_or pixels.old i black)) }
+    requires { AreInksBelow (length colours.now) pixels.old }
     ensures { pixels.new ≡ map (λ ink. Fixed (shown_in colours.now ink)) pixels.old }
 {
-    for index in 0..pixels.len() {
-        pixels[index] = fixed(&pixels[index], colours);
+    let mut done = 0;
+    while pixels.len() - done >= LANES {
+        fix_four(pixels, done, colours);
+        done += LANES;
+    }
+    fix_from(pixels, done, colours);
+}
+
+/// Does so for the pixels from `from` on, where those before are done.
+#[tactic(auto, using(crate::proofs::FixLemmas::all_fixed))]
+fn fix_from(pixels: &mut [Pixel], from: usize, colours: &Registers)
+    requires within { from ≤ length pixels.old }
+    requires below { AreInksBelow (length colours.now) pixels.old }
+    ensures { (initial : List AnInk) → pixels.old ≡ fixed_below colours.now from initial
+        → pixels.new ≡ map (λ ink. Fixed (shown_in colours.now ink)) initial }
+{
+    for index in from..pixels.len() {
+        fix_one(pixels, index, colours);
     }
 }
 
-/// The pixel in the colour that it shows if the registers have these colours.
+/// Does so for four pixels, from `at` on. Nearly always registers give all four their colours.
 #[inline(always)]
-fn fixed(pixel: &Pixel, colours: &Registers) -> Pixel
-    requires { IsInkBelow (length colours.now) pixel.now }
-    ensures { result ≡ Fixed (shown_in colours.now pixel.now) }
+fn fix_four(pixels: &mut [Pixel], at: usize, colours: &Registers)
+    requires room { at + LANES ≤ length pixels.old }
+    requires below { AreInksBelow (length colours.now) pixels.old }
+    ensures below { AreInksBelow (length colours.now) pixels.new }
+    ensures long { length pixels.new ≡ length pixels.old }
+    ensures fixed { (initial : List AnInk) → pixels.old ≡ fixed_below colours.now at initial
+        → pixels.new ≡ fixed_below colours.now (at + LANES) initial }
 {
-    match pixel.register() {
-        Some(register) => colours.pixel(register),
-        None => *pixel,
+    if are_four_bound(pixels, at) {
+        fix_bound(pixels, at, colours);
+        fix_bound(pixels, at + 1, colours);
+        fix_bound(pixels, at + 2, colours);
+        fix_bound(pixels, at + 3, colours);
+    } else {
+        fix_one(pixels, at, colours);
+        fix_one(pixels, at + 1, colours);
+        fix_one(pixels, at + 2, colours);
+        fix_one(pixels, at + 3, colours);
+    }
+}
+
+/// Does so for one pixel to which a register gives its colour.
+#[inline(always)]
+fn fix_bound(pixels: &mut [Pixel], at: usize, colours: &Registers)
+    requires within { at < length pixels.old }
+    requires bound { IsBoundAt pixels.old at }
+    requires below { AreInksBelow (length colours.now) pixels.old }
+    ensures { pixels.new ≡ slice_set pixels.old at (fixed_at colours.now pixels.old at) }
+{
+    match pixels[at].register() {
+        Some(register) => pixels[at] = colours.pixel(register),
+        None => unreachable!(),
+    }
+}
+
+/// Does so for one pixel.
+#[inline(always)]
+fn fix_one(pixels: &mut [Pixel], at: usize, colours: &Registers)
+    requires within { at < length pixels.old }
+    requires below { AreInksBelow (length colours.now) pixels.old }
+    ensures { pixels.new ≡ slice_set pixels.old at (fixed_at colours.now pixels.old at) }
+{
+    match pixels[at].register() {
+        Some(register) => pixels[at] = colours.pixel(register),
+        None => {}
     }
 }
 

@@ -7,6 +7,7 @@ pub returns : goal.returns
 returns c =
     let same : c.self.inside.choices ≡ c.args.self.now.choices = ap (λ (t : Display). t.choices) c.self.view_is in
     let some : 0 < c.args.self.now.choices.screen_width = rw (← same) (search rules) in
-    box_pixels c.args.self.now c.args.width c.args.height c.new-columns.result c.new-rows.result c.args.ink.now
-    c.args.inks.now c.fill.new.inks c.requires some (rw same at c.new-columns.ensures) (rw same at c.new-rows.ensures)
+    box_pixels c.args.self.now c.args.width c.args.height c.new-columns.result c.new-rows.result
+    (λ old. c.args.ink.now) c.args.inks.now c.fill.new.inks c.requires some
+    (rw same at c.new-columns.ensures) (rw same at c.new-rows.ensures)
     (rw same at c.fill.ensures)
