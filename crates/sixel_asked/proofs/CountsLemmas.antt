@@ -67,7 +67,7 @@ leaves_far_is : {n : Notes} {before : List Event} (d : Declared) (e : Event) →
     → d.width < 2 ^ 16 → d.height < 2 ^ 16 → leaves_far_in n d e ≡ leaves_far (attributes d) before e
 leaves_far_is d e s w h = ap₂ (λ (a b : Bool). a || b) (ends_is d e s w) (low_is d s h)
 
--- what is said of the box
+-- a test of the box gives the same for what is stored of it
 of_box : (P : Declared → Bool) (Q : Attributes → Bool) (o : Option Declared) (p : Option Attributes)
     → option_map attributes o ≡ p → AreNarrow o
     → ((d : Declared) → d.width < 2 ^ 16 → d.height < 2 ^ 16 → P d ≡ Q (attributes d))

@@ -13,6 +13,7 @@ use Rattle.sixel_model.specs.Events.{Attributes, is_data_command, is_return, nam
 use Rattle.sixel_model.specs.Positions.{any_below, since}
 use Rattle.sixel_model.proofs.PositionLemmas.{since_push}
 use Rattle.sixel_models.specs.declared.konsole.Konsole.{Konsole}
+use Rattle.sixel_models.specs.declared.konsole.Stated.{Stated}
 use Rattle.sixel_models.specs.Konsole.{any_followed, begins, counting, first_below, first_followed, has_begun}
 use Rattle.sixel_models.specs.Konsole.{has_late, has_unknown_system, is_late, is_stuck, konsole, konsole_data}
 use Rattle.sixel_models.specs.Konsole.{konsole_move}
@@ -21,7 +22,7 @@ use Rattle.sixel_models.specs.Readings.{ArePlain}
 use Rattle.sixel_models.proofs.PlainLemmas.{first_before, same_over}
 use Rattle.sixel_models.specs.Konsole.{may_count, moves_or_ends}
 use Rattle.sixel_models.specs.KonsoleSeen.{HasSeenKonsole, begun_in, counting_in, konsole_in, may_count_in, next_begun}
-use Rattle.sixel_models.specs.KonsoleSeen.{next_declares, next_late, next_stuck, said}
+use Rattle.sixel_models.specs.KonsoleSeen.{is_settled, next_declares, next_late, next_stuck, said, selects_or_paints}
 use Rattle.sixel_models.proofs.FollowedLemmas.{any_followed_push, first_followed_push}
 
 none_either : {A : Type 0} (b : Bool) → ◌≡◌ {A = Option A} None (if b then None else None)
@@ -208,6 +209,71 @@ konsole_over before [] some past s = absurd (omega (arith, some))
 konsole_over {k} {l} before (b ∷ bs) some past s =
     subst (HasSeenKonsole l) (sym (first_before before b bs))
     (all_over (before ++ Step (Sixel (b - 63)) ∷ []) bs (past_itself past) (one_over (b - 63) past s))
+
+-- ---- a select or a data command that changes nothing
+
+all_four : (a b c d : Bool) → (((a && b) && not c) && d) ≡ true → (a ≡ true) × (b ≡ true) × (c ≡ false) × (d ≡ true)
+all_four true true false true h = (refl, refl, refl, refl)
+all_four true true false false h = absurd cc
+all_four true true true d h = absurd cc
+all_four true false c d h = absurd cc
+all_four false b c d h = absurd cc
+
+none_of : {A : Type 0} (o : Option A) → is_none o ≡ true → o ≡ None
+none_of None h = refl
+none_of (Some a) h = absurd cc
+
+settled_begun : (k : Konsole) → is_settled k ≡ true → k.begun ≡ true
+settled_begun k h = (all_four k.has_late k.begun k.declares (is_none k.waiting) h).1
+
+settled_past : (k : Konsole) → is_settled k ≡ true → IsPast k k
+settled_past k h =
+    let f = all_four k.has_late k.begun k.declares (is_none k.waiting) h in
+    let none : k.waiting ≡ None = none_of k.waiting f.3 in
+    record {
+      stuck_is = refl;
+      late_is = f.0;
+      begun_is = f.1 ∙ ap (λ (b : Bool). (b || (k.declares && not false)) || not k.stuck) (sym f.1);
+      declares_is = f.2;
+      counting_is = none_more (option_map said k.counting)
+          ∙ ap (λ (w : Option Stated). option_or (option_map said k.counting) (option_map said w)) (sym none);
+      waiting_is = none;
+    }
+
+pub settled_over : {k : Konsole} (before : List Event) (bytes : List ℕ) → is_settled k ≡ true → HasSeenKonsole k before
+    → HasSeenKonsole k (before ++ sixels_of bytes)
+settled_over {k} before bytes settled s = all_over before bytes (settled_past k settled) s
+
+settled_push : {k : Konsole} (before : List Event) (e : Event) → is_settled k ≡ true → selects_or_paints e ≡ true
+    → HasSeenKonsole k before → HasSeenKonsole k (before ++ e ∷ [])
+settled_push {k} before (Step (Sixel bits)) settled is s = one_over bits (settled_past k settled) s
+settled_push {k} before (Step (Repeat count bits)) settled is s =
+    let past = settled_past k settled in
+    seen_push k (Step (Repeat count bits)) s (past.stuck_is ∙ sym (or_false k.stuck)) (past.late_is ∙ or_true k.has_late)
+    past.begun_is past.declares_is past.counting_is (ap (option_map said) past.waiting_is)
+settled_push {k} before (Step (Select register)) settled is s =
+    let past = settled_past k settled in
+    seen_push k (Step (Select register)) s (past.stuck_is ∙ sym (or_false k.stuck)) (past.late_is ∙ or_true k.has_late)
+    (settled_begun k settled ∙ or_true (begun_in k false)) past.declares_is past.counting_is
+    (ap (option_map said) past.waiting_is)
+settled_push before (Step (Raster pan pad width height)) settled is s = absurd cc
+settled_push before (Step (Define register system x y z)) settled is s = absurd cc
+settled_push before (Step CarriageReturn) settled is s = absurd cc
+settled_push before (Step NextLine) settled is s = absurd cc
+settled_push before (Start eight parameters) settled is s = absurd cc
+settled_push before (Finish eight) settled is s = absurd cc
+
+and_both : (a b : Bool) → (a && b) ≡ true → (a ≡ true) × (b ≡ true)
+and_both true true h = (refl, refl)
+and_both true false h = absurd cc
+and_both false b h = absurd cc
+
+pub stays_push : {k : Konsole} (before : List Event) (e : Event) → (is_settled k && selects_or_paints e) ≡ true
+    → HasSeenKonsole k before → HasSeenKonsole k (before ++ e ∷ [])
+stays_push {k} before e h s =
+    let both = and_both (is_settled k) (selects_or_paints e) h in settled_push before e both.0 both.1 s
+
+-- ---- whether all is dropped, and what is drawn
 
 pub stuck_over : (before : List Event) (bytes : List ℕ) → is_stuck (before ++ sixels_of bytes) ≡ is_stuck before
 stuck_over before bytes =

@@ -2,7 +2,7 @@
 use Rattle.std.proofs.Common.{◌≡◌, ◌<◌, ◌≤◌, ◌+◌, ◌-◌, ◌*◌, ℕ, zero, suc, Bool, true, false, cond, Option, Some, None}
 use Rattle.std.proofs.Common.{List, [], ◌∷◌, ◌++◌, length, map, take, max, min, refl, sym, ap, ap₂, subst, ◌∙◌}
 use Rattle.std.proofs.Common.{add-one, append-nil, arith, inl, inr}
-use Rattle.std.specs.Prelude.{slice_get, slice_index, if◌then◌else◌}
+use Rattle.std.specs.Prelude.{◌||◌, nat_lt, slice_get, slice_index, if◌then◌else◌}
 use Rattle.std.specs.List.{flat_map, range_with_len}
 use Rattle.std.specs.Option.{option_map_or}
 use Rattle.std.proofs.Math.Seq.{take-append_seam}
@@ -12,7 +12,7 @@ use Rattle.std.proofs.lemmas.Grind.{flat_map-append}
 use Rattle.std.proofs.lemmas.List.{take-append-le}
 use Rattle.std.proofs.lemmas.List.Folds.{flat_map-map}
 use Rattle.std.proofs.lemmas.List.FromFn.{map-range_with_len_more}
-use Rattle.sixel_grammar.specs.declared.command.Command.TheVariants.{CarriageReturn, NextLine, Raster, Sixel}
+use Rattle.sixel_grammar.specs.declared.command.Command.TheVariants.{CarriageReturn, NextLine, Raster, Select, Sixel}
 use Rattle.sixel_grammar.specs.declared.command.Event.{Event}
 use Rattle.sixel_grammar.specs.declared.command.Event.TheVariants.{Step}
 use Rattle.sixel_model.specs.Events.{Attributes, columns_of, is_data_command, is_return}
@@ -21,9 +21,10 @@ use Rattle.sixel_model.proofs.PositionLemmas.{get_before, get_end}
 use Rattle.sixel_model.proofs.StepLemmas.{column_push}
 use Rattle.sixel_models.specs.declared.rectangle.KonsoleMeasure.{KonsoleMeasure}
 use Rattle.sixel_models.specs.declared.rectangle.Reach.{Reach}
+use Rattle.sixel_models.specs.declared.reading.Reads.TheVariants.{Draws, Nothing}
 use Rattle.sixel_terminal.specs.Stretches.{sixels_of}
 use Rattle.sixel_models.specs.Konsole.{column_after, event_after, greatest_at, greatest_below, is_stuck, konsole}
-use Rattle.sixel_models.specs.Konsole.{konsole_data}
+use Rattle.sixel_models.specs.Konsole.{is_dropped, konsole_data}
 use Rattle.sixel_models.specs.Konsole.{konsole_drawing, counting, has_begun, konsole_opening, konsole_tall}
 use Rattle.sixel_models.specs.Konsole.{rectangle_of, row_after}
 use Rattle.sixel_models.specs.KonsoleMeasured.{HasMeasured, IsReach, drawn_sixels, reached_columns, reached_rows}
@@ -34,6 +35,7 @@ use Rattle.sixel_models.specs.Places.{IsPlaceAfter, most}
 use Rattle.sixel_models.specs.Readings.{drawn_by}
 use Rattle.sixel_models.proofs.FollowedLemmas.{after_before, after_end, length_push}
 use Rattle.sixel_models.proofs.KonsoleLemmas.{stuck_over}
+use Rattle.sixel_models.proofs.PlaceLemmas.{place_push}
 use Rattle.sixel_models.proofs.PlainLemmas.{band_over, column_over, first_before}
 
 -- ---- what is drawn of one more event
@@ -155,6 +157,28 @@ measured_push m before e next seen reach = record {
   seen = seen;
   reach = subst (IsReach m.reach) (sym (drawing_push before e next)) reach;
 }
+
+-- ---- a select
+
+-- drawn or dropped, it reaches no further
+select_reaches : (dropped : Bool) {r : Reach} {drawing : List Event} (register : ℕ) → IsReach r drawing
+    → IsReach r (drawing ++ drawn_by (if dropped then Nothing else Draws (Select register)))
+select_reaches true {r} {drawing} register s = subst (IsReach r) (sym (append-nil drawing)) s
+select_reaches false {r} {drawing} register s =
+    let across : r.place.column ≡ min (r.place.column + 0) most = omega (arith, s.place_is.column_is) in
+    let down : r.place.band ≡ min (r.place.band + 0) most = omega (arith, s.place_is.band_is) in
+    reach_push r (Step (Select register)) s
+    (place_push 1 r.place r.place (Step (Select register)) s.place_is across down) refl refl
+
+pub measured_select : {m : KonsoleMeasure} (n : KonsoleMeasure) (before : List Event) (register : ℕ)
+    (next : Option Event) → n.reach ≡ m.reach → HasSeenKonsole n.reading (before ++ Step (Select register) ∷ [])
+    → HasMeasured m before (Some (Step (Select register)))
+    → HasMeasured n (before ++ Step (Select register) ∷ []) next
+measured_select n before register next same seen s =
+    let e : Event = Step (Select register) in
+    measured_push n before e next seen
+    (subst (λ (r : Reach). IsReach r (konsole_drawing before (Some e) ++ drawn_by (konsole before e next))) (sym same)
+    (select_reaches (is_dropped before next || nat_lt 255 register) register s.reach))
 
 -- ---- the rectangle
 

@@ -17,3 +17,4 @@ pub mod ProgressLemmas
 pub mod ModelledLemmas
 pub mod NamedLemmas
 pub mod ShowingLemmas
+pub mod AtOnceLemmas

@@ -280,13 +280,13 @@ is_drawing : (m : Model) (opening : List Event) (placed : List Placed) (d : Draw
     → IsDrawingOf m opening (events_of placed) d
 is_drawing m opening placed d said h = record {
   said = said;
-  drawing = opening ++ drawn_below m (events_of placed) h.end;
-  is_reading = λ is. record {
+  drawing = drawn_below m (events_of placed) h.end;
+  is_reading = record {
     end = h.end;
     within = h.within;
     goes_on = h.goes_on;
     stops = h.stops;
-    drawing_is = ap (λ (es : List Event). es ++ drawn_below m (events_of placed) h.end) is;
+    drawing_is = refl;
   };
   drawn = h.drawn;
 }

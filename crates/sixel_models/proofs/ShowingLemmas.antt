@@ -1,9 +1,10 @@
 -- What the drawing by a model shows.
-use Rattle.std.proofs.Common.{◌≡◌, ◌∙◌, ℕ, [], List, ap, sym, subst}
+use Rattle.std.proofs.Common.{◌≡◌, ◌∙◌, ◌++◌, ℕ, [], List, ap, sym, subst}
 use Rattle.std.specs.Prelude.{IfSome, Option, None, Some, Result, Ok, Err}
 use Rattle.sixel_grammar.specs.declared.command.Event.{Event}
 use Rattle.sixel_grammar.specs.declared.command.Placed.{Placed}
 use Rattle.sixel_grammar.specs.Document.{Document, events_of}
+use Rattle.sixel_grammar.proofs.UniqueLemmas.{document_once, fault_no_document}
 use Rattle.sixel_model.specs.declared.colour.Parts.{Parts}
 use Rattle.sixel_terminal.specs.Displays.{Display}
 use Rattle.sixel_terminal.specs.Drawing.{screen_on}
@@ -13,7 +14,12 @@ use Rattle.sixel_models.specs.declared.named.Named.{Named}
 use Rattle.sixel_models.specs.declared.showing.ShowFault.{ShowFault}
 use Rattle.sixel_models.specs.declared.showing.ShowFault.TheVariants.{Grammar, Unmodelled, OutOfMemory}
 use Rattle.sixel_models.specs.Modelled.{EndsAtPlace, IsDrawingOf}
-use Rattle.sixel_models.specs.Named.{DrawsNothingFirst, GivesScreen, ShowsOn, model_of, terminal_on}
+use Rattle.sixel_models.specs.declared.konsole_at_once.AtOnce.TheVariants.{Drawn as OnceDrawn}
+use Rattle.sixel_models.specs.declared.named.Named.TheVariants.{Konsole}
+use Rattle.sixel_models.specs.AtOnce.{GivesAtOnce}
+use Rattle.sixel_models.specs.Konsole.{konsole_opening}
+use Rattle.sixel_models.specs.Named.{DrawsNothingFirst, GivesScreen, IsScreenOn, ShowsDocument, ShowsOn, model_of}
+use Rattle.sixel_models.specs.Named.{terminal_on}
 use Rattle.sixel_models.specs.Readings.{Model}
 
 -- the screen is that of the drawing
@@ -42,10 +48,12 @@ shows_drawing named background sides opening bytes m d screen model terminal fin
       document,
       λ is. record {
         said = g.said;
-        drawing = g.drawing;
-        is_reading = g.is_reading is;
+        drawing = (model_of named).opening (events_of placed) ++ g.drawing;
+        is_reading = g.is_reading;
         after = is_after (terminal_on named background ((model_of named).opening (events_of placed)) sides) d screen
-            g.drawing (terminal ∙ ap (λ (o : List Event). terminal_on named background o sides) is) finishes g.drawn;
+            ((model_of named).opening (events_of placed) ++ g.drawing)
+            (terminal ∙ ap (λ (o : List Event). terminal_on named background o sides) is) finishes
+            (subst (λ (o : List Event). HasDrawn d (o ++ g.drawing)) is g.drawn);
       },
     )
 
@@ -81,3 +89,33 @@ gives_drawing named background sides bytes m d screen none model terminal finish
     let shows : ShowsOn named background sides [] bytes (Ok screen) =
     shows_drawing named background sides [] bytes m d screen model terminal finishes placed document drawing in
     (shows.0, shows.1, shows.2 (sym (none (events_of shows.0))))
+
+-- ---- a document that was drawn at once
+
+pub once_shown : (background : Parts) (sides : ℕ × ℕ) (placed : List Placed) (d : Drawn) (screen : Shown)
+    → GivesAtOnce background sides placed (Ok (OnceDrawn d)) → Finishes d screen
+    → IsScreenOn Konsole background sides (events_of placed) screen
+once_shown background sides placed d screen given finishes =
+    let opening : List Event = konsole_opening (events_of placed) in
+    record {
+      said = given.1.said;
+      drawing = opening ++ given.1.drawing;
+      is_reading = given.1.is_reading;
+      after = is_after (terminal_on Konsole background opening sides) d screen (opening ++ given.1.drawing) given.0
+          finishes given.1.drawn;
+    }
+
+pub shows_again : (named : Named) (background : Parts) (sides : ℕ × ℕ) (opening : List Event) (bytes : List ℕ)
+    (result : Result Shown ShowFault) (placed : List Placed) → Document placed bytes
+    → opening ≡ (model_of named).opening (events_of placed) → ShowsOn named background sides opening bytes result
+    → ShowsDocument named background sides bytes result
+shows_again named background sides opening bytes (Ok screen) placed document is s = (
+  s.0,
+  s.1,
+  s.2 (is ∙ ap (λ (ps : List Placed). (model_of named).opening (events_of ps))
+      (document_once bytes placed s.0 document s.1)),
+)
+shows_again named background sides opening bytes (Err (Grammar fault)) placed document is s =
+    fault_no_document bytes fault s (placed, document)
+shows_again named background sides opening bytes (Err (Unmodelled place)) placed document is s = s
+shows_again named background sides opening bytes (Err OutOfMemory) placed document is s = s

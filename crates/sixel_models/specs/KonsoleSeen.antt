@@ -57,6 +57,17 @@ may_count_in k (Step (Raster pan pad width height)) =
     else Some (record { pan = pan; pad = pad; width = width; height = height })
 may_count_in k _ = None
 
+-- a select or a data command
+abbrev pub selects_or_paints : Event → Bool
+selects_or_paints (Step (Select register)) = true
+selects_or_paints (Step (Sixel bits)) = true
+selects_or_paints (Step (Repeat count bits)) = true
+selects_or_paints _ = false
+
+-- such an event changes nothing
+abbrev pub is_settled : Konsole → Bool
+is_settled k = ((k.has_late && k.begun) && not k.declares) && is_none k.waiting
+
 -- ---- what it makes of an event, if the event after it moves or ends (true) or doesn't
 
 abbrev pub konsole_in : Konsole → Bool → Event → Reads

@@ -16,3 +16,4 @@ pub mod Courses
 pub mod Modelled
 pub mod Measuring
 pub mod Named
+pub mod AtOnce

@@ -23,13 +23,12 @@ HasPlace placed i place = option_map (λ (p : Placed). p.place) (slice_get place
 
 -- ---- what a drawing by a model gives of a document
 
--- the model says all, and what was drawn is what a plain terminal draws in place of the events, if `opening` is what
--- the model draws before the first one
+-- the model says all, and what was drawn is `opening`, and then what a plain terminal draws in place of the events
 pub record IsDrawingOf (m : Model) (opening events : List Event) (d : Drawn) : Type 0 where
   pub said : IsSaid m events
   pub drawing : List Event
-  pub is_reading : opening ≡ m.opening events → IsReading m events drawing
-  pub drawn : HasDrawn d drawing
+  pub is_reading : IsReading m events (m.opening events ++ drawing)
+  pub drawn : HasDrawn d (opening ++ drawing)
 
 -- the model ends at the event with this offset
 pub record EndsAtPlace (m : Model) (placed : List Placed) (place : ℕ) : Type 0 where

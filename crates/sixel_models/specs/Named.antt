@@ -62,6 +62,15 @@ ShowsOn named background sides opening bytes (Err (Unmodelled place)) =
     (placed : List Placed) × Document placed bytes × EndsAtPlace (model_of named) placed place
 ShowsOn named background sides opening bytes (Err OutOfMemory) = ⊤
 
+-- what is shown of the document of these bytes. There is one: so they have no fault
+abbrev pub ShowsDocument : Named → Parts → ℕ × ℕ → List ℕ → Result Shown ShowFault → Type 0
+ShowsDocument named background sides bytes (Ok screen) =
+    (placed : List Placed) × Document placed bytes × IsScreenOn named background sides (events_of placed) screen
+ShowsDocument named background sides bytes (Err (Grammar fault)) = ⊥
+ShowsDocument named background sides bytes (Err (Unmodelled place)) =
+    (placed : List Placed) × Document placed bytes × EndsAtPlace (model_of named) placed place
+ShowsDocument named background sides bytes (Err OutOfMemory) = ⊤
+
 -- the terminal's model draws nothing before the first event
 abbrev pub DrawsNothingFirst : Named → Type 0
 DrawsNothingFirst named = (events : List Event) → (model_of named).opening events ≡ []

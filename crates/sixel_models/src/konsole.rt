@@ -8,7 +8,8 @@ ghost use Rattle.sixel_grammar.specs.declared.command.Event.TheVariants.{Step as
 ghost use Rattle.sixel_terminal.specs.Stretches.{sixels_of};
 ghost use Rattle.sixel_models.specs.Konsole as rule;
 ghost use Rattle.sixel_models.specs.KonsoleSeen.{HasSeenKonsole, begun_in, counting_in, konsole_in, may_count_in};
-ghost use Rattle.sixel_models.specs.KonsoleSeen.{next_begun, next_declares, next_late, next_stuck, said};
+ghost use Rattle.sixel_models.specs.KonsoleSeen.{is_settled, next_begun, next_declares, next_late, next_stuck, said};
+ghost use Rattle.sixel_models.specs.KonsoleSeen.{selects_or_paints};
 
 use crate::reading::{Reading, Reads};
 use crate::words::{defining, is_data_command, is_finish, is_raster, is_return, named_by, nearest};
@@ -45,14 +46,16 @@ pub struct Konsole {
 }
 
 /// Whether the event goes to the left margin or ends the string.
-fn moves_or_ends(event: &Event) -> bool
+#[inline(always)]
+pub(crate) fn moves_or_ends(event: &Event) -> bool
     ensures { result ≡ rule.moves_or_ends (Some event.now) }
 {
     is_return(event) || is_finish(event)
 }
 
 /// Whether the event after drops a select, a definition or raster attributes.
-fn drops(next: Option<&Event>) -> bool
+#[inline(always)]
+pub(crate) fn drops(next: Option<&Event>) -> bool
     ensures { result ≡ rule.moves_or_ends (option_map (λ e. e.now) next.entry) }
 {
     match next {
@@ -84,6 +87,17 @@ fn is_late(event: &Event) -> bool
     ensures { result ≡ rule.is_late event.now }
 {
     named_by(event).is_some() || is_data_command(event)
+}
+
+/// Whether it is a select or a data command.
+#[inline(always)]
+fn selects_or_paints(event: &Event) -> bool
+    ensures { result ≡ selects_or_paints event.now }
+{
+    matches!(
+        event,
+        Event::Step(Command::Select(_) | Command::Sixel(_) | Command::Repeat { .. })
+    )
 }
 
 /// The definition of a register with this colour, if there is one, and its select.
@@ -291,21 +305,72 @@ impl Konsole {
         }
     }
 
+    /// Reads the next event, if the one after it drops or doesn't.
+    #[inline(always)]
+    pub(crate) fn read_before(&mut self, event: &Event, dropped: bool) -> Reads
+        ensures reads { (before : List AnEvent) (next : Option AnEvent) → rule.moves_or_ends next ≡ dropped
+            → HasSeenKonsole self.old before → result ≡ rule.konsole before event.now next }
+        ensures seen { (before : List AnEvent) → HasSeenKonsole self.old before
+            → HasSeenKonsole self.new (before ++ event.now ∷ []) }
+    {
+        let reads = self.reads(event, dropped);
+        self.see(event);
+        reads
+    }
+
+    /// Whether a select or a data command changes nothing of what it stores.
+    #[inline(always)]
+    fn is_settled(&self) -> bool
+        ensures { result ≡ is_settled self.now }
+    {
+        self.has_late && self.begun && !self.declares && self.waiting.is_none()
+    }
+
     /// Notes one more event.
     #[inline(always)]
-    fn see(&mut self, event: &Event)
+    pub(crate) fn see(&mut self, event: &Event)
         ensures { (before : List AnEvent) → HasSeenKonsole self.old before
             → HasSeenKonsole self.new (before ++ event.now ∷ []) }
     {
+        if !self.stays_after(event) {
+            *self = self.after(event);
+        }
+    }
+
+    /// Whether the event changes nothing of what it stores.
+    #[inline(always)]
+    fn stays_after(&self, event: &Event) -> bool
+        ensures { result ≡ (is_settled self.now && selects_or_paints event.now) }
+    {
+        self.is_settled() && selects_or_paints(event)
+    }
+
+    /// What it notes of one more event.
+    #[inline(always)]
+    fn after(&self, event: &Event) -> Konsole
+        ensures { (before : List AnEvent) → HasSeenKonsole self.now before
+            → HasSeenKonsole result (before ++ event.now ∷ []) }
+    {
         let dropped = moves_or_ends(event);
-        *self = Konsole {
+        Konsole {
             stuck: self.gets_stuck(event),
             has_late: self.gets_late(event),
             begun: self.begins(event),
             declares: self.declares(event),
             counting: self.counting(dropped),
             waiting: self.may_count(event),
-        };
+        }
+    }
+
+    /// Notes one sixel or more.
+    #[inline(always)]
+    fn see_sixels(&mut self)
+        ensures { (before : List AnEvent) (bytes : List ℕ) → 0 < length bytes → HasSeenKonsole self.old before
+            → HasSeenKonsole self.new (before ++ sixels_of bytes) }
+    {
+        if !self.is_settled() {
+            *self = self.after_sixels();
+        }
     }
 
     /// What it notes of one sixel or more.
@@ -366,9 +431,7 @@ impl Reading for Konsole {
 
     #[inline(always)]
     fn read(&mut self, event: &Event, next: Option<&Event>) -> Reads {
-        let reads = self.reads(event, drops(next));
-        self.see(event);
-        reads
+        self.read_before(event, drops(next))
     }
 
     fn waits(&self, event: &Event) -> bool {
@@ -381,7 +444,7 @@ impl Reading for Konsole {
 
     fn note_sixels(&mut self, bytes: &[u8]) {
         if !bytes.is_empty() {
-            *self = self.after_sixels();
+            self.see_sixels();
         }
     }
 }

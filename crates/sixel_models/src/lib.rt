@@ -3,10 +3,12 @@
 
 mod at_once;
 mod begun;
+mod both;
 mod course;
 mod documents;
 mod foot;
 mod konsole;
+mod konsole_at_once;
 pub mod laws;
 mod measuring;
 mod mlterm;
@@ -24,10 +26,12 @@ mod xterm;
 
 pub use at_once::show_at_once;
 pub use begun::{as_foot, as_konsole, as_mlterm, as_xterm};
+pub use both::Both;
 pub use course::Course;
 pub use documents::draw;
 pub use foot::Foot;
 pub use konsole::Konsole;
+pub use konsole_at_once::{AtOnce, as_konsole_at_once, konsole_screen, over_rectangle};
 pub use measuring::Measuring;
 pub use mlterm::{MlTerm, mixes};
 pub use modelled::{Modelled, UnsaidControls};

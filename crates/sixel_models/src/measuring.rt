@@ -1,18 +1,20 @@
 //! Measures the rectangle that konsole fills, while a document is read.
 
-ghost use Rattle.std.specs.Prelude.{◌≡◌, ◌<◌, ◌++◌, ◌∷◌, [], ℕ, IsTrue, List, None, Some, length};
+ghost use Rattle.std.specs.Prelude.{◌≡◌, ◌<◌, ◌++◌, ◌∷◌, [], ℕ, IsTrue, List, None, Option, Some, length};
 ghost use Rattle.std.specs.Prelude.{slice_index};
-ghost use Rattle.std.specs.Option.{option_map, option_to_list};
+ghost use Rattle.std.specs.Option.{option_to_list};
 ghost use Rattle.sixel_grammar.specs.Bytes.{is_data};
+ghost use Rattle.sixel_grammar.specs.declared.command.Command.TheVariants.{Repeat, Select};
 ghost use Rattle.sixel_grammar.specs.declared.command.Event.{Event as AnEvent};
+ghost use Rattle.sixel_grammar.specs.declared.command.Event.TheVariants.{Step};
 ghost use Rattle.sixel_terminal.specs.Stretches.{sixels_of};
-ghost use Rattle.sixel_models.specs.Konsole.{konsole_opening};
+ghost use Rattle.sixel_models.specs.Konsole.{konsole_opening, moves_or_ends};
 ghost use Rattle.sixel_models.specs.KonsoleMeasured.{HasMeasured};
 ghost use Rattle.sixel_models.specs.Measuring.{HasTakenAll, HasTakenOn, MeasuresBefore};
 ghost use Rattle.sixel_models.specs.Modelled.{opening_of};
 ghost use Rattle.sixel_models.specs.Named.{model_of};
 
-use crate::konsole::waits;
+use crate::konsole::{moves_or_ends, waits};
 use crate::modelled::{same, sixel};
 use crate::named::Named;
 use crate::rectangle::KonsoleMeasure;
@@ -37,33 +39,29 @@ impl Measuring {
         }
     }
 
-    /// Measures the event that waits, if there is one. `next` is the one after it, if there is one.
+    /// Measures the event that waits, if there is one. The one after it drops or doesn't.
     #[inline(always)]
-    fn read_last(&mut self, next: Option<&Event>)
+    fn read_last(&mut self, dropped: bool)
         ensures pending { self.new.pending ≡ self.old.pending }
-        ensures measures { (read : List AnEvent) → MeasuresBefore self.old.measure read self.old.pending
-            → HasMeasured self.new.measure (read ++ option_to_list self.old.pending)
-            (option_map (λ e. e.now) next.entry) }
+        ensures measures { (read : List AnEvent) (next : Option AnEvent) → moves_or_ends next ≡ dropped
+            → MeasuresBefore self.old.measure read self.old.pending
+            → HasMeasured self.new.measure (read ++ option_to_list self.old.pending) next }
     {
         match &self.pending {
-            Some(Event::Step(Command::Select(register))) => {
-                let last = Event::Step(Command::Select(*register));
-                self.measure.take(&last, next);
-            }
-            Some(last) => self.measure.take(last, next),
+            Some(last) => self.measure.take_before(last, dropped),
             None => {}
         }
     }
 
     /// The same. None waits then.
     #[inline(never)]
-    fn settle_waiting(&mut self, next: Option<&Event>)
+    fn settle_waiting(&mut self, dropped: bool)
         ensures pending { self.new.pending ≡ None }
-        ensures measures { (read : List AnEvent) → MeasuresBefore self.old.measure read self.old.pending
-            → HasMeasured self.new.measure (read ++ option_to_list self.old.pending)
-            (option_map (λ e. e.now) next.entry) }
+        ensures measures { (read : List AnEvent) (next : Option AnEvent) → moves_or_ends next ≡ dropped
+            → MeasuresBefore self.old.measure read self.old.pending
+            → HasMeasured self.new.measure (read ++ option_to_list self.old.pending) next }
     {
-        self.read_last(next);
+        self.read_last(dropped);
         self.pending = None;
     }
 
@@ -75,8 +73,42 @@ impl Measuring {
             → HasMeasured self.new.measure before (Some next.now) }
     {
         match &self.pending {
-            Some(_) => self.settle_waiting(Some(next)),
+            Some(_) => self.settle_waiting(moves_or_ends(next)),
             None => {}
+        }
+    }
+
+    /// Takes a select, where none waits. It doesn't wait: the rectangle doesn't hang on what follows it.
+    #[inline(always)]
+    fn add_select(&mut self, register: u16)
+        requires { self.old.pending ≡ None }
+        ensures { (before : List AnEvent) → HasMeasured self.old.measure before (Some (Step (Select register)))
+            → HasTakenAll self.new (before ++ Step (Select register) ∷ []) }
+    {
+        self.measure.take_select(register);
+    }
+
+    /// Takes a repeat, where none waits.
+    #[inline(always)]
+    fn add_repeat(&mut self, count: u16, bits: u8)
+        requires { self.old.pending ≡ None }
+        ensures { (before : List AnEvent) → HasMeasured self.old.measure before (Some (Step (Repeat count bits)))
+            → HasTakenAll self.new (before ++ Step (Repeat count bits) ∷ []) }
+    {
+        self.measure.take_repeat(count, bits);
+    }
+
+    /// Takes another event, where none waits.
+    #[inline(always)]
+    fn add_other(&mut self, event: Event)
+        requires { self.old.pending ≡ None }
+        ensures { (before : List AnEvent) → HasMeasured self.old.measure before (Some event)
+            → HasTakenAll self.new (before ++ event ∷ []) }
+    {
+        if waits(&event) {
+            self.pending = Some(event);
+        } else {
+            self.measure.take_alone(&event);
         }
     }
 
@@ -87,10 +119,10 @@ impl Measuring {
         ensures { (before : List AnEvent) → HasMeasured self.old.measure before (Some event)
             → HasTakenAll self.new (before ++ event ∷ []) }
     {
-        if waits(&event) {
-            self.pending = Some(event);
-        } else {
-            self.measure.take_alone(&event);
+        match event {
+            Event::Step(Command::Select(register)) => self.add_select(register),
+            Event::Step(Command::Repeat { count, bits }) => self.add_repeat(count, bits),
+            _ => self.add_other(event),
         }
     }
 
@@ -122,7 +154,7 @@ impl Measuring {
     pub fn finish(mut self) -> Option<Command>
         ensures { (events : List AnEvent) → HasTakenAll self events → opening_of result ≡ konsole_opening events }
     {
-        self.settle_waiting(None);
+        self.settle_waiting(false);
         self.measure.opening()
     }
 }

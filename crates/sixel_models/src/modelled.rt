@@ -5,7 +5,7 @@ ghost use Rattle.std.specs.Prelude.{Some, length, slice_index, take};
 ghost use Rattle.sixel_grammar.specs.Bytes.{is_data};
 ghost use Rattle.sixel_grammar.specs.Document.{most_bytes};
 ghost use Rattle.sixel_grammar.specs.Stretches.{sixels_from};
-ghost use Rattle.sixel_grammar.specs.declared.command.Command.TheVariants.{Sixel};
+ghost use Rattle.sixel_grammar.specs.declared.command.Command.TheVariants.{Select, Sixel};
 ghost use Rattle.sixel_grammar.specs.declared.command.Event.{Event as AnEvent};
 ghost use Rattle.sixel_grammar.specs.declared.command.Event.TheVariants.{Step};
 ghost use Rattle.sixel_grammar.specs.declared.command.Placed.{Placed as Place};
@@ -131,6 +131,23 @@ impl<R: Reading> Modelled<R> {
         self.progress.read_one(self.place, is_unsaid, reads);
     }
 
+    /// The same, if this select waits. Most that wait are selects.
+    #[inline(never)]
+    fn settle_select(&mut self, register: u16, next: &Event)
+        requires { self.old.waiting.pending ≡ Some (Step (Select register)) }
+        ensures terminal { self.new.progress.drawing.terminal ≡ self.old.progress.drawing.terminal }
+        ensures pending { self.new.waiting.pending ≡ None }
+        ensures followed { (opening : List AnEvent) (before : List Place) (place : ℕ)
+            → HasFollowed R.model R.has_seen self.old opening before
+            → HasFollowed R.model R.has_seen (with_waiting self.new place next.now) opening
+            (before ++ placed_at place next.now ∷ []) }
+    {
+        let select = Event::Step(Command::Select(register));
+        let reads = self.waiting.reading.read(&select, Some(next));
+        self.waiting.pending = None;
+        self.progress.read(self.place, false, reads);
+    }
+
     /// The same, and fast if none waits.
     #[inline(always)]
     fn settle(&mut self, next: &Event)
@@ -142,6 +159,10 @@ impl<R: Reading> Modelled<R> {
             (before ++ placed_at place next.now ∷ []) }
     {
         match &self.waiting.pending {
+            Some(Event::Step(Command::Select(register))) => {
+                let register = *register;
+                self.settle_select(register, next);
+            }
             Some(_) => self.settle_waiting(next),
             None => {}
         }

@@ -5,7 +5,7 @@ ghost use Rattle.std.specs.Prelude.{length, min};
 ghost use Rattle.std.specs.Prelude.{slice_index};
 ghost use Rattle.std.specs.Option.{option_map, option_to_list};
 ghost use Rattle.sixel_grammar.specs.Bytes.{is_data};
-ghost use Rattle.sixel_grammar.specs.declared.command.Command.TheVariants.{Sixel};
+ghost use Rattle.sixel_grammar.specs.declared.command.Command.TheVariants.{Repeat, Select, Sixel};
 ghost use Rattle.sixel_grammar.specs.declared.command.Event.{Event as AnEvent};
 ghost use Rattle.sixel_grammar.specs.declared.command.Event.TheVariants.{Step as AStep};
 ghost use Rattle.sixel_terminal.specs.Stretches.{sixels_of};
@@ -15,7 +15,7 @@ ghost use Rattle.sixel_models.specs.KonsoleMeasured.{rectangle_in};
 ghost use Rattle.sixel_models.specs.Places.{most};
 ghost use Rattle.sixel_models.specs.Readings.{drawn_by};
 
-use crate::konsole::{Konsole, Stated};
+use crate::konsole::{Konsole, Stated, drops};
 use crate::place::Place;
 use crate::reading::{Reading, Reads};
 use crate::words::is_data_command;
@@ -145,7 +145,16 @@ impl KonsoleMeasure {
         ensures { (before : List AnEvent) → HasMeasured self.old before (Some event.now)
             → HasMeasured self.new (before ++ event.now ∷ []) (option_map (λ e. e.now) next.entry) }
     {
-        let reads = self.reading.read(event, next);
+        self.take_before(event, drops(next));
+    }
+
+    /// The same, if the event after it drops or doesn't.
+    #[inline(always)]
+    pub(crate) fn take_before(&mut self, event: &Event, dropped: bool)
+        ensures { (before : List AnEvent) (next : Option AnEvent) → rule.moves_or_ends next ≡ dropped
+            → HasMeasured self.old before (Some event.now) → HasMeasured self.new (before ++ event.now ∷ []) next }
+    {
+        let reads = self.reading.read_before(event, dropped);
         self.reach = self.reach.with_drawn(reads);
     }
 
@@ -159,6 +168,45 @@ impl KonsoleMeasure {
     {
         let reads = self.reading.read(event, None);
         self.reach = self.reach.with_drawn(reads);
+    }
+
+    /// Measures a select. Whether it is drawn or dropped, nothing reaches further.
+    #[inline(always)]
+    pub(crate) fn take_select(&mut self, register: u16)
+        ensures { (before : List AnEvent) (next : Option AnEvent)
+            → HasMeasured self.old before (Some (AStep (Select register)))
+            → HasMeasured self.new (before ++ AStep (Select register) ∷ []) next }
+    {
+        self.reading.see(&Event::Step(Command::Select(register)));
+    }
+
+    /// Measures a repeat, whatever follows.
+    #[inline(always)]
+    pub(crate) fn take_repeat(&mut self, count: u16, bits: u8)
+        ensures { (before : List AnEvent) (next : Option AnEvent)
+            → HasMeasured self.old before (Some (AStep (Repeat count bits)))
+            → HasMeasured self.new (before ++ AStep (Repeat count bits) ∷ []) next }
+    {
+        let drawn = Command::Repeat {
+            count: count.max(1),
+            bits,
+        };
+        self.reach = self.reach_with(drawn);
+        self.reading
+            .see(&Event::Step(Command::Repeat { count, bits }));
+    }
+
+    /// How far this data command reaches, too.
+    #[inline(always)]
+    fn reach_with(&self, command: Command) -> Reach
+        ensures { (drawing : List AnEvent) → IsReach self.now.reach drawing
+            → IsReach result (drawing ++ drawn_by (rule.konsole_data self.now.reading.stuck command)) }
+    {
+        if self.reading.stuck {
+            self.reach
+        } else {
+            self.reach.with(command)
+        }
     }
 
     /// Measures the sixels of these data bytes, at least one, whatever follows.

@@ -5,7 +5,7 @@ ghost use Rattle.std.specs.Option.{option_map, option_to_list};
 ghost use Rattle.sixel_grammar.specs.declared.command.Event.{Event as AnEvent};
 
 use crate::reading::{Reading, Reads};
-use sixel_grammar::{Command, Event};
+use sixel_grammar::Event;
 
 /// A reading, and the event that it reads next, once the one after it has come.
 #[derive(Debug, Drop)]
@@ -38,10 +38,6 @@ impl<R: Reading> Waiting<R> {
         ensures pending { self.new.pending ≡ None }
     {
         let reads = match &self.pending {
-            Some(Event::Step(Command::Select(register))) => {
-                let last = Event::Step(Command::Select(*register));
-                Some(self.reading.read(&last, next))
-            }
             Some(last) => Some(self.reading.read(last, next)),
             None => None,
         };

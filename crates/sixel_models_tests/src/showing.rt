@@ -2,7 +2,10 @@
 
 use sixel_grammar::{Fault, Reason, follow_document};
 use sixel_model::{Colour, Parts};
-use sixel_models::{Measuring, Named, ShowFault, show_on};
+use sixel_models::{
+    Measuring, Named, ShowFault, as_konsole_at_once, konsole_screen, konsole_terminal, show_on,
+};
+use sixel_terminal::{Drawing, Screen};
 use std::alloc::Global;
 use std::test::Fail;
 
@@ -14,6 +17,15 @@ const BLACK: Parts = Parts::Rgb(0, 0, 0);
 /// Register 1 of xterm and of konsole at the start.
 const BLUE: Parts = Parts::Rgb(20, 20, 80);
 
+/// The colours of the screen, row by row.
+fn parts_of(alloc: Global, screen: &Screen) -> Result<Vec<Parts>, Fail> {
+    let mut parts = Vec::new(alloc);
+    for colour in screen.colours(alloc)? {
+        parts.push(colour.parts())?;
+    }
+    Ok(parts)
+}
+
 /// The colours of the screen, row by row, or why nothing is shown.
 fn shown(alloc: Global, named: Named, text: &[u8]) -> Result<Result<Vec<Parts>, ShowFault>, Fail> {
     let mut measuring = Measuring::new();
@@ -22,13 +34,21 @@ fn shown(alloc: Global, named: Named, text: &[u8]) -> Result<Result<Vec<Parts>, 
     let white = Colour::of_percentages(100, 100, 100);
     match show_on(alloc, named, white, 2, 3, opening, text) {
         Err(fault) => Ok(Err(fault)),
-        Ok(screen) => {
-            let mut parts = Vec::new(alloc);
-            for colour in screen.colours(alloc)? {
-                parts.push(colour.parts())?;
-            }
-            Ok(Ok(parts))
-        }
+        Ok(screen) => Ok(Ok(parts_of(alloc, &screen)?)),
+    }
+}
+
+/// The colours of the screen of konsole, if the text is drawn while it is read. None if it is no document.
+fn shown_at_once(alloc: Global, text: &[u8]) -> Result<Option<Vec<Parts>>, Fail> {
+    let white = Colour::of_percentages(100, 100, 100);
+    let terminal = konsole_terminal(alloc, white, 1, 2, 3)?;
+    let mut both = as_konsole_at_once(Drawing::new(alloc, terminal)?);
+    match follow_document(text, &mut both) {
+        Err(_) => Ok(None),
+        Ok(()) => match konsole_screen(alloc, white, 2, 3, both, text) {
+            Err(_) => Ok(None),
+            Ok(screen) => Ok(Some(parts_of(alloc, &screen)?)),
+        },
     }
 }
 
@@ -86,6 +106,23 @@ fn a_ratio_is_tall_on_konsole(rt: HostRuntime) -> Result<(), Fail> {
     let text = b"\x1bPq\"2;1;1;6#1;2;100;0;0#1@\x1b\\";
     let tall = vec![in alloc; RED, WHITE, RED, WHITE, BLACK, WHITE]?;
     assert_eq!(rt; shown(alloc, Named::Konsole, text)?, Ok(tall));
+    Ok(())
+}
+
+/// The rectangle lies under what was painted, and a document of tall sixel pixels is drawn anew.
+#[test]
+fn konsole_draws_at_once(rt: HostRuntime) -> Result<(), Fail> {
+    let alloc = rt.alloc();
+    let filled = vec![in alloc; RED, BLACK, BLACK, BLACK, BLACK, BLACK]?;
+    assert_eq!(rt;
+        shown_at_once(alloc, b"\x1bPq\"1;1;2;6#1;2;100;0;0#1@\x1b\\")?,
+        Some(filled)
+    );
+    let tall = vec![in alloc; RED, WHITE, RED, WHITE, BLACK, WHITE]?;
+    assert_eq!(rt;
+        shown_at_once(alloc, b"\x1bPq\"2;1;1;6#1;2;100;0;0#1@\x1b\\")?,
+        Some(tall)
+    );
     Ok(())
 }
 

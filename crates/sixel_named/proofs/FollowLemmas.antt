@@ -15,7 +15,7 @@ use Rattle.sixel_asked.specs.Asking.{HasAsked, HasAskedOn}
 use Rattle.sixel_asked.specs.declared.asking.Asking.{Asking}
 use Rattle.sixel_asked.specs.declared.terminals.Terminals.{Terminals}
 use Rattle.sixel_named.specs.Checking.{HaveTakenAll}
-use Rattle.sixel_named.specs.declared.both.Both.{Both}
+use Rattle.sixel_models.specs.declared.both.Both.{Both}
 
 abbrev pub Pair : Type 0
 Pair = Both CheckerValue Asking
@@ -60,7 +60,7 @@ whole_now n old new known follows s =
     let f = followed_both n old new known follows s in
     (n, f.events, seen_now n old new known f s, whole_then f.events f.bytes f.document)
 
--- the checker stopped for want of memory
+-- where the checker stops, it may have to grow
 pub grows_both : {S : Type 0} (n : ℕ) (old new : Pair) (stop : S) (bytes : List ℕ)
     → HaltsSource HasTakenBoth MayStopBoth old new (Stopped stop) bytes → StandsAfter n old.one [] → MayGrowIn n bytes
 grows_both n old new stop bytes halts s =

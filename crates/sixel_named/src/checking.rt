@@ -9,7 +9,6 @@ ghost use Rattle.sixel_named.specs.Answers.{AnswersOn, AnswersOutcomeOn};
 ghost use Rattle.sixel_named.specs.Checking.{HaveTakenAll};
 ghost use Rattle.sixel_named.specs.Laws.{none};
 
-use crate::both::Both;
 use crate::joining::{join, join_outcome};
 use crate::verdict::{NamedOutcome, NamedVerdict};
 use sixel_asked::{Asking, Terminals};
@@ -18,6 +17,7 @@ use sixel_grammar::{InputFault, follow_source};
 use sixel_io::{PIECE, Source};
 use sixel_judge::Checker;
 use sixel_model::Profile;
+use sixel_models::Both;
 use sixel_plane::{BandPlane, Cover, CoverPlane};
 use std::alloc::Global;
 

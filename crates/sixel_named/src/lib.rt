@@ -1,7 +1,6 @@
 //! Checks and surveys for named terminals: the rules of portable pictures, and those that the terminals ask for.
 #![tactic(auto)]
 
-mod both;
 mod checking;
 mod joining;
 pub mod laws;

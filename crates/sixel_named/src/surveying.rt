@@ -6,13 +6,13 @@ ghost use Rattle.sixel_survey.specs.Declaring.{DeclareBoxIn};
 ghost use Rattle.sixel_survey.specs.Reads.{ReadsDocument};
 ghost use Rattle.sixel_named.specs.Surveys.{SurveysOn, size_beside};
 
-use crate::both::Both;
 use crate::checking::are_none;
 use arrayvec::ArrayVec;
 use sixel_asked::{AskedEntries, Tallying, Terminals};
 use sixel_grammar::{InputFault, follow_source};
 use sixel_io::{PIECE, Source};
 use sixel_model::{Profile, RULE_COUNT};
+use sixel_models::Both;
 use sixel_plane::CoverPlane;
 use sixel_survey::{Entry, Survey, Surveying, survey_with};
 use std::alloc::Global;

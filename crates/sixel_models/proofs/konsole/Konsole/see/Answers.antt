@@ -1,9 +1,7 @@
-use Rattle.std.proofs.Common.{ap, ◌∙◌}
-use Rattle.sixel_models.specs.KonsoleSeen.{counting_in}
-use Rattle.sixel_models.proofs.KonsoleLemmas.{seen_push}
+use Rattle.std.proofs.Common.{◌∙◌, sym}
+use Rattle.sixel_models.proofs.KonsoleLemmas.{stays_push}
 use Rattle.sixel_models.proofs.konsole.Konsole.see.Goals as goal
 
-pub returns : goal.returns
-returns c = λ before s.
-    seen_push _ c.args.event.now s c.gets_stuck.ensures c.gets_late.ensures c.begins.ensures c.declares.ensures
-    (c.counting.ensures ∙ ap (counting_in c.args.self.now) c.moves_or_ends-dropped.ensures) c.may_count.ensures
+pub returns-else-not-stays_after : goal.returns-else-not-stays_after
+returns-else-not-stays_after c = λ before s.
+    stays_push before c.args.event.now (sym c.stays_after.ensures ∙ c.if-not-stays_after.false) s

@@ -13,5 +13,10 @@ none_waits m read None next is h = subst (λ (es : List Event). HasMeasured m es
 none_waits m read (Some e) next is h = absurd cc
 
 pub returns-in-None-clause-measures : goal.returns-in-None-clause-measures
-returns-in-None-clause-measures c = λ read h.
-    none_waits c.args.self.now.measure read c.args.self.now.pending _ c.in-None.is h
+returns-in-None-clause-measures c = λ read next is h.
+    none_waits c.args.self.now.measure read c.args.self.now.pending next c.in-None.is h
+
+pub returns-in-Some-clause-measures : goal.returns-in-Some-clause-measures
+returns-in-Some-clause-measures c = λ read next is h.
+    subst (λ (o : Option Event). HasMeasured c.take_before.new.self (read ++ option_to_list o) next) (sym c.in-Some.is)
+    (c.take_before.ensures read next is (subst (MeasuresBefore c.args.self.now.measure read) c.in-Some.is h))

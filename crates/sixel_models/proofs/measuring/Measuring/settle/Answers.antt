@@ -21,4 +21,4 @@ returns-in-None-clause-measures c = λ before h. none_waits c.args.self.now befo
 pub returns-in-Some-clause-measures : goal.returns-in-Some-clause-measures
 returns-in-Some-clause-measures c = λ before h.
     subst (λ (es : List Event). HasMeasured c.settle_waiting.new.self.measure es (Some c.args.next.now)) (sym h.are)
-    (c.settle_waiting.ensures.measures h.read h.measures)
+    (c.settle_waiting.ensures.measures h.read (Some c.args.next.now) (sym c.moves_or_ends.ensures) h.measures)

@@ -1,11 +1,5 @@
-use Rattle.std.proofs.Common.{Some}
-use Rattle.sixel_models.specs.Konsole.{konsole_drawing}
-use Rattle.sixel_models.proofs.KonsoleMeasureLemmas.{measured_push}
+use Rattle.std.proofs.Common.{sym}
 use Rattle.sixel_models.proofs.rectangle.KonsoleMeasure.take.Goals as goal
 
 pub returns : goal.returns
-returns c = λ before s.
-    let e = c.args.event.now in
-    let reads = c.read-reads.ensures.reads before s.seen in
-    let drawn = c.with_drawn-self.ensures (konsole_drawing before (Some e)) s.reach in
-    measured_push _ before e _ (c.read-reads.ensures.seen before s.seen) (rw reads at drawn)
+returns c = λ before s. c.take_before.ensures before _ (sym c.drops.ensures) s

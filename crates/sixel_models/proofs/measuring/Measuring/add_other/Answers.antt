@@ -3,7 +3,7 @@ use Rattle.std.specs.Option.{option_to_list}
 use Rattle.std.proofs.lemmas.List.{append-nil}
 use Rattle.sixel_grammar.specs.declared.command.Event.{Event}
 use Rattle.sixel_models.specs.Measuring.{MeasuresBefore}
-use Rattle.sixel_models.proofs.measuring.Measuring.add.Goals as goal
+use Rattle.sixel_models.proofs.measuring.Measuring.add_other.Goals as goal
 
 pub returns-else-waits : goal.returns-else-waits
 returns-else-waits c = λ before h. record {
