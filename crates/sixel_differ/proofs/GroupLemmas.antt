@@ -16,7 +16,7 @@ use Rattle.sixel_differ.specs.Views.{HaveSides, Shows, view_in}
 
 -- ---- one group
 
--- a terminal that isn't unmodelled has a screen, which stands so
+-- a terminal whose model says all has a screen, and its standing is that of the screen
 shown_with : (v : Views) (named : Named) (view : View) (standing : Standing) → view_in v named ≡ view
     → StandsWith v (rank named) view standing → ((place : ℕ) → ¬ (standing ≡ Unmodelled place))
     → (screen : Shown) × Shows v named screen × StandsAfter v (rank named) screen standing

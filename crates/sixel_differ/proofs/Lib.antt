@@ -2,6 +2,7 @@ mod PixelLemmas
 mod ViewLemmas
 pub mod GroupLemmas
 pub mod FaultLemmas
+pub mod DrawingLemmas
 pub mod ShowingLemmas
 pub mod OnceLemmas
 mod SomeLemmas

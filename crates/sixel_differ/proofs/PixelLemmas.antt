@@ -1,9 +1,10 @@
 -- Pixels by their index, and by their column and row.
-use Rattle.std.proofs.Common.{◌≡◌, ◌<◌, ◌+◌, ◌*◌, ◌/◌, ◌%◌, ℕ, List, Option, Some, None, length, map}
+use Rattle.std.proofs.Common.{◌≡◌, ◌<◌, ◌≤◌, ◌+◌, ◌-◌, ◌*◌, ◌/◌, ◌%◌, ◌⊎◌, ℕ, List, Option, Some, None, length, map}
 use Rattle.std.proofs.Common.{refl, sym, ap, subst, ◌∙◌, arith}
 use Rattle.std.proofs.Common.{inl, inr, get_or, suc, zero}
 use Rattle.std.specs.Prelude.{slice_get}
 use Rattle.std.specs.Option.{option_map}
+use Rattle.std.proofs.lemmas.Bool.{cases_lt}
 use Rattle.std.proofs.lemmas.List.{length-map}
 use Rattle.std.proofs.lemmas.Nat.{div-add-mod', mod_below, mul-add-lt, row_below_turned, row_fits}
 use Rattle.std.proofs.lemmas.Option.{none-some, same_Some, slice_get-map, slice_get-get_or, slice_get_within}
@@ -122,3 +123,18 @@ differ_first a b p q at x y are f g c r is =
 
     below : at / a.width < a.height
     below = (row_below_turned at a.width a.height a.width (omega (arith, within)) (omega arith)).1
+
+-- ---- four at once
+
+four_more_at : (p q : List Ink) (at k : ℕ) → AreSameBelow p q at
+    → ((j : ℕ) → j < 4 → slice_get p (at + j) ≡ slice_get q (at + j)) → k < at + 4 → (k < at) ⊎ (at ≤ k)
+    → slice_get p k ≡ slice_get q k
+four_more_at p q at k below four lt (inl earlier) = below k earlier
+four_more_at p q at k below four lt (inr later) =
+    let is : at + (k - at) ≡ k = omega (arith, later) in
+    subst (λ (n : ℕ). slice_get p n ≡ slice_get q n) is (four (k - at) (omega (arith, lt, later)))
+
+-- the pixels below an index are the same, and the four from there on
+pub four_more : (p q : List Ink) (at : ℕ) → AreSameBelow p q at
+    → ((j : ℕ) → j < 4 → slice_get p (at + j) ≡ slice_get q (at + j)) → AreSameBelow p q (at + 4)
+four_more p q at below four = λ k lt. four_more_at p q at k below four lt (cases_lt k at)

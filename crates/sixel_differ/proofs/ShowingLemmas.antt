@@ -1,11 +1,9 @@
 -- The views of a document.
-use Rattle.std.proofs.Common.{◌≡◌, ◌*◌, ◌&&◌, ◌∙◌, ℕ, Err, IfErr, IfOk, List, Ok, Option, ap, length, refl, subst, sym}
+use Rattle.std.proofs.Common.{◌≡◌, ◌*◌, ◌&&◌, ◌∙◌, ℕ, Err, IfErr, IfOk, List, Ok, ap, length, refl, subst, sym}
 use Rattle.std.specs.Prelude.{IsTrue, Result}
-use Rattle.sixel_grammar.specs.declared.command.Command.{Command}
 use Rattle.sixel_grammar.specs.declared.command.Event.{Event}
 use Rattle.sixel_grammar.specs.declared.command.Placed.{Placed}
 use Rattle.sixel_grammar.specs.Document.{Document, events_of}
-use Rattle.sixel_grammar.proofs.UniqueLemmas.{document_once}
 use Rattle.sixel_model.specs.declared.colour.Parts.{Parts}
 use Rattle.sixel_model.specs.Pictures.{is_side}
 use Rattle.sixel_model.proofs.GridLemmas.{length_rows}
@@ -14,9 +12,7 @@ use Rattle.sixel_terminal.specs.Drawing.{screen_on, shown_on}
 use Rattle.sixel_terminal.specs.Screens.{Shown}
 use Rattle.sixel_models.specs.declared.named.Named.{Named}
 use Rattle.sixel_models.specs.declared.named.Named.TheVariants.{XTerm, MlTerm, Foot, Konsole}
-use Rattle.sixel_models.specs.declared.showing.ShowFault.TheVariants.{Unmodelled as Ends}
-use Rattle.sixel_models.specs.Modelled.{EndsAtPlace, opening_of}
-use Rattle.sixel_models.specs.Named.{IsScreenOn, ShowsOn, model_of, terminal_on}
+use Rattle.sixel_models.specs.Named.{IsScreenOn, model_of, terminal_on}
 use Rattle.sixel_mend.specs.declared.mending.Mending.{Mending}
 use Rattle.sixel_mend.specs.Sizes.{IsSize}
 use Rattle.sixel_differ.specs.declared.fault.DifferFault.{DifferFault}
@@ -25,24 +21,6 @@ use Rattle.sixel_differ.specs.declared.view.View.{View}
 use Rattle.sixel_differ.specs.declared.view.Views.{Views}
 use Rattle.sixel_differ.specs.Faults.{IsDifferFault, IsReadingFault}
 use Rattle.sixel_differ.specs.Views.{AreViews, HasSides, HaveSides, IsInBands, IsView, view_in}
-
--- ---- one view
-
-pub screen_shown : (named : Named) (background : Parts) (sides : ℕ × ℕ) (opening : List Event) (bytes : List ℕ)
-    (screen : Shown) (placed : List Placed) → ShowsOn named background sides opening bytes (Ok screen)
-    → Document placed bytes → opening ≡ (model_of named).opening (events_of placed)
-    → IsScreenOn named background sides (events_of placed) screen
-screen_shown named background sides opening bytes screen placed shows doc is =
-    let same : placed ≡ shows.0 = document_once bytes placed shows.0 doc shows.1 in
-    subst (λ (d : List Placed). IsScreenOn named background sides (events_of d) screen) (sym same)
-    (shows.2 (is ∙ ap (λ (d : List Placed). (model_of named).opening (events_of d)) same))
-
-pub end_shown : (named : Named) (background : Parts) (sides : ℕ × ℕ) (opening : List Event) (bytes : List ℕ)
-    (place : ℕ) (placed : List Placed) → ShowsOn named background sides opening bytes (Err (Ends place))
-    → Document placed bytes → EndsAtPlace (model_of named) placed place
-end_shown named background sides opening bytes place placed shows doc =
-    subst (λ (d : List Placed). EndsAtPlace (model_of named) d place)
-    (document_once bytes shows.0 placed shows.1 doc) shows.2
 
 -- ---- the sides of a screen
 
@@ -129,13 +107,6 @@ given_fault bytes width height (Err fault) placed doc size sides is =
     fault_of bytes width height fault placed doc size sides is
 
 -- ---- the views on screens of some sides
-
--- what konsole's model draws first, of any reading of the document
-pub opening_is : (bytes : List ℕ) (placed other : List Placed) (opening : Option Command) → Document placed bytes
-    → Document other bytes → opening_of opening ≡ (model_of Konsole).opening (events_of other)
-    → opening_of opening ≡ (model_of Konsole).opening (events_of placed)
-opening_is bytes placed other opening doc first is =
-    is ∙ ap (λ (d : List Placed). (model_of Konsole).opening (events_of d)) (document_once bytes other placed first doc)
 
 pub each_view : (background : Parts) (sides : ℕ × ℕ) (placed : List Placed) (v : Views)
     → IsView XTerm background sides placed v.xterm → IsView MlTerm background sides placed v.mlterm

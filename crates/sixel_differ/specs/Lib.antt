@@ -1,5 +1,6 @@
 pub mod Pixels
 pub mod Views
+pub mod Drawings
 pub mod Comparisons
 pub mod Faults
 pub mod Laws

@@ -3,6 +3,7 @@
 ghost use Rattle.std.specs.Prelude.{◌≢◌, List, ℕ};
 
 use sixel_grammar::{Fault, Halt};
+use std::alloc::AllocError;
 use std::convert::Infallible;
 
 /// Why nothing is compared. If several of these apply, the first one in this order is reported.
@@ -39,5 +40,16 @@ impl From<Halt<Infallible>> for DifferFault {
 
     fn from(halt: Halt<Infallible>) -> DifferFault {
         DifferFault::Grammar(halt.into())
+    }
+}
+
+impl From<AllocError> for DifferFault {
+    ghost use Rattle.std.specs.Prelude.{◌≡◌};
+    ghost use Rattle.sixel_differ.specs.declared.fault.DifferFault.TheVariants.{OutOfMemory};
+
+    ghost from_gives = { λ fault result. result ≡ OutOfMemory };
+
+    fn from(_: AllocError) -> DifferFault {
+        DifferFault::OutOfMemory
     }
 }

@@ -2,6 +2,7 @@
 #![tactic(auto)]
 
 mod comparison;
+mod drawings;
 mod fault;
 pub mod laws;
 mod pixels;

@@ -1,22 +1,46 @@
 //! The first pixel in which two screens differ.
 
-ghost use Rattle.std.specs.Prelude.{◌≡◌, ◌<◌, ◌*◌, ◌/◌, ◌%◌, ◌^◌, ℕ, length};
+ghost use Rattle.std.specs.Prelude.{◌≡◌, ◌≤◌, ◌<◌, ◌*◌, ◌/◌, ◌%◌, ◌^◌, ℕ, length};
 ghost use Rattle.std.specs.Option.{MatchOption};
 ghost use Rattle.sixel_differ.specs.Pixels.{AreAlike, AreSameBelow, DifferFirstAt, IsFirstUnlike};
 
-use sixel_terminal::{Pixel, Screen};
+use sixel_terminal::{Pixel, Screen, are_four_same};
+
+/// An index below which all pixels are the same in both. From it on, fewer than four are left, or one of the next four
+/// isn't the same.
+fn alike_below(a: &[Pixel], b: &[Pixel]) -> usize
+    requires { length a.now ≡ length b.now }
+    ensures within { result ≤ length a.now }
+    ensures alike { AreSameBelow a.now b.now result }
+{
+    let mut at = 0;
+    while at + 4 <= a.len() && are_four_same(a, b, at) {
+        at += 4;
+    }
+    at
+}
+
+/// The index of the first pixel that isn't the same in both, if there is one. Those below `start` are the same.
+fn first_from(a: &[Pixel], b: &[Pixel], start: usize) -> Option<usize>
+    requires long { length a.now ≡ length b.now }
+    requires within { start ≤ length a.now }
+    requires alike { AreSameBelow a.now b.now start }
+    ensures { MatchOption result (AreSameBelow a.now b.now (length a.now)) (IsFirstUnlike a.now b.now) }
+{
+    for at in start..a.len() {
+        if !a[at].is_same(&b[at]) {
+            return Some(at);
+        }
+    }
+    None
+}
 
 /// The index of the first pixel that isn't the same in both, if there is one.
 fn first_index(a: &[Pixel], b: &[Pixel]) -> Option<usize>
     requires { length a.now ≡ length b.now }
     ensures { MatchOption result (AreSameBelow a.now b.now (length a.now)) (IsFirstUnlike a.now b.now) }
 {
-    for at in 0..a.len() {
-        if !a[at].is_same(&b[at]) {
-            return Some(at);
-        }
-    }
-    None
+    first_from(a, b, alike_below(a, b))
 }
 
 /// The column and the row of the pixel with this index.

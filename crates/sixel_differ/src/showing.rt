@@ -5,9 +5,7 @@ ghost use Rattle.sixel_grammar.specs.declared.command.Placed.{Placed as Place};
 ghost use Rattle.sixel_grammar.specs.Document.{Document, events_of};
 ghost use Rattle.sixel_model.specs.Pictures.{is_side};
 ghost use Rattle.sixel_terminal.specs.Limits.{is_screen_side};
-ghost use Rattle.sixel_models.specs.Modelled.{opening_of};
 ghost use Rattle.sixel_models.specs.declared.named.Named.{Named as ANamed};
-ghost use Rattle.sixel_models.specs.Named.{model_of};
 ghost use Rattle.sixel_mend.specs.declared.mending.Mending.{Mending as AMending};
 ghost use Rattle.sixel_mend.specs.Measuring.{HasMeasured};
 ghost use Rattle.sixel_mend.specs.Mended.{Mends};
@@ -18,12 +16,11 @@ ghost use Rattle.sixel_differ.specs.Faults.{IsDifferFault, IsReadingFault};
 ghost use Rattle.sixel_differ.specs.Views.{AreViews, HaveSides, IsInBands, IsView, view_in};
 
 use crate::comparison::Comparison;
+use crate::drawings::{begin, draw_all, views_of};
 use crate::fault::DifferFault;
-use crate::view::{View, Views};
-use sixel_grammar::{Command, follow_document};
+use crate::view::Views;
 use sixel_mend::{Measurer, MendFault, size_of};
 use sixel_model::{BAND_ROWS, Colour};
-use sixel_models::{Measuring, Named, ShowFault, show_on};
 use std::alloc::Global;
 
 /// The same fault. No size has too many colours.
@@ -66,41 +63,6 @@ fn in_bands(height: u32) -> u32
     height.div_ceil(BAND_ROWS) * BAND_ROWS
 }
 
-/// What konsole's model draws before the first event of a document.
-fn opening_for_konsole(bytes: &[u8]) -> Result<Option<Command>, DifferFault>
-    ensures opening { IfOk result (λ opening. (placed : List Place) × Document placed bytes.now
-        × (opening_of opening ≡ (model_of Named.Konsole).opening (events_of placed))) }
-    ensures refused { IfErr result (IsReadingFault bytes.now) }
-{
-    let mut measuring = Measuring::new();
-    follow_document(bytes, &mut measuring)?;
-    Ok(Named::Konsole.opening(measuring))
-}
-
-/// What a named terminal shows of a document. `opening` is what its model draws before the first event.
-fn view_on(
-    alloc: Global,
-    named: Named,
-    background: Colour,
-    width: u32,
-    height: u32,
-    opening: Option<Command>,
-    bytes: &[u8],
-) -> Result<View, DifferFault>
-    requires { IsTrue (is_screen_side width && is_screen_side height) }
-    ensures view { IfOk result (λ view. (placed : List Place) → Document placed bytes.now
-        → opening_of opening ≡ (model_of named).opening (events_of placed)
-        → IsView named background (width, height) placed view) }
-    ensures refused { IfErr result (IsReadingFault bytes.now) }
-{
-    match show_on(alloc, named, background, width, height, opening, bytes) {
-        Ok(screen) => Ok(View::Screen(screen)),
-        Err(ShowFault::Grammar(fault)) => Err(DifferFault::Grammar(fault)),
-        Err(ShowFault::Unmodelled(place)) => Ok(View::Unmodelled(place)),
-        Err(ShowFault::OutOfMemory) => Err(DifferFault::OutOfMemory),
-    }
-}
-
 /// What each named terminal shows of a document, on screens of these sides.
 fn views_on(
     alloc: Global,
@@ -116,29 +78,15 @@ fn views_on(
         → IsView named background (width, height) placed (view_in views named)) }
     ensures refused { IfErr result (IsReadingFault bytes.now) }
 {
-    let opening = opening_for_konsole(bytes)?;
-    Ok(Views {
-        width,
-        height,
-        xterm: view_on(alloc, Named::XTerm, background, width, height, None, bytes)?,
-        mlterm: view_on(alloc, Named::MlTerm, background, width, height, None, bytes)?,
-        foot: view_on(alloc, Named::Foot, background, width, height, None, bytes)?,
-        konsole: view_on(
-            alloc,
-            Named::Konsole,
-            background,
-            width,
-            height,
-            opening,
-            bytes,
-        )?,
-    })
+    let begun = begin(alloc, background, width, height)?;
+    let drawn = draw_all(bytes, begun)?;
+    views_of(alloc, background, width, height, drawn, bytes)
 }
 
 /// What each named terminal shows of a document that this measurer has read. Each screen has the size of the mended
 /// picture, with the height rounded up to whole bands, and the background before; the picture begins at its top left.
 ///
-/// The string is read once more for konsole's rectangle, and once for each terminal.
+/// The string is read once more, and again for konsole if its sixel pixels are higher than one pixel.
 pub fn views_measured(
     alloc: Global,
     background: Colour,

@@ -1,0 +1,206 @@
+//! The named terminals draw a document in one reading.
+
+ghost use Rattle.std.specs.Prelude.{◌≡◌, ◌&&◌, [], ℕ, IfErr, IfOk, IsTrue, List};
+ghost use Rattle.sixel_grammar.specs.declared.command.Placed.{Placed as Place};
+ghost use Rattle.sixel_grammar.specs.Document.{Document};
+ghost use Rattle.sixel_model.specs.declared.colour.Parts.{Parts as SomeParts};
+ghost use Rattle.sixel_terminal.specs.Limits.{is_screen_side};
+ghost use Rattle.sixel_models.specs.declared.named.Named.{Named as ANamed};
+ghost use Rattle.sixel_models.specs.FootSeen.{HasSeenFoot};
+ghost use Rattle.sixel_models.specs.MlTermSeen.{HasSeenMlTerm};
+ghost use Rattle.sixel_models.specs.Named.{DrawsNothingFirst, model_of};
+ghost use Rattle.sixel_models.specs.XTermSeen.{HasSeenXTerm};
+ghost use Rattle.sixel_differ.specs.Drawings.{HasDrawn, HasDrawnKonsole, HaveDrawn};
+ghost use Rattle.sixel_differ.specs.Faults.{IsReadingFault};
+ghost use Rattle.sixel_differ.specs.Views.{IsView, view_in};
+
+use crate::fault::DifferFault;
+use crate::view::{View, Views};
+use sixel_grammar::follow_document;
+use sixel_model::Colour;
+use sixel_models::{
+    Both, Foot, Konsole, Measuring, MlTerm, Modelled, Named, Reading, ShowFault, XTerm, as_foot,
+    as_konsole_at_once, as_mlterm, as_xterm, foot_terminal, konsole_screen, konsole_terminal,
+    mlterm_terminal, xterm_terminal,
+};
+use sixel_terminal::Drawing;
+use std::alloc::{AllocError, Global};
+
+/// A drawing by konsole's model, without its rectangle, and a measure of that.
+type OnKonsole = Both<Modelled<Konsole>, Measuring>;
+
+/// A drawing by the model of each terminal.
+pub(crate) type Drawings = Both<
+    Both<Modelled<XTerm>, Modelled<MlTerm>>,
+    Both<Modelled<Foot>, OnKonsole>,
+>;
+
+/// The drawing of xterm, before any event.
+fn begin_xterm(
+    alloc: Global,
+    background: Colour,
+    width: u32,
+    height: u32,
+) -> Result<Modelled<XTerm>, AllocError>
+    requires { IsTrue (is_screen_side width && is_screen_side height) }
+    ensures { IfOk result (λ modelled.
+        HasDrawn Named.XTerm HasSeenXTerm background (width, height) modelled []) }
+{
+    let terminal = xterm_terminal(alloc, background, width, height)?;
+    Ok(as_xterm(Drawing::new(alloc, terminal)?))
+}
+
+/// The drawing of mlterm, before any event.
+fn begin_mlterm(
+    alloc: Global,
+    background: Colour,
+    width: u32,
+    height: u32,
+) -> Result<Modelled<MlTerm>, AllocError>
+    requires { IsTrue (is_screen_side width && is_screen_side height) }
+    ensures { IfOk result (λ modelled.
+        HasDrawn Named.MlTerm HasSeenMlTerm background (width, height) modelled []) }
+{
+    let terminal = mlterm_terminal(alloc, background, width, height)?;
+    Ok(as_mlterm(Drawing::new(alloc, terminal)?))
+}
+
+/// The drawing of foot, before any event.
+fn begin_foot(
+    alloc: Global,
+    background: Colour,
+    width: u32,
+    height: u32,
+) -> Result<Modelled<Foot>, AllocError>
+    requires { IsTrue (is_screen_side width && is_screen_side height) }
+    ensures { IfOk result (λ modelled.
+        HasDrawn Named.Foot HasSeenFoot background (width, height) modelled []) }
+{
+    let terminal = foot_terminal(alloc, background, width, height)?;
+    as_foot(alloc, Drawing::new(alloc, terminal)?)
+}
+
+/// The drawing of konsole, before any event.
+fn begin_konsole(
+    alloc: Global,
+    background: Colour,
+    width: u32,
+    height: u32,
+) -> Result<OnKonsole, AllocError>
+    requires { IsTrue (is_screen_side width && is_screen_side height) }
+    ensures { IfOk result (λ drawing. HasDrawnKonsole background (width, height) drawing []) }
+{
+    let terminal = konsole_terminal(alloc, background, 1, width, height)?;
+    Ok(as_konsole_at_once(Drawing::new(alloc, terminal)?))
+}
+
+/// The drawings on screens of these sides, before any event.
+pub(crate) fn begin(
+    alloc: Global,
+    background: Colour,
+    width: u32,
+    height: u32,
+) -> Result<Drawings, AllocError>
+    requires { IsTrue (is_screen_side width && is_screen_side height) }
+    ensures { IfOk result (λ drawings. HaveDrawn background (width, height) drawings []) }
+{
+    let xterm = begin_xterm(alloc, background, width, height)?;
+    let mlterm = begin_mlterm(alloc, background, width, height)?;
+    let foot = begin_foot(alloc, background, width, height)?;
+    let konsole = begin_konsole(alloc, background, width, height)?;
+    Ok(Both {
+        one: Both {
+            one: xterm,
+            other: mlterm,
+        },
+        other: Both {
+            one: foot,
+            other: konsole,
+        },
+    })
+}
+
+/// The drawings after the document of these bytes. `drawings` have taken no event.
+pub(crate) fn draw_all(bytes: &[u8], mut drawings: Drawings) -> Result<Drawings, DifferFault>
+    ensures drawn { IfOk result (λ drawn. (placed : List Place) × Document placed bytes.now
+        × ((background : SomeParts) (sides : ℕ × ℕ)
+        → HaveDrawn background sides drawings [] → HaveDrawn background sides drawn placed)) }
+    ensures refused { IfErr result (IsReadingFault bytes.now) }
+{
+    follow_document(bytes, &mut drawings)?;
+    Ok(drawings)
+}
+
+/// What is shown by the drawing of a terminal whose model draws nothing before the first event.
+fn view_of<R: Reading + Drop>(modelled: Modelled<R>) -> View
+    ensures { (named : ANamed) (background : SomeParts) (sides : ℕ × ℕ) (placed : List Place)
+        → DrawsNothingFirst named → R.model ≡ model_of named
+        → HasDrawn named R.has_seen background sides modelled placed
+        → IsView named background sides placed result }
+{
+    match modelled.finish() {
+        Ok(drawing) => View::Screen(drawing.finish()),
+        Err(place) => View::Unmodelled(place),
+    }
+}
+
+/// What konsole shows of the document of these bytes, which `drawing` has followed.
+fn konsole_view(
+    alloc: Global,
+    background: Colour,
+    width: u32,
+    height: u32,
+    drawing: OnKonsole,
+    bytes: &[u8],
+) -> Result<View, DifferFault>
+    requires sides { IsTrue (is_screen_side width && is_screen_side height) }
+    requires drawn { (placed : List Place) × Document placed bytes.now
+        × HasDrawnKonsole background (width, height) drawing placed }
+    ensures view { IfOk result (λ view. (placed : List Place) → Document placed bytes.now
+        → IsView Named.Konsole background (width, height) placed view) }
+    ensures refused { IfErr result (IsReadingFault bytes.now) }
+{
+    match konsole_screen(alloc, background, width, height, drawing, bytes) {
+        Ok(screen) => Ok(View::Screen(screen)),
+        Err(ShowFault::Grammar(_)) => unreachable!(),
+        Err(ShowFault::Unmodelled(place)) => Ok(View::Unmodelled(place)),
+        Err(ShowFault::OutOfMemory) => Err(DifferFault::OutOfMemory),
+    }
+}
+
+/// What is shown by the drawings, which have followed the document of these bytes, on screens of these sides.
+pub(crate) fn views_of(
+    alloc: Global,
+    background: Colour,
+    width: u32,
+    height: u32,
+    drawings: Drawings,
+    bytes: &[u8],
+) -> Result<Views, DifferFault>
+    requires sides { IsTrue (is_screen_side width && is_screen_side height) }
+    requires drawn { (placed : List Place) × Document placed bytes.now
+        × HaveDrawn background (width, height) drawings placed }
+    ensures width { IfOk result (λ views. views.width ≡ width) }
+    ensures height { IfOk result (λ views. views.height ≡ height) }
+    ensures views { IfOk result (λ views. (named : ANamed) (placed : List Place) → Document placed bytes.now
+        → IsView named background (width, height) placed (view_in views named)) }
+    ensures refused { IfErr result (IsReadingFault bytes.now) }
+{
+    let Both { one, other } = drawings;
+    let Both {
+        one: xterm,
+        other: mlterm,
+    } = one;
+    let Both {
+        one: foot,
+        other: konsole,
+    } = other;
+    Ok(Views {
+        width,
+        height,
+        xterm: view_of(xterm),
+        mlterm: view_of(mlterm),
+        foot: view_of(foot),
+        konsole: konsole_view(alloc, background, width, height, konsole, bytes)?,
+    })
+}
