@@ -16,7 +16,6 @@ pub mod WatchLemmas
 pub mod StageLemmas
 pub mod BoxLemmas
 pub mod ShowOnLemmas
-pub mod MeasuresLemmas
 pub mod ComparingLemmas
 pub mod DifferLemmas
 pub mod SheetLemmas

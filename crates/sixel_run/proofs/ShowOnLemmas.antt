@@ -25,7 +25,7 @@ use Rattle.sixel_models.specs.declared.named.Named.TheVariants.{XTerm, MlTerm, F
 use Rattle.sixel_models.specs.declared.showing.ShowFault.{ShowFault}
 use Rattle.sixel_models.specs.declared.showing.ShowFault.TheVariants as show
 use Rattle.sixel_models.specs.Modelled.{EndsAtPlace, HasPlace}
-use Rattle.sixel_models.specs.Named.{GivesScreen, IsScreenOn, ShowsOn, model_of, terminal_on}
+use Rattle.sixel_models.specs.Named.{GivesScreen, IsScreenOn, ShowsDocument, ShowsOn, model_of, terminal_on}
 use Rattle.sixel_models.specs.Readings.{EndsAt, IsSaid, Model}
 use Rattle.sixel_models.proofs.NamedLemmas.{end_once, said_does_not_end, said_or_ends, screen_once, shows_or_ends}
 use Rattle.sixel_run.specs.declared.fault.RunFault.{RunFault}
@@ -300,6 +300,19 @@ pub fault_in : (named : Named) (background : Parts) (area : Area) (bytes : List 
 fault_in named background area bytes sides opening (show.Grammar f) g = g
 fault_in named background area bytes sides opening (show.Unmodelled place) g = g
 fault_in named background area bytes sides opening show.OutOfMemory g = tt
+
+-- what is shown of bytes that were followed, on a screen of these sides
+pub document_in : (named : Named) (background : Parts) (width height : ℕ) (bytes : List ℕ) (screen : Shown)
+    → ShowsDocument named background (width, height) bytes (Ok screen)
+    → ShowsIn named background (area.Sides width height) bytes (Ok screen)
+document_in named background width height bytes screen g = (g.0, g.1, ((width, height), refl, g.2))
+
+pub document_fault : (named : Named) (background : Parts) (width height : ℕ) (bytes : List ℕ) (fault : ShowFault)
+    → ShowsDocument named background (width, height) bytes (Err fault)
+    → ShowsIn named background (area.Sides width height) bytes (Err (of_show fault))
+document_fault named background width height bytes (show.Grammar f) g = absurd g
+document_fault named background width height bytes (show.Unmodelled place) g = g
+document_fault named background width height bytes show.OutOfMemory g = tt
 
 -- it has the sides
 on_sides : (named : Named) (background : Parts) (opening : List Event) (sides : Sides)

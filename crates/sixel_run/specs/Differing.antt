@@ -73,7 +73,7 @@ abbrev pub is_one_group : Comparison → Bool
 is_one_group c =
     is_first c.xterm && (is_like XTerm c.mlterm && (is_like XTerm c.foot && is_like XTerm c.konsole))
 
--- what is said of screens of this width and height
+-- the items of a comparison of screens with this width and height
 abbrev pub differ_items : ℕ → ℕ → Comparison → List Item
 differ_items width height c =
     if is_one_group c then item.Same width height ∷ [] else group_items c ++ end_items c

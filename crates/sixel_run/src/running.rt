@@ -14,7 +14,6 @@ mod encode;
 mod kept;
 mod list;
 mod list_lines;
-mod measures;
 mod mend;
 mod render;
 mod scan;

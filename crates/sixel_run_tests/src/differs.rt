@@ -26,7 +26,7 @@ fn sheet() -> Task
     }
 }
 
-/// Whether this is said of the string, in pieces of one byte and in one piece.
+/// Whether `differ` writes this text for the string, in pieces of one byte and in one piece.
 fn says(alloc: Global, bytes: &[u8], text: &[u8], status: Status) -> bool {
     agrees(alloc, differ(), bytes, 1, text, Ok(status))
         && agrees(alloc, differ(), bytes, 64, text, Ok(status))

@@ -1,0 +1,31 @@
+use Rattle.std.proofs.lemmas.Result.{err_from_is_err_and}
+use Rattle.sixel_models.specs.declared.named.Named.TheVariants.{Konsole}
+use Rattle.sixel_run.specs.declared.task.Area.TheVariants as area
+use Rattle.sixel_run.specs.Conversions.{of_show}
+use Rattle.sixel_run.proofs.ShowOnLemmas.{document_fault, document_in, on_refused, on_unwritten}
+use Rattle.sixel_run.proofs.running.show_on.show_konsole.Goals as goal
+
+pub returns-in_err-screen-clause-wrote : goal.returns-in_err-screen-clause-wrote
+returns-in_err-screen-clause-wrote g c =
+    let exit = c.from_residual-in_err-screen in
+    let failed = err_from_is_err_and exit.result exit.ensures.1 in
+    let sides = area.Sides c.args.width c.args.height in
+    rw (failed.1, failed.2)
+    (on_refused Konsole c.args.background sides (g.S.Source.state c.args.input.now).remaining
+    c.deref.result.now (of_show c.in_err-screen.field-0.0) _
+    (rw c.deref.ensures.value (rw c.in-Some.is at c.in_ok-bytes.ensures.read))
+    (document_fault Konsole c.args.background c.args.width c.args.height c.deref.result.now c.in_err-screen.field-0.0
+    c.in_err-screen.ensures))
+
+pub returns-in_err-write_ppm_screen-clause-wrote : goal.returns-in_err-write_ppm_screen-clause-wrote
+returns-in_err-write_ppm_screen-clause-wrote g c =
+    let exit = c.from_residual-in_err-write_ppm_screen in
+    let failed = err_from_is_err_and exit.result exit.ensures.1 in
+    let sides = area.Sides c.args.width c.args.height in
+    rw (failed.1, failed.2)
+    (on_unwritten (Unit {0}) Konsole c.args.background sides (g.S.Source.state c.args.input.now).remaining
+    c.deref.result.now c.in_ok-screen.screen c.in_err-write_ppm_screen.field-0.0 (g.K.Sink.state c.args.output.now)
+    (g.K.Sink.state c.write_ppm_screen.new.out)
+    (rw c.deref.ensures.value (rw c.in-Some.is at c.in_ok-bytes.ensures.read))
+    (document_in Konsole c.args.background c.args.width c.args.height c.deref.result.now c.in_ok-screen.screen
+    c.in_ok-screen.ensures) c.in_err-write_ppm_screen.ensures)
