@@ -1,5 +1,5 @@
 -- Raster attributes before all events that give the terminal's own ratio.
-use Rattle.std.proofs.Common.{◌≡◌, ◌==◌, ℕ, zero, suc, ◌-◌, ◌/◌, ◌%◌, ◌<◌, Bool, true, false, ◌&&◌}
+use Rattle.std.proofs.Common.{◌≡◌, ◌==◌, ℕ, zero, suc, ◌-◌, ◌*◌, ◌/◌, ◌%◌, ◌<◌, ◌≤◌, Bool, true, false, ◌&&◌, map}
 use Rattle.std.proofs.Common.{cond, Option, Some, None, List, [], ◌∷◌, length, get_or, nat_lt, refl, sym, ap, ◌∙◌}
 use Rattle.std.proofs.Common.{subst, arith}
 use Rattle.std.specs.Prelude.{sum_by, unwrap_or, if◌then◌else◌}
@@ -7,7 +7,10 @@ use Rattle.std.specs.Bool.{then_some}
 use Rattle.std.specs.List.{list_any}
 use Rattle.std.specs.Option.{option_or, option_map, option_map_or}
 use Rattle.std.proofs.lemmas.Bool.{eqb-true, or_parts}
+use Rattle.std.proofs.lemmas.Bool.Decides.{nat_tests}
+use Rattle.std.proofs.lemmas.List.{get_or-map, length-map}
 use Rattle.std.proofs.lemmas.List.Sums.{sum_by-cons}
+use Rattle.std.proofs.lemmas.Nat.{div_below, mod_below}
 use Rattle.sixel_grammar.specs.declared.command.Command.TheVariants.{Raster}
 use Rattle.sixel_grammar.specs.declared.command.Event.{Event}
 use Rattle.sixel_grammar.specs.declared.command.Event.TheVariants.{Step}
@@ -262,6 +265,49 @@ stands_front t before p q colours inks inks' w h binds unclipped s pen long pain
       ∙ ap (λ ink. cond (box_covers t w h x y) (ink_over t.choices.ground ink) ink) (s.inks_are i lt)
       ∙ sym (ink_front t w h before x y binds unclipped);
 }
+
+-- ---- a box that covers the screen
+
+some_factor : (i w h : ℕ) → i < w * h → 0 < w
+some_factor i zero h lt = absurd (omega (arith, lt))
+some_factor i (suc w) h lt = omega arith
+
+covers_all : (t : Display) (w h x y : ℕ) → t.choices.origin_x ≡ 0 → t.choices.origin_y ≡ 0
+    → t.choices.screen_width ≤ w → t.choices.screen_height ≤ h → x < t.choices.screen_width
+    → y < t.choices.screen_height → box_covers t w h x y ≡ true
+covers_all t w h x y left top across down p q = rw (left, top) (grind (arith, nat_tests, across, down, p, q))
+
+covered_front : (t : Display) (before : List Event) (p : Pen) (colours : List Parts) (inks : List Ink) (w h : ℕ)
+    → t.choices.binds_at_showing ≡ true → t.choices.clips ≡ false → t.choices.origin_x ≡ 0 → t.choices.origin_y ≡ 0
+    → t.choices.screen_width ≤ w → t.choices.screen_height ≤ h → StandsAfter t before p colours inks
+    → StandsAfter t (own_raster t w h ∷ before) (record p { declared = Some (record { width = w; height = h }) })
+    colours (map (ink_over t.choices.ground) inks)
+covered_front t before p colours inks w h binds unclipped left top across down s =
+    stands_front t before p _ colours inks (map (ink_over t.choices.ground) inks) w h binds unclipped s refl
+    (length-map inks (ink_over t.choices.ground))
+    (λ i lt.
+    let size = s.pixels in
+    let column : i % t.choices.screen_width < t.choices.screen_width =
+    mod_below i t.choices.screen_width (some_factor i t.choices.screen_width t.choices.screen_height
+    (omega (arith, lt, size))) in
+    let row : i / t.choices.screen_width < t.choices.screen_height =
+    div_below i t.choices.screen_width t.choices.screen_height (some_factor i t.choices.screen_width
+    t.choices.screen_height (omega (arith, lt, size))) (omega (arith, lt, size)) in
+    get_or-map (ink_over t.choices.ground) inks i black black lt
+    ∙ ap (λ v. cond v (ink_over t.choices.ground (get_or inks i black)) (get_or inks i black))
+    (sym (covers_all t w h (i % t.choices.screen_width) (i / t.choices.screen_width) left top across down column row)))
+
+-- the state after raster attributes whose box covers the screen, and the events
+pub stands_covered : (t : Display) (g : Ground) (before : List Event) (p : Pen) (colours : List Parts)
+    (inks : List Ink) (w h : ℕ) → g ≡ t.choices.ground → t.choices.binds_at_showing ≡ true → t.choices.clips ≡ false
+    → t.choices.origin_x ≡ 0 → t.choices.origin_y ≡ 0 → t.choices.screen_width ≤ w → t.choices.screen_height ≤ h
+    → StandsAfter t before p colours inks
+    → StandsAfter t (own_raster t w h ∷ before) (record p { declared = Some (record { width = w; height = h }) })
+    colours (map (ink_over g) inks)
+stands_covered t g before p colours inks w h is binds unclipped left top across down s =
+    subst (λ (g : Ground). StandsAfter t (own_raster t w h ∷ before)
+    (record p { declared = Some (record { width = w; height = h }) }) colours (map (ink_over g) inks)) (sym is)
+    (covered_front t before p colours inks w h binds unclipped left top across down s)
 
 pub drawn_front : (d : Drawn) (before : List Event) (p : Pen) (inks : List Ink) (w h : ℕ) → HasDrawn d before
     → StandsAfter d.terminal (own_raster d.terminal w h ∷ before) p d.colours inks

@@ -1,5 +1,5 @@
 -- The pixels of a screen as numbers of four bytes.
-use Rattle.std.specs.Prelude.{◌≡◌, ◌==◌, ◌<◌, ◌^◌, ◌+◌, ◌-◌, ◌*◌, ◌/◌, ◌%◌, ◌∷◌, [], ℕ, Bool, true, false, List}
+use Rattle.std.specs.Prelude.{◌≡◌, ◌==◌, ◌<◌, ◌≤◌, ◌^◌, ◌+◌, ◌-◌, ◌*◌, ◌/◌, ◌%◌, ◌∷◌, [], ℕ, Bool, true, false, List}
 use Rattle.std.specs.Prelude.{Option, Some, None, IsSome, slice_index_or, if◌then◌else◌}
 use Rattle.sixel_model.specs.declared.colour.Parts.TheVariants.{Rgb, Hls}
 use Rattle.sixel_model.specs.Colours.{IsColour}
@@ -48,6 +48,14 @@ register_in_ink (Bound register) = Some register
 -- this ink of a list is a register's
 abbrev pub IsBoundAt : List Ink → ℕ → Type 0
 IsBoundAt inks at = IsSome (register_in_ink (slice_index_or inks at black))
+
+-- the inks of a list from one index up to another are registers'
+abbrev pub AreBoundIn : List Ink → ℕ → ℕ → Type 0
+AreBoundIn inks from to = (i : ℕ) → from ≤ i → i < to → IsBoundAt inks i
+
+-- the inks of a list from one index up to another are this one
+abbrev pub AreAlikeIn : List Ink → ℕ → ℕ → Ink → Type 0
+AreAlikeIn inks from to ink = (i : ℕ) → from ≤ i → i < to → slice_index_or inks i black ≡ ink
 
 -- the colour is in range, and the register a `u16`
 abbrev pub IsInk : Ink → Type 0

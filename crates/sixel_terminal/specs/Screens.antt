@@ -1,5 +1,5 @@
 -- The screen after a drawing.
-use Rattle.std.specs.Prelude.{◌≡◌, ℕ, List}
+use Rattle.std.specs.Prelude.{◌≡◌, ℕ, List, map}
 use Rattle.std.specs.List.{All}
 use Rattle.sixel_grammar.specs.declared.command.Event.{Event}
 use Rattle.sixel_model.specs.declared.colour.Parts.{Parts}
@@ -25,6 +25,10 @@ pub record IsScreenAfter (t : Display) (screen : Shown) (events : List Event) : 
 abbrev pub colour_in_ink : Ink → Parts
 colour_in_ink (Fixed colour) = colour
 colour_in_ink (Bound register) = Rgb 0 0 0
+
+-- the colours of inks
+abbrev pub colours_in : List Ink → List Parts
+colours_in inks = map colour_in_ink inks
 
 abbrev pub IsFixed : Ink → Type 0
 IsFixed (Fixed colour) = Unit {0}

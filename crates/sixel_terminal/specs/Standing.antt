@@ -9,13 +9,14 @@ use Rattle.sixel_model.specs.declared.colour.Parts.TheVariants.{Rgb}
 use Rattle.sixel_model.specs.Geometry.{band, column}
 use Rattle.sixel_model.specs.Positions.{last_at}
 use Rattle.sixel_model.specs.Rules.{raster_before}
+use Rattle.sixel_terminal.specs.declared.choices.Ground.{Ground}
 use Rattle.sixel_terminal.specs.declared.pixel.Ink.{Ink}
 use Rattle.sixel_terminal.specs.declared.pixel.Ink.TheVariants.{Fixed, Bound}
 use Rattle.sixel_terminal.specs.declared.pen.Pen.{Pen}
 use Rattle.sixel_terminal.specs.Canvases.{black}
 use Rattle.sixel_terminal.specs.Displays.{Display, registers_of}
 use Rattle.sixel_terminal.specs.Drawing.{height_of, map_on, paints_on, selected_on}
-use Rattle.sixel_terminal.specs.Steps.{most, sides_of}
+use Rattle.sixel_terminal.specs.Steps.{ink_over, most, sides_of}
 
 -- the ink for painting in a register
 abbrev pub ink_in_register : Display → List Event → ℕ → Ink
@@ -63,10 +64,14 @@ IsInkBelow n (Bound register) = register < n
 abbrev pub AreInksBelow : ℕ → List Ink → Type 0
 AreInksBelow n inks = EachIndex inks (λ i. IsInkBelow n (slice_index_or inks i black))
 
--- the ink of a pixel with the colour that it shows
-abbrev pub fixed_at : List Parts → List Ink → ℕ → Ink
-fixed_at colours inks at = Fixed (shown_in colours (slice_index_or inks at black))
+-- the colour that an ink shows over a ground
+abbrev pub shown_over : List Parts → Ground → Ink → Parts
+shown_over colours under ink = shown_in colours (ink_over under ink)
 
--- the first n inks have the colours that they show
-abbrev pub fixed_below : List Parts → ℕ → List Ink → List Ink
-fixed_below colours n inks = map (λ ink. Fixed (shown_in colours ink)) (take n inks) ++ drop n inks
+-- the ink of a pixel with the colour that it shows over a ground
+abbrev pub fixed_at : List Parts → Ground → List Ink → ℕ → Ink
+fixed_at colours under inks at = Fixed (shown_over colours under (slice_index_or inks at black))
+
+-- the first n inks have the colours that they show over a ground
+abbrev pub fixed_below : List Parts → Ground → ℕ → List Ink → List Ink
+fixed_below colours under n inks = map (λ ink. Fixed (shown_over colours under ink)) (take n inks) ++ drop n inks

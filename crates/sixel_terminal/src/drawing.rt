@@ -169,6 +169,35 @@ impl Drawing {
             pixels,
         }
     }
+
+    /// The screen after raster attributes, which give the terminal's own ratio and a box of this width and height in
+    /// pixels, and then the events. It is what `fill_under` and then `finish` give, and faster where the box covers the
+    /// screen. The terminal binds at showing and doesn't clip.
+    pub fn finish_over(self, width: u16, height: u16) -> Screen
+        requires binds { self.terminal.choices.binds_at_showing ≡ true }
+        requires unclipped { self.terminal.choices.clips ≡ false }
+        ensures width { result.width ≡ self.terminal.choices.screen_width }
+        ensures height { result.height ≡ self.terminal.choices.screen_height }
+        ensures whole { length result.colours
+            ≡ self.terminal.choices.screen_width * self.terminal.choices.screen_height }
+        ensures shown { (events : List AnEvent) → HasDrawn self events → result.colours
+            ≡ screen_on self.terminal (Step (Raster self.terminal.choices.tall 1 width height) ∷ events) }
+    {
+        let Drawing {
+            terminal,
+            pen: _,
+            colours,
+            mut pixels,
+            has_eight_bit,
+        } = self;
+        terminal.settle_over(width, height, has_eight_bit, &colours, &mut pixels);
+        let sides = terminal.sides();
+        Screen {
+            width: sides.0,
+            height: sides.1,
+            pixels,
+        }
+    }
 }
 
 /// Whether the event is an 8-bit start or finish.

@@ -4,6 +4,7 @@
 mod canvas;
 mod choices;
 mod drawing;
+mod fixing;
 mod following;
 pub mod laws;
 mod pen;

@@ -1,11 +1,11 @@
 //! The pixels of a screen during drawing, in four bytes each.
 
-ghost use Rattle.std.specs.Prelude.{◌≡◌, ◌==◌, ◌≤◌, ◌<◌, ◌↔◌, ◌&&◌, ◌+◌, ◌-◌, ℕ, EachIndex, IfOk, IsSome, IsTrue, length};
-ghost use Rattle.std.specs.Prelude.{map, nat_le, nat_lt, slice_get, slice_index, slice_index_or, if◌then◌else◌};
+ghost use Rattle.std.specs.Prelude.{◌≡◌, ◌==◌, ◌≤◌, ◌<◌, ◌↔◌, ◌&&◌, ◌+◌, ◌-◌, ℕ, EachIndex, IfOk, IsSome, IsTrue, Some};
+ghost use Rattle.std.specs.Prelude.{length, map, nat_le, nat_lt, slice_get, slice_index, slice_index_or, if◌then◌else◌};
 ghost use Rattle.std.specs.Int.{bit_at};
 ghost use Rattle.sixel_model.specs.Geometry.{band_rows};
 ghost use Rattle.sixel_terminal.specs.Canvases.{black};
-ghost use Rattle.sixel_terminal.specs.Pixels.{bytes_of, IsBoundAt, is_rgb_ink, packed, register_in_ink};
+ghost use Rattle.sixel_terminal.specs.Pixels.{AreAlikeIn, AreBoundIn, bytes_of, is_rgb_ink, packed, register_in_ink};
 ghost use Rattle.sixel_terminal.specs.Screens.{colour_in_ink};
 ghost use Rattle.sixel_terminal.specs.declared.pixel.Ink.TheVariants.{Fixed as FixedInk, Bound as BoundInk};
 
@@ -16,6 +16,9 @@ use std::simd::prelude::*;
 
 /// How many pixels are painted at once.
 pub(crate) const LANES: usize = 4;
+
+/// How many pixels are given their colours at once.
+pub(crate) const BLOCK: usize = 16;
 
 /// What a pixel shows.
 #[derive(Clone, Copy, Debug)]
@@ -103,16 +106,63 @@ pub(crate) fn paint_four(
     pixels[at + 3] = Pixel { code: codes[3] };
 }
 
-/// Whether four pixels, from `at` on, have registers' colours at the end. It takes no branch.
+/// The bits of this number that the codes of four pixels, from `at` on, have, too.
 #[inline(always)]
-pub(crate) fn are_four_bound(pixels: &[Pixel], at: usize) -> bool
-    requires { at + LANES ≤ length pixels.now }
-    ensures { IsTrue result → (k : ℕ) → k < LANES → IsBoundAt pixels.now (at + k) }
+fn bits_in_four(pixels: &[Pixel], at: usize, bits: u32) -> u32
+    requires { at + 4 ≤ length pixels.now }
+    ensures fewer { result ≤ bits }
+    ensures bound { LEAST_BOUND ≤ result → AreBoundIn pixels.now at (at + 4) }
 {
-    pixels[at].is_bound()
-        & pixels[at + 1].is_bound()
-        & pixels[at + 2].is_bound()
-        & pixels[at + 3].is_bound()
+    let first = pixels[at].bits_in(bits);
+    let second = pixels[at + 1].bits_in(first);
+    let third = pixels[at + 2].bits_in(second);
+    pixels[at + 3].bits_in(third)
+}
+
+/// Whether all pixels of the block at `at` have registers' colours at the end. It takes no branch.
+#[inline(always)]
+pub(crate) fn are_bound(pixels: &[Pixel], at: usize) -> bool
+    requires { at + BLOCK ≤ length pixels.now }
+    ensures { IsTrue result → AreBoundIn pixels.now at (at + BLOCK) }
+{
+    let first = bits_in_four(pixels, at, u32::MAX);
+    let second = bits_in_four(pixels, at + 4, first);
+    let third = bits_in_four(pixels, at + 8, second);
+    bits_in_four(pixels, at + 12, third) >= LEAST_BOUND
+}
+
+/// Whether four pixels, from `at` on, are the same as this one. It takes no branch.
+#[inline(always)]
+fn are_four_alike(pixels: &[Pixel], at: usize, pixel: &Pixel) -> bool
+    requires { at + 4 ≤ length pixels.now }
+    ensures { IsTrue result → AreAlikeIn pixels.now at (at + 4) pixel.now }
+{
+    pixels[at].is_same(pixel)
+        & pixels[at + 1].is_same(pixel)
+        & pixels[at + 2].is_same(pixel)
+        & pixels[at + 3].is_same(pixel)
+}
+
+/// Whether all pixels of the block at `at` are the same as this one. It takes no branch.
+#[inline(always)]
+pub(crate) fn are_alike(pixels: &[Pixel], at: usize, pixel: &Pixel) -> bool
+    requires { at + BLOCK ≤ length pixels.now }
+    ensures { IsTrue result → AreAlikeIn pixels.now at (at + BLOCK) pixel.now }
+{
+    are_four_alike(pixels, at, pixel)
+        & are_four_alike(pixels, at + 4, pixel)
+        & are_four_alike(pixels, at + 8, pixel)
+        & are_four_alike(pixels, at + 12, pixel)
+}
+
+/// Whether the middle and the last pixel of the block at `at` are the same as the first. Then most likely all are.
+#[inline(always)]
+pub(crate) fn look_alike(pixels: &[Pixel], at: usize) -> bool
+    requires { at + BLOCK ≤ length pixels.now }
+    ensures { IsTrue result → (slice_index_or pixels.now (at + 8) black ≡ slice_index_or pixels.now at black)
+        × (slice_index_or pixels.now (at + 15) black ≡ slice_index_or pixels.now at black) }
+{
+    pixels[at + 8].is_same(&pixels[at]) && pixels[at + 15].is_same(&pixels[at])
 }
 
 /// Whether four pixels, from `at` on, are the same in both lists. It takes no branch.
@@ -179,12 +229,23 @@ impl Pixel {
         Some((self.code % 65_536) as u16)
     }
 
-    /// Whether the pixel shows the colour that a register has at the end.
+    /// The same as an index, for a pixel that shows a register's colour. The compiler adds it to an address.
     #[inline(always)]
-    fn is_bound(&self) -> bool
-        ensures { IsTrue result → IsSome (register_in_ink self.now) }
+    pub(crate) fn index(&self) -> usize
+        requires { IsSome (register_in_ink self.now) }
+        ensures { register_in_ink self.now ≡ Some result }
     {
-        self.code >= LEAST_BOUND
+        self.code as usize - LEAST_BOUND as usize
+    }
+
+    /// The bits of this number that the pixel's code has, too. They are as many as a register's code has only if the
+    /// pixel shows a register's colour.
+    #[inline(always)]
+    fn bits_in(&self, bits: u32) -> u32
+        ensures fewer { result ≤ bits }
+        ensures bound { LEAST_BOUND ≤ result → IsSome (register_in_ink self.now) }
+    {
+        self.code & bits
     }
 
     /// Four bytes: of an RGB colour its percentages of red, green and blue, and 0.

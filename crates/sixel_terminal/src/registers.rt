@@ -3,6 +3,7 @@
 ghost use Rattle.std.specs.Prelude.{◌≡◌, ◌<◌, IfOk, length, slice_index_or, slice_set};
 ghost use Rattle.sixel_model.specs.declared.colour.Parts.TheVariants.{Rgb};
 ghost use Rattle.sixel_terminal.specs.declared.pixel.Ink.TheVariants.{Fixed};
+ghost use Rattle.sixel_terminal.specs.Screens.{IsAllFixed, colours_in};
 
 use crate::pixel::{Pixel, fixed_pixels};
 use sixel_model::Colour;
@@ -45,6 +46,15 @@ impl Registers {
         ensures { result ≡ Fixed (slice_index_or self.now register (Rgb 0 0 0)) }
     {
         self.pixels[register as usize]
+    }
+
+    /// A pixel for each register, which shows its colour.
+    #[inline(always)]
+    pub(crate) fn pixels(&self) -> &[Pixel]
+        ensures colours { colours_in result.now ≡ self.now }
+        ensures fixed { IsAllFixed result.now }
+    {
+        self.pixels.as_slice()
     }
 
     /// Sets the colour of the register.

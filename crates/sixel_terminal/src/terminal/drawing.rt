@@ -17,9 +17,11 @@ ghost use Rattle.sixel_terminal.specs.Stretches.{sixels_of};
 ghost use Rattle.sixel_terminal.specs.Pixels.{IsBoundAt};
 ghost use Rattle.sixel_terminal.specs.Standing.{AreInksBelow, IsPenAfter, StandsAfter, fixed_at, fixed_below, shown_in};
 
+use crate::choices::Ground;
 use crate::drawing::Drawing;
+use crate::fixing::fix;
 use crate::pen::Pen;
-use crate::pixel::{LANES, Pixel, are_four_bound, fixed_pixels};
+use crate::pixel::{Pixel, fixed_pixels};
 use crate::registers::Registers;
 use crate::terminal::{Backdrop, Terminal};
 use sixel_grammar::{Event, Placed};
@@ -50,82 +52,6 @@ fn plain_pixels(alloc: Global, count: usize, colour: Colour) -> Result<Vec<Pixel
     vec![in alloc; Pixel::fixed(colour); count]
 }
 
-/// Gives each pixel the colour that it shows if the registers have these colours. Four are done at once.
-fn fix(pixels: &mut [Pixel], colours: &Registers)
-    requires { AreInksBelow (length colours.now) pixels.old }
-    ensures { pixels.new ≡ map (λ ink. Fixed (shown_in colours.now ink)) pixels.old }
-{
-    let mut done = 0;
-    while pixels.len() - done >= LANES {
-        fix_four(pixels, done, colours);
-        done += LANES;
-    }
-    fix_from(pixels, done, colours);
-}
-
-/// Does so for the pixels from `from` on, where those before are done.
-#[tactic(auto, using(crate::proofs::FixLemmas::all_fixed))]
-fn fix_from(pixels: &mut [Pixel], from: usize, colours: &Registers)
-    requires within { from ≤ length pixels.old }
-    requires below { AreInksBelow (length colours.now) pixels.old }
-    ensures { (initial : List AnInk) → pixels.old ≡ fixed_below colours.now from initial
-        → pixels.new ≡ map (λ ink. Fixed (shown_in colours.now ink)) initial }
-{
-    for index in from..pixels.len() {
-        fix_one(pixels, index, colours);
-    }
-}
-
-/// Does so for four pixels, from `at` on. Nearly always registers give all four their colours.
-#[inline(always)]
-fn fix_four(pixels: &mut [Pixel], at: usize, colours: &Registers)
-    requires room { at + LANES ≤ length pixels.old }
-    requires below { AreInksBelow (length colours.now) pixels.old }
-    ensures below { AreInksBelow (length colours.now) pixels.new }
-    ensures long { length pixels.new ≡ length pixels.old }
-    ensures fixed { (initial : List AnInk) → pixels.old ≡ fixed_below colours.now at initial
-        → pixels.new ≡ fixed_below colours.now (at + LANES) initial }
-{
-    if are_four_bound(pixels, at) {
-        fix_bound(pixels, at, colours);
-        fix_bound(pixels, at + 1, colours);
-        fix_bound(pixels, at + 2, colours);
-        fix_bound(pixels, at + 3, colours);
-    } else {
-        fix_one(pixels, at, colours);
-        fix_one(pixels, at + 1, colours);
-        fix_one(pixels, at + 2, colours);
-        fix_one(pixels, at + 3, colours);
-    }
-}
-
-/// Does so for one pixel to which a register gives its colour.
-#[inline(always)]
-fn fix_bound(pixels: &mut [Pixel], at: usize, colours: &Registers)
-    requires within { at < length pixels.old }
-    requires bound { IsBoundAt pixels.old at }
-    requires below { AreInksBelow (length colours.now) pixels.old }
-    ensures { pixels.new ≡ slice_set pixels.old at (fixed_at colours.now pixels.old at) }
-{
-    match pixels[at].register() {
-        Some(register) => pixels[at] = colours.pixel(register),
-        None => unreachable!(),
-    }
-}
-
-/// Does so for one pixel.
-#[inline(always)]
-fn fix_one(pixels: &mut [Pixel], at: usize, colours: &Registers)
-    requires within { at < length pixels.old }
-    requires below { AreInksBelow (length colours.now) pixels.old }
-    ensures { pixels.new ≡ slice_set pixels.old at (fixed_at colours.now pixels.old at) }
-{
-    match pixels[at].register() {
-        Some(register) => pixels[at] = colours.pixel(register),
-        None => {}
-    }
-}
-
 impl Terminal {
     /// The state before any event.
     pub(crate) fn first_pen(&self) -> Pen
@@ -141,7 +67,7 @@ impl Terminal {
     }
 
     /// Gives each pixel the colour that it has before the drawing.
-    fn lay(&self, pixels: &mut [Pixel])
+    pub(crate) fn lay(&self, pixels: &mut [Pixel])
         requires { length pixels.old ≡ self.now.choices.screen_width * self.now.choices.screen_height }
         ensures { pixels.new ≡ map (λ c. Fixed c) self.now.screen }
     {
@@ -235,7 +161,7 @@ impl Terminal {
         if has_eight_bit && !self.choices.eight_bit {
             self.lay(inks);
         } else if self.choices.binds_at_showing {
-            fix(inks, colours);
+            fix(inks, colours, Ground::Kept);
         }
     }
 

@@ -1,19 +1,27 @@
 //! Raster attributes before all events, drawn after them.
 
-ghost use Rattle.std.specs.Prelude.{◌≡◌, ◌*◌, ◌/◌, ◌%◌, ◌∷◌, EachIndex, List, false, length, slice_index_or, true};
-ghost use Rattle.std.specs.Prelude.{if◌then◌else◌};
+ghost use Rattle.std.specs.Prelude.{◌≡◌, ◌≤◌, ◌*◌, ◌/◌, ◌%◌, ◌∷◌, EachIndex, IsTrue, List, false, length, map};
+ghost use Rattle.std.specs.Prelude.{slice_index_or, true, if◌then◌else◌};
+ghost use Rattle.std.specs.List.{list_any};
 ghost use Rattle.sixel_grammar.specs.declared.command.Command.TheVariants.{Raster};
 ghost use Rattle.sixel_grammar.specs.declared.command.Event.{Event};
 ghost use Rattle.sixel_grammar.specs.declared.command.Event.TheVariants.{Step};
 ghost use Rattle.sixel_model.specs.declared.colour.Parts.{Parts};
+ghost use Rattle.sixel_model.specs.Events.{is_eight_bit};
+ghost use Rattle.sixel_terminal.specs.declared.pen.Pen.{Pen as APen};
 ghost use Rattle.sixel_terminal.specs.Canvases.{black, laid_under};
+ghost use Rattle.sixel_terminal.specs.Displays.{IsGroundBelow, registers_of};
+ghost use Rattle.sixel_terminal.specs.Drawing.{screen_on};
+ghost use Rattle.sixel_terminal.specs.Screens.{IsAllFixed, colour_in_ink};
 ghost use Rattle.sixel_terminal.specs.Standing.{StandsAfter};
 ghost use Rattle.sixel_terminal.specs.Steps.{box_covers, ink_over};
 
 use crate::canvas::{Span, fill_under};
 use crate::choices::Ground;
+use crate::fixing::fix;
 use crate::pen::{Pen, Sides};
 use crate::pixel::Pixel;
+use crate::registers::Registers;
 use crate::terminal::Terminal;
 
 impl Terminal {
@@ -57,5 +65,71 @@ impl Terminal {
     {
         self.fill_ground_under(width, height, inks);
         pen.after_box(Sides { width, height })
+    }
+
+    /// Whether a box of these sides at the origin covers the whole screen.
+    fn is_covered(&self, width: u16, height: u16) -> bool
+        ensures left { IsTrue result → self.now.choices.origin_x ≡ 0 }
+        ensures top { IsTrue result → self.now.choices.origin_y ≡ 0 }
+        ensures across { IsTrue result → self.now.choices.screen_width ≤ width }
+        ensures down { IsTrue result → self.now.choices.screen_height ≤ height }
+    {
+        self.choices.origin_x == 0
+            && self.choices.origin_y == 0
+            && self.choices.screen_width <= width as u32
+            && self.choices.screen_height <= height as u32
+    }
+
+    /// What raster attributes do to the declared box.
+    fn ground(&self) -> Ground
+        ensures is { result ≡ self.now.choices.ground }
+        ensures below { IsGroundBelow (registers_of self.now) result }
+    {
+        self.choices.ground
+    }
+
+    /// Gives each pixel the colour that it shows over this ground after the events. The terminal binds at showing.
+    fn settle_on(&self, under: Ground, has_eight_bit: bool, colours: &Registers, inks: &mut [Pixel])
+        requires under { IsGroundBelow (registers_of self.now) under }
+        requires stands { (pen : APen) × (events : List Event)
+            × StandsAfter self.now events pen colours.now (map (ink_over under) inks.old) }
+        ensures fixed { IsAllFixed inks.new }
+        ensures shown { (pen : APen) (events : List Event)
+            → StandsAfter self.now events pen colours.now (map (ink_over under) inks.old)
+            → has_eight_bit ≡ list_any is_eight_bit events
+            → map colour_in_ink inks.new ≡ screen_on self.now events }
+    {
+        if has_eight_bit && !self.choices.eight_bit {
+            self.lay(inks);
+        } else {
+            fix(inks, colours, under);
+        }
+    }
+
+    /// Gives each pixel the colour that it shows after raster attributes of this box and the terminal's own ratio, and
+    /// the events. Where the box covers the screen, each pixel is written once.
+    pub(crate) fn settle_over(
+        &self,
+        width: u16,
+        height: u16,
+        has_eight_bit: bool,
+        colours: &Registers,
+        inks: &mut [Pixel],
+    )
+        requires binds { self.now.choices.binds_at_showing ≡ true }
+        requires unclipped { self.now.choices.clips ≡ false }
+        requires stands { (pen : APen) × (events : List Event) × StandsAfter self.now events pen colours.now inks.old }
+        ensures fixed { IsAllFixed inks.new }
+        ensures shown { (pen : APen) (events : List Event) → StandsAfter self.now events pen colours.now inks.old
+            → has_eight_bit ≡ list_any is_eight_bit events
+            → map colour_in_ink inks.new
+            ≡ screen_on self.now (Step (Raster self.now.choices.tall 1 width height) ∷ events) }
+    {
+        if self.is_covered(width, height) {
+            self.settle_on(self.ground(), has_eight_bit, colours, inks);
+        } else {
+            self.fill_ground_under(width, height, inks);
+            self.settle(has_eight_bit, colours, inks);
+        }
     }
 }

@@ -25,8 +25,8 @@ returns-then-not-self-clause-shown c = λ pen events s is.
     (unseen_shown c.args.self.now events known
     (unseen_by c.args.self.now events c.args.has_eight_bit is c.if-has_eight_bit.true none))
 
-pub fix-requires : goal.fix-requires
-fix-requires c = λ i lt.
+pub fix-requires-clause-below : goal.fix-requires-clause-below
+fix-requires-clause-below c = λ i lt.
     let known : Runs c.args.self.now = runs_seen _ _ _ _ c.self.view_is c.self.invariant in
     stands_below c.args.self.now c.requires.1 c.requires.0 c.args.colours.now c.args.inks.now i known c.requires.2 lt
 
