@@ -1,6 +1,7 @@
 -- The automaton of konsole, event by event.
 use Rattle.std.proofs.Common.{◌≡◌, ◌==◌, ◌&&◌, ◌||◌, ℕ, Bool, true, false, cond, not, Option, Some, None, List, []}
 use Rattle.std.proofs.Common.{◌∷◌, ◌++◌, refl, sym, ap, ap₂, ◌∙◌, arith, ◌-◌, ◌<◌, length, subst, append-nil}
+use Rattle.std.proofs.Common.{append_assoc}
 use Rattle.std.specs.Prelude.{is_none, is_some, if◌then◌else◌}
 use Rattle.std.specs.List.{list_any}
 use Rattle.std.specs.Option.{option_map, option_or}
@@ -11,12 +12,12 @@ use Rattle.sixel_grammar.specs.declared.command.Event.{Event}
 use Rattle.sixel_grammar.specs.declared.command.Event.TheVariants.{Start, Step, Finish}
 use Rattle.sixel_model.specs.Events.{Attributes, is_data_command, is_return, named_by, raster_of}
 use Rattle.sixel_model.specs.Positions.{any_below, since}
-use Rattle.sixel_model.proofs.PositionLemmas.{since_push}
+use Rattle.sixel_model.proofs.PositionLemmas.{option_or_none, since_push}
 use Rattle.sixel_models.specs.declared.konsole.Konsole.{Konsole}
 use Rattle.sixel_models.specs.declared.konsole.Stated.{Stated}
 use Rattle.sixel_models.specs.Konsole.{any_followed, begins, counting, first_below, first_followed, has_begun}
 use Rattle.sixel_models.specs.Konsole.{has_late, has_unknown_system, is_late, is_stuck, konsole, konsole_data}
-use Rattle.sixel_models.specs.Konsole.{konsole_move}
+use Rattle.sixel_models.specs.Konsole.{StaysLow, konsole_move, konsole_tall}
 use Rattle.sixel_terminal.specs.Stretches.{sixels_of}
 use Rattle.sixel_models.specs.Readings.{ArePlain}
 use Rattle.sixel_models.proofs.PlainLemmas.{first_before, same_over}
@@ -38,6 +39,7 @@ pub seen_none : HasSeenKonsole (record {
   declares = false;
   counting = None;
   waiting = None;
+  settled = false;
 }) []
 unfolding is_stuck since has_late has_begun any_followed any_below counting first_followed first_below
 seen_none = record {
@@ -45,6 +47,7 @@ seen_none = record {
   late_is = refl;
   begun_is = λ next. refl;
   counting_is = λ next. none_either (moves_or_ends next);
+  settled_is = λ is. absurd cc;
 }
 
 -- ---- one more event
@@ -109,8 +112,9 @@ may_count_is _ next s = none_either (moves_or_ends next)
 pub seen_push : {k : Konsole} (l : Konsole) {before : List Event} (e : Event) → HasSeenKonsole k before
     → l.stuck ≡ next_stuck k e → l.has_late ≡ next_late k e → l.begun ≡ next_begun k e
     → l.declares ≡ next_declares k e → option_map said l.counting ≡ counting_in k (moves_or_ends (Some e))
-    → option_map said l.waiting ≡ may_count_in k e → HasSeenKonsole l (before ++ e ∷ [])
-seen_push {k} l {before} e s stuck late begun declares counted waiting = record {
+    → option_map said l.waiting ≡ may_count_in k e → (l.settled ≡ true → is_settled l ≡ true)
+    → HasSeenKonsole l (before ++ e ∷ [])
+seen_push {k} l {before} e s stuck late begun declares counted waiting settled = record {
   stuck_is =
       stuck ∙ ap (λ b. not (is_return e) && (b || has_unknown_system e)) s.stuck_is ∙ sym (stuck_push before e);
   late_is = late ∙ ap (λ b. b || is_late e) s.late_is ∙ sym (late_push before e);
@@ -124,6 +128,7 @@ seen_push {k} l {before} e s stuck late begun declares counted waiting = record 
       ∙ ap₂ (λ (a b : Option Attributes). option_or a b) (s.counting_is (Some e)) (may_count_is e next s)
       ∙ ap₂ (λ (a b : Option Attributes). option_or a (if moves_or_ends next then None else b)) (sym counted)
       (sym waiting);
+  settled_is = settled;
 }
 
 -- ---- what it makes of an event
@@ -177,12 +182,13 @@ pub record IsPast (k l : Konsole) : Type 0 where
   pub declares_is : l.declares ≡ false
   pub counting_is : option_map said l.counting ≡ counting_in k false
   pub waiting_is : l.waiting ≡ None
+  pub settled_is : l.settled ≡ true → is_settled l ≡ true
 
 one_over : {k l : Konsole} {before : List Event} (bits : ℕ) → IsPast k l → HasSeenKonsole k before
     → HasSeenKonsole l (before ++ Step (Sixel bits) ∷ [])
 one_over {k} {l} bits past s =
     seen_push l (Step (Sixel bits)) s (past.stuck_is ∙ sym (or_false k.stuck)) (past.late_is ∙ or_true k.has_late)
-    past.begun_is past.declares_is past.counting_is (ap (option_map said) past.waiting_is)
+    past.begun_is past.declares_is past.counting_is (ap (option_map said) past.waiting_is) past.settled_is
 
 past_itself : {k l : Konsole} → IsPast k l → IsPast l l
 past_itself {k} {l} past = record {
@@ -194,6 +200,7 @@ past_itself {k} {l} past = record {
   declares_is = past.declares_is;
   counting_is = none_more (option_map said l.counting) ∙ rw past.waiting_is refl;
   waiting_is = past.waiting_is;
+  settled_is = past.settled_is;
 }
 
 all_over : {l : Konsole} (before : List Event) (bytes : List ℕ) → IsPast l l → HasSeenKonsole l before
@@ -238,11 +245,12 @@ settled_past k h =
       counting_is = none_more (option_map said k.counting)
           ∙ ap (λ (w : Option Stated). option_or (option_map said k.counting) (option_map said w)) (sym none);
       waiting_is = none;
+      settled_is = λ is. h;
     }
 
-pub settled_over : {k : Konsole} (before : List Event) (bytes : List ℕ) → is_settled k ≡ true → HasSeenKonsole k before
+pub settled_over : {k : Konsole} (before : List Event) (bytes : List ℕ) → k.settled ≡ true → HasSeenKonsole k before
     → HasSeenKonsole k (before ++ sixels_of bytes)
-settled_over {k} before bytes settled s = all_over before bytes (settled_past k settled) s
+settled_over {k} before bytes is s = all_over before bytes (settled_past k (s.settled_is is)) s
 
 settled_push : {k : Konsole} (before : List Event) (e : Event) → is_settled k ≡ true → selects_or_paints e ≡ true
     → HasSeenKonsole k before → HasSeenKonsole k (before ++ e ∷ [])
@@ -250,12 +258,12 @@ settled_push {k} before (Step (Sixel bits)) settled is s = one_over bits (settle
 settled_push {k} before (Step (Repeat count bits)) settled is s =
     let past = settled_past k settled in
     seen_push k (Step (Repeat count bits)) s (past.stuck_is ∙ sym (or_false k.stuck)) (past.late_is ∙ or_true k.has_late)
-    past.begun_is past.declares_is past.counting_is (ap (option_map said) past.waiting_is)
+    past.begun_is past.declares_is past.counting_is (ap (option_map said) past.waiting_is) past.settled_is
 settled_push {k} before (Step (Select register)) settled is s =
     let past = settled_past k settled in
     seen_push k (Step (Select register)) s (past.stuck_is ∙ sym (or_false k.stuck)) (past.late_is ∙ or_true k.has_late)
     (settled_begun k settled ∙ or_true (begun_in k false)) past.declares_is past.counting_is
-    (ap (option_map said) past.waiting_is)
+    (ap (option_map said) past.waiting_is) past.settled_is
 settled_push before (Step (Raster pan pad width height)) settled is s = absurd cc
 settled_push before (Step (Define register system x y z)) settled is s = absurd cc
 settled_push before (Step CarriageReturn) settled is s = absurd cc
@@ -268,10 +276,10 @@ and_both true true h = (refl, refl)
 and_both true false h = absurd cc
 and_both false b h = absurd cc
 
-pub stays_push : {k : Konsole} (before : List Event) (e : Event) → (is_settled k && selects_or_paints e) ≡ true
+pub stays_push : {k : Konsole} (before : List Event) (e : Event) → (k.settled && selects_or_paints e) ≡ true
     → HasSeenKonsole k before → HasSeenKonsole k (before ++ e ∷ [])
 stays_push {k} before e h s =
-    let both = and_both (is_settled k) (selects_or_paints e) h in settled_push before e both.0 both.1 s
+    let both = and_both k.settled (selects_or_paints e) h in settled_push before e (s.settled_is both.0) both.1 s
 
 -- ---- whether all is dropped, and what is drawn
 
@@ -282,3 +290,50 @@ stuck_over before bytes =
 pub konsole_plain : (before : List Event) (n : ℕ) → is_stuck before ≡ false → ArePlain konsole before n
 konsole_plain before n free = λ earlier lt bits next.
     ap (λ (b : Bool). konsole_data b (Sixel bits)) (stuck_over before earlier ∙ free)
+
+-- ---- the height of a sixel pixel, after a select, a definition or a data command
+
+counts_no_more : (w m : Bool) (a : Attributes) → (if w || (m || true) then None else Some a) ≡ None
+counts_no_more true m a = refl
+counts_no_more false true a = refl
+counts_no_more false false a = refl
+
+-- no raster attributes count any more
+late_counts_none : (before : List Event) (e : Event) (next : Option Event) → has_late before ≡ true
+    → may_count before e next ≡ None
+late_counts_none before (Step (Raster pan pad width height)) next late =
+    rw late (counts_no_more (width == 0) (moves_or_ends next)
+    (record { pan = pan; pad = pad; width = width; height = height }))
+late_counts_none before _ next late = refl
+
+counting_stays : (before more : List Event) (c : Option Attributes) → has_late before ≡ true
+    → ((next : Option Event) → counting before next ≡ c) → (next : Option Event) → counting (before ++ more) next ≡ c
+counting_stays before [] c late same next =
+    ap (λ (es : List Event). counting es next) (append-nil before) ∙ same next
+counting_stays before (e ∷ more) c late same next =
+    let pushed : (n : Option Event) → counting (before ++ e ∷ []) n ≡ c = λ n. counting_push before e n
+    ∙ ap₂ (λ (a b : Option Attributes). option_or a b) (same (Some e)) (late_counts_none before e n late)
+    ∙ option_or_none c in
+    ap (λ (es : List Event). counting es next) (sym (append_assoc before (e ∷ []) more))
+    ∙ counting_stays (before ++ e ∷ []) more c (late_push before e ∙ ap (λ b. b || is_late e) late) pushed next
+
+none_waits : (c : Option Attributes) (b : Bool)
+    → option_or c (if b then None else option_map said None) ≡ option_or c (option_map said None)
+none_waits c true = refl
+none_waits c false = refl
+
+pub low_stays : {k : Konsole} {before : List Event} → HasSeenKonsole k before → k.has_late ≡ true
+    → k.waiting ≡ None → konsole_tall (counting_in k false) ≡ 1 → StaysLow before
+low_stays {k} {before} s late waiting low =
+    let c = option_map said k.counting in
+    let same : (next : Option Event) → counting before next ≡ counting_in k false = λ next. s.counting_is next
+    ∙ ap (λ (w : Option Stated). option_or c (if moves_or_ends next then None else option_map said w)) waiting
+    ∙ none_waits c (moves_or_ends next)
+    ∙ ap (λ (w : Option Stated). option_or c (option_map said w)) (sym waiting) in
+    λ later. ap konsole_tall
+    (counting_stays before later (counting_in k false) (sym s.late_is ∙ late) same None) ∙ low
+
+-- so it is with more events
+pub low_more : (events more : List Event) → StaysLow events → StaysLow (events ++ more)
+low_more events more low = λ later.
+    ap (λ (es : List Event). konsole_tall (counting es None)) (append_assoc events more later) ∙ low (more ++ later)

@@ -18,3 +18,4 @@ pub mod ModelledLemmas
 pub mod NamedLemmas
 pub mod ShowingLemmas
 pub mod AtOnceLemmas
+pub mod FirstPieceLemmas

@@ -1,5 +1,5 @@
 -- The automaton of mlterm, event by event.
-use Rattle.std.proofs.Common.{◌≡◌, ◌==◌, ◌<◌, ◌+◌, ◌*◌, ◌^◌, ◌&&◌, ◌||◌, ℕ, Bool, true, false, Option, Some, None}
+use Rattle.std.proofs.Common.{◌≡◌, ◌==◌, ◌<◌, ◌+◌, ◌*◌, ◌^◌, ◌%◌, ◌&&◌, ◌||◌, ℕ, Bool, true, false, Option, Some, None}
 use Rattle.std.proofs.Common.{List, [], ◌∷◌, ◌++◌, length, get_or, set, replicate, min, refl, sym, ap, ap₂, ◌∙◌}
 use Rattle.std.proofs.Common.{arith, max, zero, suc, not, ◌-◌, ◌≤◌, append-nil, append_assoc, take}
 use Rattle.std.specs.Prelude.{IfSome, nat_lt, nat_le, unwrap_or, if◌then◌else◌}
@@ -425,6 +425,55 @@ said_after {m} before earlier bits s said lt =
     (unsaid_eq (Step (Sixel bits)) (buffer_over before earlier less) (column_over 0 before earlier)
     (band_over before earlier) (said_over before earlier ∙ sym (said_selected s) ∙ said)
     ∙ free_unsaid new (c + n) (band before) bits last)
+
+-- ---- a repeat
+
+free_now : (m : MlTerm) (n : ℕ) → 0 < n
+    → n ≤ free_columns (buffer_of m.buffer) m.place.column (rows_to m.place.band)
+    → IsFree (buffer_of m.buffer) (m.place.column + n) (rows_to m.place.band)
+free_now m n some le =
+    let rows = rows_to m.place.band in
+    let parts = free_parts (nat_le rows m.buffer.height && nat_le rows 32767) m.buffer.width m.place.column n some le in
+    let low = low_rows rows m.buffer.height parts.0 in
+    record { across = parts.1; down = low.0; near = parts.2; high = low.1 }
+
+pub repeat_reaches : (m : MlTerm) (count bits : ℕ) → 0 < count
+    → count ≤ free_columns (buffer_of m.buffer) m.place.column (rows_to m.place.band)
+    → reaching (buffer_of m.buffer) (m.place.column + count) ≡ next_buffer m (Step (Repeat count bits))
+repeat_reaches m count bits some le = sym (free_data (free_now m count some le))
+
+columns_are : (count bits : ℕ) → 0 < count → columns_of 0 (Step (Repeat count bits)) ≡ count
+columns_are count bits some = grind (arith, nat_tests)
+
+some_columns : (count : ℕ) → 0 < count → (count == 0) ≡ false
+some_columns count some = grind (arith, nat_tests)
+
+repeat_unsaid : (b : Buffer) (c l count bits : ℕ) (said : Bool) → 0 < count → IsFree b (c + count) (rows_to l)
+    → is_chance said (Step (Repeat count bits)) ≡ false
+    → is_unsaid_data b c l said (Step (Repeat count bits)) ≡ false
+repeat_unsaid b c l count bits said some f chance =
+    let e : Event = Step (Repeat count bits) in
+    ap (λ (x : Bool). x || (is_past_all (end_of c e) (rows_to l) || (is_lost b (end_of c e) (rows_to l) e
+    || is_chance said e))) (some_columns count some)
+    ∙ (ap (λ (n : ℕ). is_past_all (c + n) (rows_to l) || (is_lost b (c + n) (rows_to l) e || is_chance said e))
+    (columns_are count bits some)
+    ∙ (ap (λ (x : Bool). x || (is_lost b (c + count) (rows_to l) e || is_chance said e))
+    (free_past (c + count) (rows_to l) f.near f.high)
+    ∙ (ap (λ (x : Bool). x || is_chance said e) (free_lost e f) ∙ chance)))
+
+pub repeat_drawn : {m : MlTerm} {before : List Event} (count bits : ℕ) → HasSeenMlTerm m before → 0 < count
+    → count ≤ free_columns (buffer_of m.buffer) m.place.column (rows_to m.place.band)
+    → is_chance (said_in m) (Step (Repeat count bits)) ≡ false
+    → mlterm_data before (Repeat count bits) ≡ Draws (Repeat count bits)
+repeat_drawn {m} {before} count bits s some le chance =
+    sym (data_is (Repeat count bits) s (repeat_unsaid (buffer_of m.buffer) m.place.column m.place.band count bits
+    (said_in m) some (free_now m count some le) chance))
+
+pub blank_repeat : (count bits : ℕ) (said : Bool) → bits % 64 ≡ 0 → is_chance said (Step (Repeat count bits)) ≡ false
+blank_repeat count bits said blank = rw blank refl
+
+pub said_repeat : (count bits : ℕ) (said : Bool) → said ≡ true → is_chance said (Step (Repeat count bits)) ≡ false
+said_repeat count bits said is = rw is (paints_said (is_painting (Step (Repeat count bits))))
 
 -- ---- one sixel more
 

@@ -1,9 +1,10 @@
 -- What was followed, with one more event.
 use Rattle.std.proofs.Common.{length, ◌≡◌, ℕ, zero, suc, ◌+◌, ◌-◌, ◌<◌, List, [], ◌∷◌, ◌++◌, Some, None, Option}
-use Rattle.std.proofs.Common.{refl, sym, ap₂, ◌≤◌}
+use Rattle.std.proofs.Common.{false, refl, sym, ap₂, ◌≤◌}
 use Rattle.std.proofs.Common.{ap, subst, ◌∙◌, arith, append_assoc, drop, take, add-one, length-append}
+use Rattle.std.proofs.Math.Seq.{take-length}
 use Rattle.std.specs.Prelude.{slice_get, slice_index}
-use Rattle.std.specs.Option.{option_map, option_to_list}
+use Rattle.std.specs.Option.{is_some, option_map, option_to_list}
 use Rattle.std.proofs.lemmas.List.{append-nil, append_cancel_right, length-map, length-take-le, map-append}
 use Rattle.sixel_grammar.specs.declared.command.Command.TheVariants.{Sixel}
 use Rattle.sixel_grammar.specs.declared.command.Event.{Event}
@@ -19,7 +20,7 @@ use Rattle.sixel_terminal.specs.Stretches.{sixels_of}
 use Rattle.sixel_models.specs.declared.waiting.Waiting.{Waiting}
 use Rattle.sixel_models.specs.Courses.{AreDrawn, IsAt}
 use Rattle.sixel_models.specs.Modelled.{AreUnsaidBy, HasCome, HasFollowed, HasPlace, placed_at, waiting_in}
-use Rattle.sixel_models.specs.Modelled.{with_waiting}
+use Rattle.sixel_models.specs.Modelled.{first_at, with_first, with_waiting}
 use Rattle.sixel_models.specs.Readings.{ArePlain, Model, Rule}
 use Rattle.sixel_models.proofs.PlainLemmas.{first_before}
 use Rattle.sixel_models.proofs.PositionLemmas.{read_there}
@@ -153,7 +154,8 @@ none_waits w placed none =
 pub follows_now : {R : Type 0} (m : Model) (has_seen : R → List Event → Type 0) (w : Modelled R)
     (opening : List Event) (before : List Placed) (place : ℕ) (event : Event) (reading : R) (p : Progress)
     → w.waiting.pending ≡ None
-    → ((es : List Event) (next : Option Event) → m.rule es event next ≡ m.rule es event None)
+    → ((es : List Event) (next : Option Event) → has_seen w.waiting.reading es
+    → m.rule es event next ≡ m.rule es event None)
     → ((es : List Event) → has_seen w.waiting.reading es → has_seen reading (es ++ event ∷ []))
     → ((es : List Event) → has_seen w.waiting.reading es → AreUnsaidBy m w.controls
     → (first : List Event) (placed : List Placed) (n : ℕ) → IsAt m (events_of placed) n event (m.rule es event None)
@@ -180,7 +182,7 @@ follows_now m has_seen w opening before place event reading p none alone reads c
           subst (λ (ps : List Placed). HasCome m opening ps (length (before ++ q ∷ [])) p) (sym all)
           (subst (λ (n : ℕ). HasCome m opening (before ++ q ∷ later) n p) long
           (comes (events_of before) seen h.controls opening (before ++ q ∷ later) (length before)
-          (is_at m before later q _ (sym (alone (events_of before) (slice_get (events_of later) 0))))
+          (is_at m before later q _ (sym (alone (events_of before) (slice_get (events_of later) 0) seen)))
           (has_place before later q) old));
     }
 
@@ -254,7 +256,7 @@ plain_drawn m read place (b ∷ bs) later plain =
           (plain_drawn m (read ++ q ∷ []) (place + 1) bs later known)),
     )
 
-fewer : (rule : Rule) (before : List Event) (n k : ℕ) → k ≤ n → ArePlain rule before n → ArePlain rule before k
+pub fewer : (rule : Rule) (before : List Event) (n k : ℕ) → k ≤ n → ArePlain rule before n → ArePlain rule before k
 fewer rule before n k le plain = λ earlier lt. plain earlier (omega (arith, le, lt))
 
 sixels_events : (place : ℕ) (bytes : List ℕ) → events_of (sixels_from place bytes) ≡ sixels_of bytes
@@ -308,6 +310,37 @@ follows_plain m has_seen w opening before place b bs n reading p none plain enou
           (subst (λ (k : ℕ). HasCome m opening (before ++ q ∷ rest) k p) long
           (draws opening (before ++ q ∷ rest) (length before) drawn old));
     }
+
+-- the same, and none of these bytes is split off
+pub follows_sixels : {R : Type 0} (m : Model) (has_seen : R → List Event → Type 0) (w : Modelled R)
+    (opening : List Event) (before : List Placed) (place : ℕ) (bytes : List ℕ) (reading : R) (p : Progress)
+    → 0 < length bytes → w.waiting.pending ≡ None
+    → ((es : List Event) → has_seen w.waiting.reading es → ArePlain m.rule es (length bytes))
+    → ((es : List Event) → has_seen w.waiting.reading es → has_seen reading (es ++ sixels_of bytes))
+    → ((first : List Event) (placed : List Placed) (k : ℕ) → AreDrawn m (events_of placed) k bytes
+    → HasCome m first placed k w.progress → HasCome m first placed (k + length bytes) p)
+    → HasFollowed m has_seen (with_first w place bytes) opening (before ++ first_at place bytes)
+    → HasFollowed m has_seen (with_read w reading p) opening (before ++ sixels_from place bytes)
+follows_sixels m has_seen w opening before place [] reading p some none plain reads draws h =
+    absurd (omega (arith, some))
+follows_sixels m has_seen w opening before place (b ∷ bs) reading p some none plain reads draws h =
+    follows_plain m has_seen w opening before place b bs (suc (length bs)) reading p none plain (omega arith) reads draws
+    h
+
+pub none_pending : {A : Type 0} (o : Option A) → is_some o ≡ false → o ≡ None
+none_pending None is = refl
+none_pending (Some a) is = absurd cc
+
+-- the first of these sixels, and then the others
+pub first_then : (before : List Placed) (place : ℕ) (bytes : List ℕ) → 0 < length bytes
+    → (before ++ first_at place bytes) ++ sixels_from (place + 1) (take (length bytes - 1) (drop 1 bytes))
+    ≡ before ++ sixels_from place bytes
+first_then before place [] some = absurd (omega (arith, some))
+first_then before place (b ∷ bs) some =
+    let others : suc (length bs) - 1 ≡ length bs = omega arith in
+    ap (λ (n : ℕ). (before ++ first_at place (b ∷ bs)) ++ sixels_from (place + 1) (take n bs)) others
+    ∙ (ap (λ (rest : List ℕ). (before ++ first_at place (b ∷ bs)) ++ sixels_from (place + 1) rest) (take-length bs)
+    ∙ append_assoc before (first_at place (b ∷ bs)) (sixels_from (place + 1) bs))
 
 -- the same of the first k of these bytes
 pub follows_taken : {R : Type 0} (m : Model) (has_seen : R → List Event → Type 0) (w : Modelled R)

@@ -14,11 +14,7 @@ use Rattle.sixel_models.specs.declared.named.Named.{Named}
 use Rattle.sixel_models.specs.declared.showing.ShowFault.{ShowFault}
 use Rattle.sixel_models.specs.declared.showing.ShowFault.TheVariants.{Grammar, Unmodelled, OutOfMemory}
 use Rattle.sixel_models.specs.Modelled.{EndsAtPlace, IsDrawingOf}
-use Rattle.sixel_models.specs.declared.konsole_at_once.AtOnce.TheVariants.{Drawn as OnceDrawn}
-use Rattle.sixel_models.specs.declared.named.Named.TheVariants.{Konsole}
-use Rattle.sixel_models.specs.AtOnce.{GivesAtOnce}
-use Rattle.sixel_models.specs.Konsole.{konsole_opening}
-use Rattle.sixel_models.specs.Named.{DrawsNothingFirst, GivesScreen, IsScreenOn, ShowsDocument, ShowsOn, model_of}
+use Rattle.sixel_models.specs.Named.{DrawsNothingFirst, GivesScreen, ShowsDocument, ShowsOn, model_of}
 use Rattle.sixel_models.specs.Named.{terminal_on}
 use Rattle.sixel_models.specs.Readings.{Model}
 
@@ -91,19 +87,6 @@ gives_drawing named background sides bytes m d screen none model terminal finish
     (shows.0, shows.1, shows.2 (sym (none (events_of shows.0))))
 
 -- ---- a document that was drawn at once
-
-pub once_shown : (background : Parts) (sides : ℕ × ℕ) (placed : List Placed) (d : Drawn) (screen : Shown)
-    → GivesAtOnce background sides placed (Ok (OnceDrawn d)) → Finishes d screen
-    → IsScreenOn Konsole background sides (events_of placed) screen
-once_shown background sides placed d screen given finishes =
-    let opening : List Event = konsole_opening (events_of placed) in
-    record {
-      said = given.1.said;
-      drawing = opening ++ given.1.drawing;
-      is_reading = given.1.is_reading;
-      after = is_after (terminal_on Konsole background opening sides) d screen (opening ++ given.1.drawing) given.0
-          finishes given.1.drawn;
-    }
 
 pub shows_again : (named : Named) (background : Parts) (sides : ℕ × ℕ) (opening : List Event) (bytes : List ℕ)
     (result : Result Shown ShowFault) (placed : List Placed) → Document placed bytes

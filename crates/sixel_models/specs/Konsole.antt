@@ -1,7 +1,7 @@
 -- What konsole 22.12.3 makes of the events of a string. A definition selects its register. A pixel has the colour that
 -- its register has at the end. The picture is one rectangle from the origin, filled with register 0 under all that is
 -- painted.
-use Rattle.std.specs.Prelude.{◌==◌, ◌&&◌, ◌||◌, ℕ, zero, suc, ◌+◌, ◌*◌, ◌/◌, ◌%◌, Bool, true, false, not, is_none}
+use Rattle.std.specs.Prelude.{◌≡◌, ◌==◌, ◌&&◌, ◌||◌, ℕ, zero, suc, ◌+◌, ◌*◌, ◌/◌, ◌%◌, Bool, true, false, not, is_none}
 use Rattle.std.specs.Prelude.{is_some, List, [], ◌∷◌, ◌++◌, Option, Some, None, flat_map, length, max, min, nat_lt}
 use Rattle.std.specs.Prelude.{slice_get, take, if◌then◌else◌}
 use Rattle.std.specs.List.{list_any, range_with_len}
@@ -210,6 +210,10 @@ abbrev pub rectangle_of : Option Attributes → List Event → Command
 rectangle_of counted drawing =
     Raster (konsole_tall counted) 1 (side (konsole_width counted drawing))
     (side (konsole_rows counted drawing * konsole_tall counted))
+
+-- sixel pixels are one pixel high after these events, whatever follows
+abbrev pub StaysLow : List Event → Type 0
+StaysLow events = (later : List Event) → konsole_tall (counting (events ++ later) None) ≡ 1
 
 -- a picture that hasn't begun has no rectangle
 abbrev pub konsole_opening : List Event → List Event

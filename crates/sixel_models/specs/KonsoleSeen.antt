@@ -27,12 +27,17 @@ counting_in k dropped = option_or (option_map said k.counting) (if dropped then 
 abbrev pub begun_in : Konsole → Bool → Bool
 begun_in k dropped = k.begun || (k.declares && not dropped)
 
+-- a select or a data command changes nothing of what it stores
+abbrev pub is_settled : Konsole → Bool
+is_settled k = ((k.has_late && k.begun) && not k.declares) && is_none k.waiting
+
 -- the automaton has seen these events
 pub record HasSeenKonsole (k : Konsole) (before : List Event) : Type 0 where
   pub stuck_is : k.stuck ≡ is_stuck before
   pub late_is : k.has_late ≡ has_late before
   pub begun_is : (next : Option Event) → has_begun before next ≡ begun_in k (moves_or_ends next)
   pub counting_is : (next : Option Event) → counting before next ≡ counting_in k (moves_or_ends next)
+  pub settled_is : k.settled ≡ true → is_settled k ≡ true
 
 -- ---- how an event changes it
 
@@ -63,10 +68,6 @@ selects_or_paints (Step (Select register)) = true
 selects_or_paints (Step (Sixel bits)) = true
 selects_or_paints (Step (Repeat count bits)) = true
 selects_or_paints _ = false
-
--- such an event changes nothing
-abbrev pub is_settled : Konsole → Bool
-is_settled k = ((k.has_late && k.begun) && not k.declares) && is_none k.waiting
 
 -- ---- what it makes of an event, if the event after it moves or ends (true) or doesn't
 

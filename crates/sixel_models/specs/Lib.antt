@@ -17,3 +17,4 @@ pub mod Modelled
 pub mod Measuring
 pub mod Named
 pub mod AtOnce
+pub mod FirstPiece

@@ -1,9 +1,10 @@
 -- A drawing of what a model makes of a document.
-use Rattle.std.specs.Prelude.{◌≡◌, ◌≤◌, ◌<◌, ◌++◌, ℕ, true, List, [], Option, Some, Result, Ok, Err, flat_map, length}
-use Rattle.std.specs.Prelude.{slice_get}
+use Rattle.std.specs.Prelude.{◌≡◌, ◌≤◌, ◌<◌, ◌-◌, ◌++◌, ◌∷◌, ℕ, true, List, [], Option, Some, Result, Ok, Err, flat_map, length}
+use Rattle.std.specs.Prelude.{slice_get, slice_index}
 use Rattle.std.specs.List.{range_with_len}
 use Rattle.std.specs.Option.{option_map, option_to_list}
 use Rattle.sixel_grammar.specs.declared.command.Command.{Command}
+use Rattle.sixel_grammar.specs.declared.command.Command.TheVariants.{Sixel}
 use Rattle.sixel_grammar.specs.declared.command.Event.{Event}
 use Rattle.sixel_grammar.specs.declared.command.Event.TheVariants.{Step}
 use Rattle.sixel_grammar.specs.declared.command.Placed.{Placed}
@@ -88,6 +89,16 @@ waiting_in w = option_to_list (option_map (placed_at w.place) w.waiting.pending)
 -- the same, but this event waits, with this offset
 abbrev pub with_waiting : {R : Type 0} → Modelled R → ℕ → Event → Modelled R
 with_waiting w place e = record w { waiting = record w.waiting { pending = Some e }; place = place }
+
+-- the first sixel of these data bytes, and the same, but it waits
+abbrev pub first_sixel : List ℕ → Event
+first_sixel bytes = Step (Sixel (slice_index bytes 0 - 63))
+
+abbrev pub first_at : ℕ → List ℕ → List Placed
+first_at place bytes = placed_at place (first_sixel bytes) ∷ []
+
+abbrev pub with_first : {R : Type 0} → Modelled R → ℕ → List ℕ → Modelled R
+with_first w place bytes = with_waiting w place (first_sixel bytes)
 
 -- these events were taken, and `opening` was drawn first: those before the one that waits were read, and the model has
 -- come to their end, whatever comes later

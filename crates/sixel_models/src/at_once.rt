@@ -6,6 +6,7 @@ ghost use Rattle.sixel_grammar.specs.Reading.{Explains, NoFaultBefore, failures_
 ghost use Rattle.sixel_model.specs.declared.colour.Parts.{Parts as SomeParts};
 ghost use Rattle.sixel_terminal.specs.Limits.{is_screen_side};
 ghost use Rattle.sixel_models.specs.declared.named.Named.{Named as AName};
+ghost use Rattle.sixel_models.specs.FirstPiece.{IsFirst, with_first};
 ghost use Rattle.sixel_models.specs.Modelled.{HasFollowed};
 ghost use Rattle.sixel_models.specs.Named.{DrawsNothingFirst, GivesScreen, model_of, terminal_on};
 
@@ -21,33 +22,37 @@ use sixel_model::Colour;
 use sixel_terminal::{Drawing, Screen};
 use std::alloc::Global;
 
-/// Reads the source to its end. Gives the screen of what a model makes of its document, or the offset of the event at
-/// which the model ends. `modelled` has taken no event.
+/// Reads the source, whose first bytes are the first `read` of `piece`, to its end. Gives the screen of what a model makes
+/// of its document, or the offset of the event at which the model ends. `modelled` has taken no event.
 fn show_source<S: Source, R: Reading + Drop>(
     input: &mut S,
     piece: &mut [u8; PIECE],
+    read: usize,
     modelled: Modelled<R>,
 ) -> Result<Result<Screen, u64>, InputFault>
+    requires { IsFirst piece.old read (S.state input.old).remaining }
     ensures shown { (named : AName) (background : SomeParts) (sides : ℕ × ℕ) → DrawsNothingFirst named
         → R.model ≡ model_of named → HasFollowed R.model R.has_seen modelled [] []
         → modelled.progress.drawing.terminal ≡ terminal_on named background [] sides
-        → IfOk result (λ given. IfSome (S.state input.old).remaining (λ bytes.
+        → IfOk result (λ given. IfSome (with_first piece.old read (S.state input.old).remaining) (λ bytes.
         GivesScreen named background sides bytes given)) }
-    ensures refused { IfErr result (λ fault. IfSome (S.state input.old).remaining (Explains fault)) }
+    ensures refused { IfErr result (λ fault.
+        IfSome (with_first piece.old read (S.state input.old).remaining) (Explains fault)) }
     ensures failures { (S.state input.new).failures ≡ failures_after result (S.state input.old).failures }
     ensures unread { result ≡ Err ReadFault →
-        IfSome (S.state input.old).remaining (NoFaultBefore (S.state input.new).remaining) }
+        IfSome (with_first piece.old read (S.state input.old).remaining)
+        (NoFaultBefore (S.state input.new).remaining) }
     ensures memory { result ≢ Err InputFault.OutOfMemory }
 {
-    match draw(input, piece, modelled)? {
+    match draw(input, piece, read, modelled)? {
         Ok(drawing) => Ok(Ok(drawing.finish())),
         Err(place) => Ok(Err(place)),
     }
 }
 
-/// Reads the source to its end, and keeps none of it. Gives what `show_on` shows of its document, on a terminal whose
-/// model draws nothing before the first event, or the offset of the event at which the model ends. After `OutOfMemory`
-/// nothing is read.
+/// Reads the source, whose first bytes are the first `read` of `piece`, to its end, and keeps none of it. Gives what
+/// `show_on` shows of its document, on a terminal whose model draws nothing before the first event, or the offset of the
+/// event at which the model ends. After `OutOfMemory` nothing more is read, and `piece` is as it was.
 pub fn show_at_once<S: Source>(
     alloc: Global,
     named: Named,
@@ -56,29 +61,34 @@ pub fn show_at_once<S: Source>(
     height: u32,
     input: &mut S,
     piece: &mut [u8; PIECE],
+    read: usize,
 ) -> Result<Result<Screen, u64>, InputFault>
+    requires first { IsFirst piece.old read (S.state input.old).remaining }
     requires sides { IsTrue (is_screen_side width && is_screen_side height) }
     requires opening { named ≢ Named.Konsole }
-    ensures shown { IfOk result (λ given. IfSome (S.state input.old).remaining (λ bytes.
+    ensures shown { IfOk result (λ given. IfSome (with_first piece.old read (S.state input.old).remaining) (λ bytes.
         GivesScreen named background (width, height) bytes given)) }
-    ensures refused { IfErr result (λ fault. IfSome (S.state input.old).remaining (Explains fault)) }
+    ensures refused { IfErr result (λ fault.
+        IfSome (with_first piece.old read (S.state input.old).remaining) (Explains fault)) }
     ensures failures { (S.state input.new).failures ≡ failures_after result (S.state input.old).failures }
     ensures unread { result ≡ Err ReadFault →
-        IfSome (S.state input.old).remaining (NoFaultBefore (S.state input.new).remaining) }
+        IfSome (with_first piece.old read (S.state input.old).remaining)
+        (NoFaultBefore (S.state input.new).remaining) }
     ensures memory { result ≡ Err InputFault.OutOfMemory → S.state input.new ≡ S.state input.old }
+    ensures kept { result ≡ Err InputFault.OutOfMemory → piece.new ≡ piece.old }
 {
     match named {
         Named::XTerm => {
             let drawing = Drawing::new(alloc, xterm_terminal(alloc, background, width, height)?)?;
-            show_source(input, piece, as_xterm(drawing))
+            show_source(input, piece, read, as_xterm(drawing))
         }
         Named::MlTerm => {
             let drawing = Drawing::new(alloc, mlterm_terminal(alloc, background, width, height)?)?;
-            show_source(input, piece, as_mlterm(drawing))
+            show_source(input, piece, read, as_mlterm(drawing))
         }
         Named::Foot => {
             let drawing = Drawing::new(alloc, foot_terminal(alloc, background, width, height)?)?;
-            show_source(input, piece, as_foot(alloc, drawing)?)
+            show_source(input, piece, read, as_foot(alloc, drawing)?)
         }
         Named::Konsole => unreachable!(),
     }

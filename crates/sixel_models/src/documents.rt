@@ -7,32 +7,38 @@ ghost use Rattle.sixel_grammar.specs.declared.fault.InputFault.TheVariants.{Read
 ghost use Rattle.sixel_grammar.specs.Document.{Document, events_of};
 ghost use Rattle.sixel_grammar.specs.Faults.{IsFaultOf};
 ghost use Rattle.sixel_grammar.specs.Reading.{Explains, NoFaultBefore, failures_after};
+ghost use Rattle.sixel_models.specs.FirstPiece.{IsFirst, with_first};
 ghost use Rattle.sixel_models.specs.Modelled.{HasFollowed, ModelGives};
 
+use crate::first_piece::follow_rest;
 use crate::modelled::Modelled;
 use crate::reading::Reading;
-use sixel_grammar::{Fault, InputFault, follow_document, follow_source};
+use sixel_grammar::{Fault, InputFault, follow_document};
 use sixel_io::{PIECE, Source};
 use sixel_terminal::Drawing;
 
-/// Reads the source to its end. Gives the drawing of its document, or the offset of the event at which the model ends.
-/// `modelled` has taken no event.
+/// Reads the source, whose first bytes are the first `read` of `piece`, to its end. Gives the drawing of its document, or
+/// the offset of the event at which the model ends. `modelled` has taken no event.
 pub fn draw<S: Source, R: Reading + Drop>(
     input: &mut S,
     piece: &mut [u8; PIECE],
+    read: usize,
     mut modelled: Modelled<R>,
 ) -> Result<Result<Drawing, u64>, InputFault>
+    requires { IsFirst piece.old read (S.state input.old).remaining }
     ensures terminal { IfOk result (λ given. IfOk given (λ d. d.terminal ≡ modelled.progress.drawing.terminal)) }
-    ensures gives { IfOk result (λ given. IfSome (S.state input.old).remaining (λ bytes.
+    ensures gives { IfOk result (λ given. IfSome (with_first piece.old read (S.state input.old).remaining) (λ bytes.
         (placed : List Place) × Document placed bytes × ((opening : List AnEvent)
         → HasFollowed R.model R.has_seen modelled opening [] → ModelGives R.model opening placed given))) }
-    ensures refused { IfErr result (λ fault. IfSome (S.state input.old).remaining (Explains fault)) }
+    ensures refused { IfErr result (λ fault.
+        IfSome (with_first piece.old read (S.state input.old).remaining) (Explains fault)) }
     ensures failures { (S.state input.new).failures ≡ failures_after result (S.state input.old).failures }
     ensures unread { result ≡ Err ReadFault →
-        IfSome (S.state input.old).remaining (NoFaultBefore (S.state input.new).remaining) }
+        IfSome (with_first piece.old read (S.state input.old).remaining)
+        (NoFaultBefore (S.state input.new).remaining) }
     ensures memory { result ≢ Err InputFault.OutOfMemory }
 {
-    follow_source(input, piece, &mut modelled)?;
+    follow_rest(input, piece, read, &mut modelled)?;
     Ok(modelled.finish())
 }
 

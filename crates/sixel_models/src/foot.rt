@@ -3,9 +3,13 @@
 mod colours;
 mod size;
 
-ghost use Rattle.std.specs.Prelude.{◌≡◌, ◌++◌, ◌∷◌, [], IfOk, List, Option};
+ghost use Rattle.std.specs.Prelude.{◌≡◌, ◌<◌, ◌||◌, ◌++◌, ◌∷◌, [], ℕ, IfOk, IsTrue, List, Option, length, slice_index};
+ghost use Rattle.std.specs.List.{list_any};
 ghost use Rattle.std.specs.Option.{option_map};
+ghost use Rattle.sixel_grammar.specs.Bytes.{is_data};
 ghost use Rattle.sixel_grammar.specs.declared.command.Event.{Event as AnEvent};
+ghost use Rattle.sixel_model.specs.Events.{is_painting};
+ghost use Rattle.sixel_terminal.specs.Stretches.{sixels_of};
 ghost use Rattle.sixel_models.specs.Foot.{foot, foot_data, foot_introducer, foot_model, foot_raster, foot_select};
 ghost use Rattle.sixel_models.specs.Foot.{has_begun_on_foot, is_last, spoils_on_foot};
 ghost use Rattle.sixel_models.specs.FootSeen.{HasSeenFoot};
@@ -141,6 +145,15 @@ impl Foot {
         }
     }
 
+    /// Whether something is painted, or one of the sixels of these data bytes paints.
+    #[inline(always)]
+    fn paints_with(&self, bytes: &[u8]) -> bool
+        requires { (k : ℕ) → k < length bytes.now → IsTrue (is_data (slice_index bytes.now k)) }
+        ensures { result ≡ (self.now.has_painted || list_any is_painting (sixels_of bytes.now)) }
+    {
+        self.has_painted || has_painting(bytes)
+    }
+
     /// Notes one more event.
     #[inline(always)]
     fn note(&mut self, event: &Event)
@@ -178,7 +191,18 @@ impl Reading for Foot {
     }
 
     fn note_sixels(&mut self, bytes: &[u8]) {
+        let has_painted = self.paints_with(bytes);
         self.size = self.size.after_sixels(bytes.len());
-        self.has_painted |= has_painting(bytes);
+        self.has_painted = has_painted;
+    }
+
+    #[inline(always)]
+    fn is_plain_repeat(&self, count: u16, _bits: u8) -> bool {
+        count != 0 && self.size.rows >= BAND_ROWS
+    }
+
+    #[inline(always)]
+    fn note_repeat(&mut self, count: u16, bits: u8) {
+        self.note(&Event::Step(Command::Repeat { count, bits }));
     }
 }

@@ -3,6 +3,7 @@
 ghost use Rattle.std.specs.Prelude.{◌≡◌, ◌==◌, ◌<◌, ◌&&◌, ◌||◌, ◌++◌, ◌∷◌, [], ℕ, List, None, Option, Some, false};
 ghost use Rattle.std.specs.Prelude.{is_none, length, not, true};
 ghost use Rattle.std.specs.Option.{option_map};
+ghost use Rattle.sixel_grammar.specs.declared.command.Command.TheVariants.{Repeat};
 ghost use Rattle.sixel_grammar.specs.declared.command.Event.{Event as AnEvent};
 ghost use Rattle.sixel_grammar.specs.declared.command.Event.TheVariants.{Step as AStep};
 ghost use Rattle.sixel_terminal.specs.Stretches.{sixels_of};
@@ -43,6 +44,8 @@ pub struct Konsole {
     counting: Option<Stated>,
     /// The last event, if it is raster attributes that may count, unless what follows drops them.
     waiting: Option<Stated>,
+    /// Whether a select or a data command changes nothing of what it stores.
+    settled: bool,
 }
 
 /// Whether the event goes to the left margin or ends the string.
@@ -155,6 +158,7 @@ impl Konsole {
             declares: false,
             counting: None,
             waiting: None,
+            settled: false,
         }
     }
 
@@ -175,6 +179,26 @@ impl Konsole {
             Some(stated) => Some(stated),
             None if dropped => None,
             None => self.waiting,
+        }
+    }
+
+    /// The height of a sixel pixel, if the events end here.
+    fn tall(&self) -> u16
+        ensures { result ≡ rule.konsole_tall (counting_in self.now false) }
+    {
+        match self.counting(false) {
+            Some(stated) => stated.tall(),
+            None => 1,
+        }
+    }
+
+    /// Whether sixel pixels are one pixel high, whatever follows. `false` says nothing.
+    pub(crate) fn stays_low(&self) -> bool
+        ensures { result ≡ true → (before : List AnEvent) → HasSeenKonsole self.now before → rule.StaysLow before }
+    {
+        match self.waiting {
+            None => self.has_late && self.tall() == 1,
+            Some(_) => false,
         }
     }
 
@@ -318,12 +342,13 @@ impl Konsole {
         reads
     }
 
-    /// Whether a select or a data command changes nothing of what it stores.
+    /// The same, with whether a select or a data command changes nothing of it.
     #[inline(always)]
-    fn is_settled(&self) -> bool
-        ensures { result ≡ is_settled self.now }
+    fn noted(self) -> Konsole
+        ensures { result ≡ record self { settled = is_settled self } }
     {
-        self.has_late && self.begun && !self.declares && self.waiting.is_none()
+        let settled = self.has_late && self.begun && !self.declares && self.waiting.is_none();
+        Konsole { settled, ..self }
     }
 
     /// Notes one more event.
@@ -340,9 +365,29 @@ impl Konsole {
     /// Whether the event changes nothing of what it stores.
     #[inline(always)]
     fn stays_after(&self, event: &Event) -> bool
-        ensures { result ≡ (is_settled self.now && selects_or_paints event.now) }
+        ensures { result ≡ (self.now.settled && selects_or_paints event.now) }
     {
-        self.is_settled() && selects_or_paints(event)
+        self.settled && selects_or_paints(event)
+    }
+
+    /// Notes a repeat.
+    #[inline(always)]
+    pub(crate) fn see_repeat(&mut self, count: u16, bits: u8)
+        ensures { (before : List AnEvent) → HasSeenKonsole self.old before
+            → HasSeenKonsole self.new (before ++ AStep (Repeat count bits) ∷ []) }
+    {
+        if !self.settled {
+            self.see_first_repeat(count, bits);
+        }
+    }
+
+    /// The same, and slow.
+    #[inline(never)]
+    fn see_first_repeat(&mut self, count: u16, bits: u8)
+        ensures { (before : List AnEvent) → HasSeenKonsole self.old before
+            → HasSeenKonsole self.new (before ++ AStep (Repeat count bits) ∷ []) }
+    {
+        *self = self.after(&Event::Step(Command::Repeat { count, bits }));
     }
 
     /// What it notes of one more event.
@@ -359,7 +404,9 @@ impl Konsole {
             declares: self.declares(event),
             counting: self.counting(dropped),
             waiting: self.may_count(event),
+            settled: false,
         }
+        .noted()
     }
 
     /// Notes one sixel or more.
@@ -368,9 +415,18 @@ impl Konsole {
         ensures { (before : List AnEvent) (bytes : List ℕ) → 0 < length bytes → HasSeenKonsole self.old before
             → HasSeenKonsole self.new (before ++ sixels_of bytes) }
     {
-        if !self.is_settled() {
-            *self = self.after_sixels();
+        if !self.settled {
+            self.see_first_sixels();
         }
+    }
+
+    /// The same, and slow.
+    #[inline(never)]
+    fn see_first_sixels(&mut self)
+        ensures { (before : List AnEvent) (bytes : List ℕ) → 0 < length bytes → HasSeenKonsole self.old before
+            → HasSeenKonsole self.new (before ++ sixels_of bytes) }
+    {
+        *self = self.after_sixels();
     }
 
     /// What it notes of one sixel or more.
@@ -386,7 +442,9 @@ impl Konsole {
             declares: false,
             counting: self.counting(false),
             waiting: None,
+            settled: false,
         }
+        .noted()
     }
 
     /// Whether all is dropped after the event.
@@ -446,5 +504,15 @@ impl Reading for Konsole {
         if !bytes.is_empty() {
             self.see_sixels();
         }
+    }
+
+    #[inline(always)]
+    fn is_plain_repeat(&self, count: u16, _bits: u8) -> bool {
+        count != 0 && !self.stuck
+    }
+
+    #[inline(always)]
+    fn note_repeat(&mut self, count: u16, bits: u8) {
+        self.see_repeat(count, bits);
     }
 }

@@ -1,18 +1,20 @@
 //! Draws a document on konsole while it is read. Its rectangle is measured meanwhile, and laid under the drawing at the
 //! end.
 
-ghost use Rattle.std.specs.Prelude.{◌≡◌, ◌&&◌, [], ℕ, IsTrue, List, false, true};
+ghost use Rattle.std.specs.Prelude.{◌≡◌, ◌&&◌, ◌++◌, [], ℕ, IfSome, IsSome, IsTrue, List, false, true};
 ghost use Rattle.sixel_grammar.specs.Document.{Document, events_of};
+ghost use Rattle.sixel_grammar.specs.declared.command.Event.{Event as AnEvent};
 ghost use Rattle.sixel_grammar.specs.declared.command.Placed.{Placed as Place};
 ghost use Rattle.sixel_model.specs.declared.colour.Parts.{Parts as SomeParts};
+ghost use Rattle.sixel_terminal.specs.Drawing.{screen_on};
 ghost use Rattle.sixel_terminal.specs.Drawings.{HasDrawn};
 ghost use Rattle.sixel_terminal.specs.Limits.{is_screen_side};
-ghost use Rattle.sixel_models.specs.AtOnce.{GivesAtOnce, IsOver};
-ghost use Rattle.sixel_models.specs.Konsole.{konsole_model};
+ghost use Rattle.sixel_models.specs.AtOnce.{IsLow};
+ghost use Rattle.sixel_models.specs.Konsole.{StaysLow, konsole_model};
 ghost use Rattle.sixel_models.specs.KonsoleSeen.{HasSeenKonsole};
 ghost use Rattle.sixel_models.specs.Measuring.{HasTakenAll};
-ghost use Rattle.sixel_models.specs.Modelled.{HasFollowed};
-ghost use Rattle.sixel_models.specs.Named.{ShowsDocument};
+ghost use Rattle.sixel_models.specs.Modelled.{HasFollowed, opening_of};
+ghost use Rattle.sixel_models.specs.Named.{GivesScreen, ShowsDocument, tall_in};
 ghost use Rattle.sixel_models.specs.Settings.{konsole_display};
 
 use crate::begun::as_konsole;
@@ -26,15 +28,6 @@ use sixel_grammar::Command;
 use sixel_model::Colour;
 use sixel_terminal::{Drawing, Screen};
 use std::alloc::Global;
-
-/// What was drawn at once on konsole.
-#[derive(Debug, Drop)]
-pub enum AtOnce {
-    /// The drawing, with its rectangle under all that is painted.
-    Drawn(Drawing),
-    /// Its sixel pixels are higher than one pixel. So it must be drawn anew, after this rectangle.
-    Higher(Option<Command>),
-}
 
 /// A drawing as konsole reads events, without its rectangle, which is measured meanwhile.
 pub fn as_konsole_at_once(drawing: Drawing) -> Both<Modelled<Konsole>, Measuring>
@@ -56,14 +49,19 @@ fn is_one_to_one(pan: u16, pad: u16) -> bool
     pan == 1 && pad == 1
 }
 
-/// The drawing over this rectangle, if its sixel pixels are one pixel high.
-fn over(mut drawing: Drawing, rectangle: Option<Command>) -> AtOnce
+/// The screen of the drawing over this rectangle, if its sixel pixels are one pixel high.
+fn screen_over(drawing: Drawing, rectangle: Option<Command>) -> Option<Screen>
     requires binds { drawing.terminal.choices.binds_at_showing ≡ true }
     requires unclipped { drawing.terminal.choices.clips ≡ false }
-    ensures { IsOver drawing rectangle result }
+    ensures width { IfSome result (λ screen. screen.width ≡ drawing.terminal.choices.screen_width) }
+    ensures height { IfSome result (λ screen. screen.height ≡ drawing.terminal.choices.screen_height) }
+    ensures low { IsSome result → tall_in (opening_of rectangle) ≡ 1 }
+    ensures shown { IfSome result (λ screen. (before : List AnEvent) → drawing.terminal.choices.tall ≡ 1
+        → HasDrawn drawing before
+        → screen.colours ≡ screen_on drawing.terminal (opening_of rectangle ++ before)) }
 {
     match rectangle {
-        None => AtOnce::Drawn(drawing),
+        None => Some(drawing.finish()),
         Some(
             Command::Raster {
                 pan,
@@ -71,26 +69,42 @@ fn over(mut drawing: Drawing, rectangle: Option<Command>) -> AtOnce
                 width,
                 height,
             },
-        ) if is_one_to_one(pan, pad) => {
-            drawing.fill_under(width, height);
-            AtOnce::Drawn(drawing)
-        }
-        Some(_) => AtOnce::Higher(rectangle),
+        ) if is_one_to_one(pan, pad) => Some(drawing.finish_over(width, height)),
+        Some(_) => None,
     }
 }
 
-/// Lays the rectangle under the drawing. `Err`: the offset of the event at which the model ends.
-pub fn over_rectangle(both: Both<Modelled<Konsole>, Measuring>) -> Result<AtOnce, u64>
+/// The screen of the drawing over this rectangle, if there is one. Its sixel pixels are one pixel high.
+fn low_screen_over(drawing: Drawing, rectangle: Option<Command>) -> Screen
+    requires binds { drawing.terminal.choices.binds_at_showing ≡ true }
+    requires unclipped { drawing.terminal.choices.clips ≡ false }
+    requires low { IsLow rectangle }
+    ensures width { result.width ≡ drawing.terminal.choices.screen_width }
+    ensures height { result.height ≡ drawing.terminal.choices.screen_height }
+    ensures shown { (before : List AnEvent) → drawing.terminal.choices.tall ≡ 1 → HasDrawn drawing before
+        → result.colours ≡ screen_on drawing.terminal (opening_of rectangle ++ before) }
+{
+    match rectangle {
+        None => drawing.finish(),
+        Some(Command::Raster { width, height, .. }) => drawing.finish_over(width, height),
+        Some(_) => unreachable!(),
+    }
+}
+
+/// The screen of konsole after a document that `both` has followed, and whose sixel pixels are one pixel high. `Err`: the
+/// offset of the event at which the model ends.
+pub fn low_konsole_screen(both: Both<Modelled<Konsole>, Measuring>) -> Result<Screen, u64>
     requires binds { both.one.progress.drawing.terminal.choices.binds_at_showing ≡ true }
     requires unclipped { both.one.progress.drawing.terminal.choices.clips ≡ false }
-    ensures { (background : SomeParts) (width height : ℕ) (placed : List Place)
-        → both.one.progress.drawing.terminal ≡ konsole_display background 1 width height
+    requires low { (events : List AnEvent) × HasTakenAll both.other events × StaysLow events }
+    ensures { (background : SomeParts) (width height : ℕ) (placed : List Place) (bytes : List ℕ)
+        → both.one.progress.drawing.terminal ≡ konsole_display background 1 width height → Document placed bytes
         → HasFollowed konsole_model HasSeenKonsole both.one [] placed → HasTakenAll both.other (events_of placed)
-        → GivesAtOnce background (width, height) placed result }
+        → GivesScreen Named.Konsole background (width, height) bytes result }
 {
     let Both { one, other } = both;
     match one.finish() {
-        Ok(drawing) => Ok(over(drawing, other.finish())),
+        Ok(drawing) => Ok(low_screen_over(drawing, other.finish())),
         Err(place) => Err(place),
     }
 }
@@ -111,9 +125,15 @@ pub fn konsole_screen(
         × HasFollowed konsole_model HasSeenKonsole both.one [] placed × HasTakenAll both.other (events_of placed) }
     ensures { ShowsDocument Named.Konsole background (width, height) bytes.now result }
 {
-    match over_rectangle(both) {
-        Ok(AtOnce::Drawn(drawing)) => Ok(drawing.finish()),
-        Ok(AtOnce::Higher(rectangle)) => show_on(
+    let Both { one, other } = both;
+    let drawing = match one.finish() {
+        Ok(drawing) => drawing,
+        Err(place) => return Err(ShowFault::Unmodelled(place)),
+    };
+    let rectangle = other.finish();
+    match screen_over(drawing, rectangle) {
+        Some(screen) => Ok(screen),
+        None => show_on(
             alloc,
             Named::Konsole,
             background,
@@ -122,6 +142,5 @@ pub fn konsole_screen(
             rectangle,
             bytes,
         ),
-        Err(place) => Err(ShowFault::Unmodelled(place)),
     }
 }

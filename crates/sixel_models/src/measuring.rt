@@ -1,14 +1,14 @@
 //! Measures the rectangle that konsole fills, while a document is read.
 
 ghost use Rattle.std.specs.Prelude.{◌≡◌, ◌<◌, ◌++◌, ◌∷◌, [], ℕ, IsTrue, List, None, Option, Some, length};
-ghost use Rattle.std.specs.Prelude.{slice_index};
+ghost use Rattle.std.specs.Prelude.{slice_index, true};
 ghost use Rattle.std.specs.Option.{option_to_list};
 ghost use Rattle.sixel_grammar.specs.Bytes.{is_data};
 ghost use Rattle.sixel_grammar.specs.declared.command.Command.TheVariants.{Repeat, Select};
 ghost use Rattle.sixel_grammar.specs.declared.command.Event.{Event as AnEvent};
 ghost use Rattle.sixel_grammar.specs.declared.command.Event.TheVariants.{Step};
 ghost use Rattle.sixel_terminal.specs.Stretches.{sixels_of};
-ghost use Rattle.sixel_models.specs.Konsole.{konsole_opening, moves_or_ends};
+ghost use Rattle.sixel_models.specs.Konsole.{StaysLow, konsole_opening, moves_or_ends};
 ghost use Rattle.sixel_models.specs.KonsoleMeasured.{HasMeasured};
 ghost use Rattle.sixel_models.specs.Measuring.{HasTakenAll, HasTakenOn, MeasuresBefore};
 ghost use Rattle.sixel_models.specs.Modelled.{opening_of};
@@ -150,6 +150,14 @@ impl Measuring {
         }
     }
 
+    /// Whether sixel pixels are one pixel high, whatever follows. `false` says nothing: it is so after the first select,
+    /// definition or data command of a string of that ratio.
+    pub fn stays_low(&self) -> bool
+        ensures { result ≡ true → (events : List AnEvent) → HasTakenAll self.now events → StaysLow events }
+    {
+        self.measure.stays_low()
+    }
+
     /// What konsole draws before the first event, by all events.
     pub fn finish(mut self) -> Option<Command>
         ensures { (events : List AnEvent) → HasTakenAll self events → opening_of result ≡ konsole_opening events }
@@ -195,6 +203,7 @@ impl Follower for Measuring {
         Ok(())
     }
 
+    #[inline(always)]
     fn take_repeat(&mut self, _place: u64, count: u16, bits: u8) -> Result<(), Infallible> {
         self.push(Event::Step(Command::Repeat { count, bits }));
         Ok(())

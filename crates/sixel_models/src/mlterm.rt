@@ -3,8 +3,9 @@
 mod buffer;
 
 ghost use Rattle.std.specs.Prelude.{◌≡◌, ◌<◌, ◌≤◌, ◌+◌, ◌++◌, ◌∷◌, [], ℕ, IfSome, IsTrue, List, Option, length};
-ghost use Rattle.std.specs.Prelude.{slice_index};
+ghost use Rattle.std.specs.Prelude.{slice_index, true};
 ghost use Rattle.sixel_grammar.specs.Bytes.{is_data};
+ghost use Rattle.sixel_grammar.specs.declared.command.Command.TheVariants.{Repeat};
 ghost use Rattle.sixel_grammar.specs.declared.command.Event.{Event as AnEvent};
 ghost use Rattle.sixel_grammar.specs.declared.command.Event.TheVariants.{Step as AStep};
 ghost use Rattle.sixel_terminal.specs.Stretches.{sixels_of};
@@ -293,11 +294,35 @@ impl MlTerm {
             → HasSeenMlTerm self.new (before ++ sixels_of bytes) }
     {
         if count > 0 {
-            self.buffer = self
-                .buffer
-                .reaching(u64::from(self.place.column) + u64::from(count));
+            self.buffer
+                .reach_to(u64::from(self.place.column) + u64::from(count));
             self.place = self.place.after_sixels(count as usize);
         }
+    }
+
+    /// Whether a repeat of so many columns has one or more, and leaves the sides of the buffer as they are.
+    #[inline(always)]
+    fn is_free(&self, count: u16) -> bool
+        ensures { result ≡ true → (0 < count) × (count ≤ free_columns (buffer_of self.now.buffer)
+            self.now.place.column (rule.rows_to self.now.place.band)) }
+    {
+        count != 0 && u32::from(count) <= self.free_columns()
+    }
+
+    /// Notes a repeat that leaves the sides of the buffer as they are.
+    #[inline(always)]
+    fn see_free_repeat(&mut self, count: u16, bits: u8)
+        requires some { 0 < count }
+        requires free { count ≤ free_columns (buffer_of self.old.buffer) self.old.place.column
+            (rule.rows_to self.old.place.band) }
+        ensures { (before : List AnEvent) → HasSeenMlTerm self.old before
+            → HasSeenMlTerm self.new (before ++ AStep (Repeat count bits) ∷ []) }
+    {
+        self.buffer
+            .reach_to(u64::from(self.place.column) + u64::from(count));
+        self.place = self
+            .place
+            .after(&Event::Step(Command::Repeat { count, bits }), 0);
     }
 
     /// Notes sixels one by one.
@@ -342,6 +367,20 @@ impl Reading for MlTerm {
             self.see_free(bytes.len() as u32);
         } else {
             self.see_each(bytes);
+        }
+    }
+
+    #[inline(always)]
+    fn is_plain_repeat(&self, count: u16, bits: u8) -> bool {
+        self.is_free(count) && (bits % 64 == 0 || self.is_said())
+    }
+
+    #[inline(always)]
+    fn note_repeat(&mut self, count: u16, bits: u8) {
+        if self.is_free(count) {
+            self.see_free_repeat(count, bits);
+        } else {
+            self.see(&Event::Step(Command::Repeat { count, bits }));
         }
     }
 }

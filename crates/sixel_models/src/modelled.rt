@@ -1,21 +1,22 @@
 //! Draws what a model makes of a document, while the document is read.
 
 ghost use Rattle.std.specs.Prelude.{◌≡◌, ◌<◌, ◌≤◌, ◌+◌, ◌-◌, ◌++◌, ◌∷◌, [], ℕ, IfOk, IsTrue, List, None, Option};
-ghost use Rattle.std.specs.Prelude.{Some, length, slice_index, take};
+ghost use Rattle.std.specs.Prelude.{Some, length, slice_index, take, true};
 ghost use Rattle.sixel_grammar.specs.Bytes.{is_data};
 ghost use Rattle.sixel_grammar.specs.Document.{most_bytes};
 ghost use Rattle.sixel_grammar.specs.Stretches.{sixels_from};
-ghost use Rattle.sixel_grammar.specs.declared.command.Command.TheVariants.{Select, Sixel};
+ghost use Rattle.sixel_grammar.specs.declared.command.Command.TheVariants.{Repeat, Select, Sixel};
 ghost use Rattle.sixel_grammar.specs.declared.command.Event.{Event as AnEvent};
 ghost use Rattle.sixel_grammar.specs.declared.command.Event.TheVariants.{Step};
 ghost use Rattle.sixel_grammar.specs.declared.command.Placed.{Placed as Place};
 ghost use Rattle.sixel_terminal.specs.Drawings.{HasDrawn};
 ghost use Rattle.sixel_models.specs.Modelled.{AreUnsaidBy, HasFollowed, HasFollowedOn, ModelGives, opening_of};
-ghost use Rattle.sixel_models.specs.Modelled.{placed_at, with_waiting};
-ghost use Rattle.sixel_models.specs.Readings.{Model as AModel, is_unsaid_control};
+ghost use Rattle.sixel_models.specs.Modelled.{first_at, placed_at, with_first, with_waiting};
+ghost use Rattle.sixel_models.specs.declared.reading.Reads.TheVariants.{Draws};
+ghost use Rattle.sixel_models.specs.Readings.{ArePlain, Model as AModel, is_unsaid_control};
 
 use crate::progress::Progress;
-use crate::reading::Reading;
+use crate::reading::{Reading, Reads};
 use crate::waiting::Waiting;
 use arrayvec::ArrayVec;
 use sixel_grammar::{Command, Event, Follower, Placed};
@@ -132,8 +133,8 @@ impl<R: Reading> Modelled<R> {
     }
 
     /// The same, if this select waits. Most that wait are selects.
-    #[inline(never)]
-    fn settle_select(&mut self, register: u16, next: &Event)
+    #[inline(always)]
+    fn read_select(&mut self, register: u16, next: &Event)
         requires { self.old.waiting.pending ≡ Some (Step (Select register)) }
         ensures terminal { self.new.progress.drawing.terminal ≡ self.old.progress.drawing.terminal }
         ensures pending { self.new.waiting.pending ≡ None }
@@ -146,6 +147,40 @@ impl<R: Reading> Modelled<R> {
         let reads = self.waiting.reading.read(&select, Some(next));
         self.waiting.pending = None;
         self.progress.read(self.place, false, reads);
+    }
+
+    /// The same, and not inlined.
+    #[inline(never)]
+    fn settle_select(&mut self, register: u16, next: &Event)
+        requires { self.old.waiting.pending ≡ Some (Step (Select register)) }
+        ensures terminal { self.new.progress.drawing.terminal ≡ self.old.progress.drawing.terminal }
+        ensures pending { self.new.waiting.pending ≡ None }
+        ensures followed { (opening : List AnEvent) (before : List Place) (place : ℕ)
+            → HasFollowed R.model R.has_seen self.old opening before
+            → HasFollowed R.model R.has_seen (with_waiting self.new place next.now) opening
+            (before ++ placed_at place next.now ∷ []) }
+    {
+        self.read_select(register, next);
+    }
+
+    /// Reads the event that waits, if there is one. It is fast if that is a select.
+    #[inline(always)]
+    fn settle_behind(&mut self, next: &Event)
+        ensures terminal { self.new.progress.drawing.terminal ≡ self.old.progress.drawing.terminal }
+        ensures pending { self.new.waiting.pending ≡ None }
+        ensures followed { (opening : List AnEvent) (before : List Place) (place : ℕ)
+            → HasFollowed R.model R.has_seen self.old opening before
+            → HasFollowed R.model R.has_seen (with_waiting self.new place next.now) opening
+            (before ++ placed_at place next.now ∷ []) }
+    {
+        match &self.waiting.pending {
+            Some(Event::Step(Command::Select(register))) => {
+                let register = *register;
+                self.read_select(register, next);
+            }
+            Some(_) => self.settle_waiting(next),
+            None => {}
+        }
     }
 
     /// The same, and fast if none waits.
@@ -242,7 +277,8 @@ impl<R: Reading> Modelled<R> {
     }
 
     /// Takes the sixels of these data bytes, in order. The first has the offset `place`.
-    fn push_stretch(&mut self, place: u64, bytes: &[u8])
+    #[inline(never)]
+    fn push_each(&mut self, place: u64, bytes: &[u8])
         requires sixels { (k : ℕ) → k < length bytes.now → IsTrue (is_data (slice_index bytes.now k)) }
         requires limit { place + length bytes.now ≤ most_bytes }
         ensures terminal { self.new.progress.drawing.terminal ≡ self.old.progress.drawing.terminal }
@@ -253,6 +289,145 @@ impl<R: Reading> Modelled<R> {
         let mut taken = 0;
         while taken < bytes.len() {
             taken += self.push_some(place + taken as u64, &bytes[taken..]);
+        }
+    }
+
+    /// Whether so many sixels that come next are drawn as they are.
+    #[inline(always)]
+    fn draws_sixels(&self, count: usize) -> bool
+        ensures { result ≡ true → (before : List AnEvent) → R.has_seen self.now.waiting.reading before
+            → ArePlain R.model.rule before count }
+    {
+        count <= self.waiting.reading.plain_sixels()
+    }
+
+    /// Takes the sixels of these data bytes, at least one, where none waits.
+    #[inline(never)]
+    fn push_settled(&mut self, place: u64, bytes: &[u8])
+        requires sixels { (k : ℕ) → k < length bytes.now → IsTrue (is_data (slice_index bytes.now k)) }
+        requires some { 0 < length bytes.now }
+        requires limit { place + length bytes.now ≤ most_bytes }
+        requires none { self.old.waiting.pending ≡ None }
+        ensures terminal { self.new.progress.drawing.terminal ≡ self.old.progress.drawing.terminal }
+        ensures followed { (opening : List AnEvent) (before : List Place)
+            → HasFollowed R.model R.has_seen (with_first self.old place bytes.now) opening
+            (before ++ first_at place bytes.now)
+            → HasFollowed R.model R.has_seen self.new opening (before ++ sixels_from place bytes.now) }
+    {
+        self.add(place, sixel(bytes[0]));
+        self.push_each(place + 1, &bytes[1..]);
+    }
+
+    /// The same, where all are drawn as they are.
+    #[inline(always)]
+    fn push_plain(&mut self, bytes: &[u8])
+        requires sixels { (k : ℕ) → k < length bytes.now → IsTrue (is_data (slice_index bytes.now k)) }
+        requires some { 0 < length bytes.now }
+        requires none { self.old.waiting.pending ≡ None }
+        requires plain { (before : List AnEvent) → R.has_seen self.old.waiting.reading before
+            → ArePlain R.model.rule before (length bytes.now) }
+        ensures terminal { self.new.progress.drawing.terminal ≡ self.old.progress.drawing.terminal }
+        ensures followed { (opening : List AnEvent) (before : List Place) (place : ℕ)
+            → HasFollowed R.model R.has_seen (with_first self.old place bytes.now) opening
+            (before ++ first_at place bytes.now)
+            → HasFollowed R.model R.has_seen self.new opening (before ++ sixels_from place bytes.now) }
+    {
+        self.waiting.reading.note_sixels(bytes);
+        self.progress.read_sixels(bytes);
+    }
+
+    /// The same as `push_each` of at least one, and fast where all are drawn as they are.
+    #[inline(never)]
+    fn push_behind(&mut self, place: u64, bytes: &[u8])
+        requires sixels { (k : ℕ) → k < length bytes.now → IsTrue (is_data (slice_index bytes.now k)) }
+        requires some { 0 < length bytes.now }
+        requires limit { place + length bytes.now ≤ most_bytes }
+        ensures terminal { self.new.progress.drawing.terminal ≡ self.old.progress.drawing.terminal }
+        ensures followed { (opening : List AnEvent) (before : List Place)
+            → HasFollowed R.model R.has_seen self.old opening before
+            → HasFollowed R.model R.has_seen self.new opening (before ++ sixels_from place bytes.now) }
+    {
+        self.settle_behind(&sixel(bytes[0]));
+        if self.draws_sixels(bytes.len()) {
+            self.push_plain(bytes);
+        } else {
+            self.push_settled(place, bytes);
+        }
+    }
+
+    /// The same, and faster where none waits.
+    #[inline(always)]
+    fn push_stretch(&mut self, place: u64, bytes: &[u8])
+        requires sixels { (k : ℕ) → k < length bytes.now → IsTrue (is_data (slice_index bytes.now k)) }
+        requires some { 0 < length bytes.now }
+        requires limit { place + length bytes.now ≤ most_bytes }
+        ensures terminal { self.new.progress.drawing.terminal ≡ self.old.progress.drawing.terminal }
+        ensures followed { (opening : List AnEvent) (before : List Place)
+            → HasFollowed R.model R.has_seen self.old opening before
+            → HasFollowed R.model R.has_seen self.new opening (before ++ sixels_from place bytes.now) }
+    {
+        // There is one: the test spares others in what is inlined here.
+        if !bytes.is_empty() && self.waiting.pending.is_none() && self.draws_sixels(bytes.len()) {
+            self.push_plain(bytes);
+        } else {
+            self.push_behind(place, bytes);
+        }
+    }
+
+    /// Whether none waits, and this repeat, if it comes next, is drawn as it is.
+    #[inline(always)]
+    fn draws_repeat(&self, count: u16, bits: u8) -> bool
+        ensures none { result ≡ true → self.now.waiting.pending ≡ None }
+        ensures plain { result ≡ true → (before : List AnEvent) (next : Option AnEvent)
+            → R.has_seen self.now.waiting.reading before
+            → R.model.rule before (Step (Repeat count bits)) next ≡ Draws (Repeat count bits) }
+    {
+        self.waiting.pending.is_none() && self.waiting.reading.is_plain_repeat(count, bits)
+    }
+
+    /// Takes a repeat with its offset, where none waits and it is drawn as it is.
+    #[inline(always)]
+    fn push_plain_repeat(&mut self, place: u64, count: u16, bits: u8)
+        requires none { self.old.waiting.pending ≡ None }
+        requires plain { (before : List AnEvent) (next : Option AnEvent)
+            → R.has_seen self.old.waiting.reading before
+            → R.model.rule before (Step (Repeat count bits)) next ≡ Draws (Repeat count bits) }
+        ensures terminal { self.new.progress.drawing.terminal ≡ self.old.progress.drawing.terminal }
+        ensures followed { (opening : List AnEvent) (before : List Place)
+            → HasFollowed R.model R.has_seen self.old opening before
+            → HasFollowed R.model R.has_seen self.new opening
+            (before ++ placed_at place (Step (Repeat count bits)) ∷ []) }
+    {
+        self.waiting.reading.note_repeat(count, bits);
+        let reads = Reads::Draws(Command::Repeat { count, bits });
+        self.progress.read(place, false, reads);
+    }
+
+    /// Takes any repeat, with its offset.
+    #[inline(never)]
+    fn push_repeat(&mut self, place: u64, count: u16, bits: u8)
+        ensures terminal { self.new.progress.drawing.terminal ≡ self.old.progress.drawing.terminal }
+        ensures followed { (opening : List AnEvent) (before : List Place)
+            → HasFollowed R.model R.has_seen self.old opening before
+            → HasFollowed R.model R.has_seen self.new opening
+            (before ++ placed_at place (Step (Repeat count bits)) ∷ []) }
+    {
+        self.push(place, Event::Step(Command::Repeat { count, bits }));
+    }
+
+    /// The same, and fast for one without a set bit that is drawn as it is. Most long repeats are blank.
+    #[inline(always)]
+    fn push_blank_or_other(&mut self, place: u64, count: u16, bits: u8)
+        ensures terminal { self.new.progress.drawing.terminal ≡ self.old.progress.drawing.terminal }
+        ensures followed { (opening : List AnEvent) (before : List Place)
+            → HasFollowed R.model R.has_seen self.old opening before
+            → HasFollowed R.model R.has_seen self.new opening
+            (before ++ placed_at place (Step (Repeat count bits)) ∷ []) }
+    {
+        if bits % 64 == 0 && self.draws_repeat(count, bits) {
+            self.push_plain_repeat(place, count, bits);
+        } else {
+            self.push_repeat(place, count, bits);
         }
     }
 }
@@ -300,7 +475,7 @@ impl<R: Reading> Follower for Modelled<R> {
     }
 
     fn take_repeat(&mut self, place: u64, count: u16, bits: u8) -> Result<(), Infallible> {
-        self.push(place, Event::Step(Command::Repeat { count, bits }));
+        self.push_blank_or_other(place, count, bits);
         Ok(())
     }
 

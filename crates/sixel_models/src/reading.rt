@@ -1,11 +1,14 @@
 //! What a named terminal makes of the events of a string, one by one.
 
 ghost use Rattle.std.specs.Prelude.{◌≡◌, ◌<◌, ◌++◌, ◌∷◌, [], ℕ, IsTrue, List, None, Option, false, length};
-ghost use Rattle.std.specs.Prelude.{slice_index};
+ghost use Rattle.std.specs.Prelude.{slice_index, true};
 ghost use Rattle.std.specs.Option.{option_map};
 ghost use Rattle.sixel_grammar.specs.Bytes.{is_data};
 ghost use Rattle.sixel_grammar.specs.declared.command.Event.{Event as AnEvent};
+ghost use Rattle.sixel_grammar.specs.declared.command.Command.TheVariants.{Repeat};
+ghost use Rattle.sixel_grammar.specs.declared.command.Event.TheVariants.{Step};
 ghost use Rattle.sixel_terminal.specs.Stretches.{sixels_of};
+ghost use Rattle.sixel_models.specs.declared.reading.Reads.TheVariants.{Draws};
 ghost use Rattle.sixel_models.specs.Readings.{ArePlain, Model as AModel};
 
 use sixel_grammar::{Command, Event};
@@ -54,4 +57,14 @@ pub trait Reading {
         requires { (k : ℕ) → k < length bytes.now → IsTrue (is_data (slice_index bytes.now k)) }
         ensures { (before : List AnEvent) → has_seen self.old before
             → has_seen self.new (before ++ sixels_of bytes.now) };
+
+    /// Whether it draws this repeat as it is, if it comes next, whatever follows. `false` says nothing.
+    fn is_plain_repeat(&self, count: u16, bits: u8) -> bool
+        ensures { result ≡ true → (before : List AnEvent) (next : Option AnEvent) → has_seen self.now before
+            → model.rule before (Step (Repeat count bits)) next ≡ Draws (Repeat count bits) };
+
+    /// Reads this repeat.
+    fn note_repeat(&mut self, count: u16, bits: u8)
+        ensures { (before : List AnEvent) → has_seen self.old before
+            → has_seen self.new (before ++ Step (Repeat count bits) ∷ []) };
 }

@@ -1,8 +1,7 @@
 //! The rectangle that konsole fills before it draws.
 
 ghost use Rattle.std.specs.Prelude.{◌≡◌, ◌<◌, ◌+◌, ◌-◌, ◌*◌, ◌++◌, ◌∷◌, [], ℕ, IsTrue, List, None, Option, Some};
-ghost use Rattle.std.specs.Prelude.{length, min};
-ghost use Rattle.std.specs.Prelude.{slice_index};
+ghost use Rattle.std.specs.Prelude.{length, min, slice_index, true};
 ghost use Rattle.std.specs.Option.{option_map, option_to_list};
 ghost use Rattle.sixel_grammar.specs.Bytes.{is_data};
 ghost use Rattle.sixel_grammar.specs.declared.command.Command.TheVariants.{Repeat, Select, Sixel};
@@ -68,10 +67,8 @@ impl Reach {
     fn band_end(self) -> u32
         ensures { result ≡ min (6 * self.place.band + 6) most }
     {
-        self.place
-            .band
-            .saturating_mul(BAND_ROWS)
-            .saturating_add(BAND_ROWS)
+        let end = u64::from(self.place.band) * u64::from(BAND_ROWS) + u64::from(BAND_ROWS);
+        end.min(u64::from(u32::MAX)) as u32
     }
 
     /// The rows that are reached with one more event.
@@ -192,8 +189,7 @@ impl KonsoleMeasure {
             bits,
         };
         self.reach = self.reach_with(drawn);
-        self.reading
-            .see(&Event::Step(Command::Repeat { count, bits }));
+        self.reading.see_repeat(count, bits);
     }
 
     /// How far this data command reaches, too.
@@ -234,6 +230,14 @@ impl KonsoleMeasure {
         } else {
             self.reach.with_sixels(count)
         }
+    }
+
+    /// Whether sixel pixels are one pixel high, whatever follows. `false` says nothing.
+    pub fn stays_low(&self) -> bool
+        ensures { result ≡ true → (events : List AnEvent) (next : Option AnEvent) → HasMeasured self.now events next
+            → rule.StaysLow events }
+    {
+        self.reading.stays_low()
     }
 
     /// The rectangle of the events of a whole string, as raster attributes; none if the picture hasn't begun.

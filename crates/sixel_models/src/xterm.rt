@@ -1,6 +1,6 @@
 //! What xterm makes of events.
 
-ghost use Rattle.std.specs.Prelude.{◌≡◌, ◌++◌, ◌∷◌, [], ℕ, List, Option, length};
+ghost use Rattle.std.specs.Prelude.{◌≡◌, ◌≤◌, ◌++◌, ◌∷◌, [], ℕ, List, Option, length, true};
 ghost use Rattle.sixel_grammar.specs.declared.command.Event.{Event as AnEvent};
 ghost use Rattle.sixel_model.specs.Geometry.{band_rows};
 ghost use Rattle.sixel_terminal.specs.Stretches.{sixels_of};
@@ -187,6 +187,15 @@ impl XTerm {
         u32::from(SIDE).saturating_sub(self.place.band.saturating_mul(BAND_ROWS))
     }
 
+    /// Whether all rows of the band are left.
+    #[inline(always)]
+    fn has_band(&self) -> bool
+        ensures { (before : List AnEvent) → HasSeenXTerm self.now before → result ≡ true
+            → band_rows ≤ xterm_rows before }
+    {
+        u64::from(self.place.band) * u64::from(BAND_ROWS) + u64::from(BAND_ROWS) <= u64::from(SIDE)
+    }
+
     /// What a data command paints: what of it is in the first columns and rows.
     fn painting(&self, command: Command, count: u16, bits: u8) -> Command
         ensures { (before : List AnEvent) → HasSeenXTerm self.now before
@@ -297,14 +306,24 @@ impl Reading for XTerm {
     fn plain_sixels(&self) -> usize {
         if self.fills() {
             0
-        } else if self.rows_left() < BAND_ROWS {
-            0
-        } else {
+        } else if self.has_band() {
             usize::from(self.columns_left())
+        } else {
+            0
         }
     }
 
     fn note_sixels(&mut self, bytes: &[u8]) {
         *self = self.after_sixels(bytes.len());
+    }
+
+    #[inline(always)]
+    fn is_plain_repeat(&self, count: u16, _bits: u8) -> bool {
+        count != 0 && count <= self.columns_left() && self.has_band() && !self.fills()
+    }
+
+    #[inline(always)]
+    fn note_repeat(&mut self, count: u16, bits: u8) {
+        *self = self.after(&Event::Step(Command::Repeat { count, bits }));
     }
 }

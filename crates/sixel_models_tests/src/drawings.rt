@@ -1,11 +1,11 @@
 //! What the models draw of documents, and where they end.
 
 use sixel_grammar::{InputFault, follow_source};
-use sixel_io::{PIECE, SliceSource};
+use sixel_io::{PIECE, SliceSource, Source};
 use sixel_model::{Colour, Parts};
 use sixel_models::{
-    Measuring, as_foot, as_konsole, as_mlterm, as_xterm, draw, foot_terminal, konsole_terminal,
-    mlterm_terminal, xterm_terminal,
+    Measuring, Modelled, Reading, as_foot, as_konsole, as_mlterm, as_xterm, draw, foot_terminal,
+    konsole_terminal, mlterm_terminal, xterm_terminal,
 };
 use sixel_terminal::Drawing;
 use std::alloc::Global;
@@ -51,21 +51,30 @@ fn outcome_of(
     }
 }
 
+/// What a model makes of a document that comes in pieces of seven bytes, of which the first is read before.
+fn outcome_with<R: Reading + Drop>(
+    alloc: Global,
+    text: &[u8],
+    modelled: Modelled<R>,
+) -> Result<Outcome, Fail> {
+    let mut source = SliceSource::new(text, 7, None);
+    let mut piece = [0; PIECE];
+    let Ok(read) = source.fill(&mut piece) else {
+        return Ok(Outcome::Refused);
+    };
+    outcome_of(alloc, draw(&mut source, &mut piece, read, modelled))
+}
+
 /// What xterm makes of a document, on a white screen of one row of three pixels.
 fn on_xterm(alloc: Global, text: &[u8]) -> Result<Outcome, Fail> {
     let drawing = Drawing::new(alloc, xterm_terminal(alloc, white(), 3, 1)?)?;
-    let mut source = SliceSource::new(text, 7, None);
-    outcome_of(alloc, draw(&mut source, &mut [0; PIECE], as_xterm(drawing)))
+    outcome_with(alloc, text, as_xterm(drawing))
 }
 
 /// What mlterm makes of a document, on a white screen of one row of three pixels.
 fn on_mlterm(alloc: Global, text: &[u8]) -> Result<Outcome, Fail> {
     let drawing = Drawing::new(alloc, mlterm_terminal(alloc, white(), 3, 1)?)?;
-    let mut source = SliceSource::new(text, 7, None);
-    outcome_of(
-        alloc,
-        draw(&mut source, &mut [0; PIECE], as_mlterm(drawing)),
-    )
+    outcome_with(alloc, text, as_mlterm(drawing))
 }
 
 /// What konsole makes of a document, on a white screen of one row of eight pixels.
@@ -77,22 +86,14 @@ fn on_konsole(alloc: Global, text: &[u8]) -> Result<Outcome, Fail> {
     }
     let opening = measuring.finish();
     let drawing = Drawing::new(alloc, konsole_terminal(alloc, white(), 1, 8, 1)?)?;
-    let mut again = SliceSource::new(text, 7, None);
-    outcome_of(
-        alloc,
-        draw(&mut again, &mut [0; PIECE], as_konsole(drawing, opening)),
-    )
+    outcome_with(alloc, text, as_konsole(drawing, opening))
 }
 
 /// What foot makes of a document, on a white screen of two rows of seven pixels.
 fn on_foot(alloc: Global, text: &[u8]) -> Result<Outcome, Fail> {
     let terminal = foot_terminal(alloc, white(), 7, 2)?;
     let drawing = Drawing::new(alloc, terminal)?;
-    let mut source = SliceSource::new(text, 7, None);
-    outcome_of(
-        alloc,
-        draw(&mut source, &mut [0; PIECE], as_foot(alloc, drawing)?),
-    )
+    outcome_with(alloc, text, as_foot(alloc, drawing)?)
 }
 
 /// A side above 1,000 stops the drawing, and an 8-bit terminator after it ends the model.

@@ -193,6 +193,15 @@ impl Buffer {
         }
     }
 
+    /// Notes a data command that ends at this column.
+    #[inline(always)]
+    pub(crate) fn reach_to(&mut self, end: u64)
+        requires { end ≤ 32767 }
+        ensures { buffer_of self.new ≡ rule.reaching (buffer_of self.old) end }
+    {
+        self.reach = self.reach.max(end as u16);
+    }
+
     /// With a data command that ends at this column, in a band that ends at this row.
     #[inline(always)]
     pub(crate) fn with_data(self, end: u64, rows: u64) -> Buffer

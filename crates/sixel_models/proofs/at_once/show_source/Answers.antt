@@ -1,4 +1,5 @@
 use Rattle.std.proofs.Common.{◌∙◌, [], subst}
+use Rattle.sixel_models.specs.FirstPiece.{with_first}
 use Rattle.sixel_models.specs.Modelled.{EndsAtPlace}
 use Rattle.sixel_models.specs.Readings.{Model}
 use Rattle.sixel_models.proofs.ShowingLemmas.{gives_drawing, if_known}
@@ -8,7 +9,7 @@ pub returns-in-Ok-clause-shown : goal.returns-in-Ok-clause-shown
 returns-in-Ok-clause-shown g c = λ named background sides none model followed terminal.
     let same = rw c.in-Ok.is at c.in_ok-drawing.ensures.terminal in
     let gives = rw c.in-Ok.is at c.in_ok-drawing.ensures.gives in
-    if_known (g.S.Source.state c.args.input.now).remaining
+    if_known (with_first c.args.piece.now c.args.read (g.S.Source.state c.args.input.now).remaining)
     (λ bytes known.
     gives_drawing named background sides bytes g.R.Reading.model c.in-Ok.drawing c.finish.result none model
     (same ∙ terminal)
@@ -22,7 +23,7 @@ returns-in-Ok-clause-shown g c = λ named background sides none model followed t
 pub returns-in-Err-clause-shown : goal.returns-in-Err-clause-shown
 returns-in-Err-clause-shown g c = λ named background sides none model followed terminal.
     let gives = rw c.in-Err.is at c.in_ok-drawing.ensures.gives in
-    if_known (g.S.Source.state c.args.input.now).remaining
+    if_known (with_first c.args.piece.now c.args.read (g.S.Source.state c.args.input.now).remaining)
     (λ bytes known. (
       known.0,
       known.1,

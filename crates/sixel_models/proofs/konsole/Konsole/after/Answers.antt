@@ -5,5 +5,7 @@ use Rattle.sixel_models.proofs.konsole.Konsole.after.Goals as goal
 
 pub returns : goal.returns
 returns c = λ before s.
-    seen_push _ c.args.event.now s c.gets_stuck.ensures c.gets_late.ensures c.begins.ensures c.declares.ensures
+    rw c.noted.ensures
+    (seen_push _ c.args.event.now s c.gets_stuck.ensures c.gets_late.ensures c.begins.ensures c.declares.ensures
     (c.counting.ensures ∙ ap (counting_in c.args.self.now) c.moves_or_ends-dropped.ensures) c.may_count.ensures
+    (λ is. is))

@@ -4,11 +4,13 @@ use Rattle.sixel_models.proofs.konsole.Konsole.after_sixels.Goals as goal
 
 pub returns : goal.returns
 returns c = λ before bytes some s.
-    konsole_over before bytes some (record {
+    rw c.noted.ensures
+    (konsole_over before bytes some (record {
       stuck_is = refl;
       late_is = refl;
       begun_is = ap (λ (b : Bool). b || not c.args.self.now.stuck) c.has_begun.ensures;
       declares_is = refl;
       counting_is = c.counting.ensures;
       waiting_is = refl;
-    }) s
+      settled_is = λ is. is;
+    }) s)

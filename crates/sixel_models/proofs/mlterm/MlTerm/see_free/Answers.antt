@@ -11,7 +11,7 @@ returns-then-count-gt0 c = λ before bytes long s.
     let some : 0 < length bytes = omega (arith, long, c.if-count-gt0.true) in
     let end : c.from.result + c.from-then-count-gt0.result ≡ m.place.column + length bytes =
     omega (arith, long, c.from.ensures, c.from-then-count-gt0.ensures) in
-    mlterm_over c.after_sixels-self.result c.reaching-self.result before bytes some
+    mlterm_over c.after_sixels-self.result c.reach_to.new.self before bytes some
     (subst (λ (n : ℕ). n ≤ free) (sym long) c.requires) s
     (c.after_sixels-self.ensures 0 before bytes long s.place_is)
-    (c.reaching-self.ensures ∙ ap (reaching (buffer_of m.buffer)) end)
+    (c.reach_to.ensures ∙ ap (reaching (buffer_of m.buffer)) end)

@@ -12,7 +12,7 @@ returns c = λ before next s.
     let e = Step (Repeat c.args.count c.args.bits) in
     let count : c.max.result ≡ max 1 c.args.count = omega (arith, c.max.ensures) in
     let drawn = c.reach_with-self.ensures (konsole_drawing before (Some e)) s.reach in
-    measured_push _ before e next (c.see.ensures before s.seen)
+    measured_push _ before e next (c.see_repeat.ensures before s.seen)
     (subst (λ (n : ℕ). IsReach c.reach_with-self.result (konsole_drawing before (Some e)
     ++ drawn_by (konsole_data (is_stuck before) (Repeat n c.args.bits)))) count
     (subst (λ (b : Bool). IsReach c.reach_with-self.result (konsole_drawing before (Some e)

@@ -2,9 +2,8 @@ use Rattle.std.proofs.Common.{◌∙◌, sym, arith}
 use Rattle.sixel_models.proofs.XTermLemmas.{xterm_plain}
 use Rattle.sixel_models.proofs.xterm.XTermReading.plain_sixels.Goals as goal
 
-pub returns-else-rows_left-lt-BAND_ROWS : goal.returns-else-rows_left-lt-BAND_ROWS
-returns-else-rows_left-lt-BAND_ROWS c = λ before s.
-    let rows = c.rows_left.ensures before s in
+pub returns-then-has_band : goal.returns-then-has_band
+returns-then-has_band c = λ before s.
     let columns = c.from.ensures ∙ c.columns_left.ensures before s in
     xterm_plain before c.from.result (sym (c.fills.ensures before s) ∙ c.if-fills.false)
-    (omega (arith, rows, c.if-rows_left-lt-BAND_ROWS.false)) (omega (arith, columns))
+    (c.has_band.ensures before s c.if-has_band.true) (omega (arith, columns))

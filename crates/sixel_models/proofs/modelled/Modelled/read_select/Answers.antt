@@ -7,7 +7,7 @@ use Rattle.sixel_grammar.specs.Document.{events_of}
 use Rattle.sixel_models.specs.Courses.{IsAt}
 use Rattle.sixel_models.specs.Modelled.{HasCome}
 use Rattle.sixel_models.proofs.ModelledLemmas.{follows_more}
-use Rattle.sixel_models.proofs.modelled.Modelled.settle_select.Goals as goal
+use Rattle.sixel_models.proofs.modelled.Modelled.read_select.Goals as goal
 
 same_event : (o : Option Event) (d e : Event) → o ≡ Some d → o ≡ Some e → d ≡ e
 same_event None d e a b = absurd cc

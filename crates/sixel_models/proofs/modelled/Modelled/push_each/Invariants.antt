@@ -3,7 +3,7 @@ use Rattle.sixel_grammar.specs.declared.command.Event.{Event}
 use Rattle.sixel_grammar.specs.declared.command.Placed.{Placed}
 use Rattle.sixel_grammar.specs.Stretches.{sixels_from}
 use Rattle.sixel_models.specs.Modelled.{HasFollowed}
-use Rattle.sixel_models.proofs.modelled.Modelled.push_stretch.Given as goal
+use Rattle.sixel_models.proofs.modelled.Modelled.push_each.Given as goal
 
 abbrev pub invariant-loop-taken : goal.invariant-loop-taken
 invariant-loop-taken g l =
