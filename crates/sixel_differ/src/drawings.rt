@@ -14,6 +14,7 @@ ghost use Rattle.sixel_differ.specs.Drawings.{HasDrawn, HasDrawnKonsole, HaveDra
 ghost use Rattle.sixel_differ.specs.Faults.{IsReadingFault};
 ghost use Rattle.sixel_differ.specs.Views.{IsView, view_in};
 
+use crate::apart::Apart;
 use crate::fault::DifferFault;
 use crate::view::{View, Views};
 use sixel_grammar::follow_document;
@@ -121,14 +122,15 @@ pub(crate) fn begin(
 }
 
 /// The drawings after the document of these bytes. `drawings` have taken no event.
-pub(crate) fn draw_all(bytes: &[u8], mut drawings: Drawings) -> Result<Drawings, DifferFault>
+pub(crate) fn draw_all(bytes: &[u8], drawings: Drawings) -> Result<Drawings, DifferFault>
     ensures drawn { IfOk result (λ drawn. (placed : List Place) × Document placed bytes.now
         × ((background : SomeParts) (sides : ℕ × ℕ)
         → HaveDrawn background sides drawings [] → HaveDrawn background sides drawn placed)) }
     ensures refused { IfErr result (IsReadingFault bytes.now) }
 {
-    follow_document(bytes, &mut drawings)?;
-    Ok(drawings)
+    let mut apart = Apart { follower: drawings };
+    follow_document(bytes, &mut apart)?;
+    Ok(apart.follower)
 }
 
 /// What is shown by the drawing of a terminal whose model draws nothing before the first event.

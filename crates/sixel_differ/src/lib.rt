@@ -1,6 +1,7 @@
 //! Which of the named terminals show a sixel string differently, and where.
 #![tactic(auto)]
 
+mod apart;
 mod comparison;
 mod drawings;
 mod fault;

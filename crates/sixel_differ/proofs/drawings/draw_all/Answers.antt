@@ -9,15 +9,15 @@ use Rattle.sixel_differ.proofs.drawings.draw_all.Goals as goal
 
 pub follow_document-requires : goal.follow_document-requires
 follow_document-requires c = (
-  c.args.drawings,
+  record { follower = c.args.drawings },
   (((refl, λ opening h. h), (refl, λ opening h. h)), ((refl, λ opening h. h), ((refl, λ opening h. h), λ h. h))),
 )
 
 pub returns-clause-drawn : goal.returns-clause-drawn
 returns-clause-drawn c =
     let first = c.args.drawings in
-    let now = c.follow_document.new.follower in
-    let f = c.in_ok-follow_document.ensures.followed first
+    let now = c.follow_document.new.follower.follower in
+    let f = c.in_ok-follow_document.ensures.followed (record { follower = first })
     (((refl, λ opening h. h), (refl, λ opening h. h)), ((refl, λ opening h. h), ((refl, λ opening h. h), λ h. h))) in (
       f.events,
       subst (Document f.events) (sym f.known_are) f.document,
