@@ -16,6 +16,8 @@ pub mod WatchLemmas
 pub mod StageLemmas
 pub mod BoxLemmas
 pub mod ShowOnLemmas
+pub mod ShowFirstLemmas
+pub mod OnKonsoleLemmas
 pub mod ComparingLemmas
 pub mod DifferLemmas
 pub mod SheetLemmas

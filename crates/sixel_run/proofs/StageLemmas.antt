@@ -8,13 +8,13 @@ use Rattle.std.proofs.lemmas.List.{append-nil}
 use Rattle.sixel_grammar.specs.declared.command.Event.{Event}
 use Rattle.sixel_grammar.specs.declared.command.Placed.{Placed}
 use Rattle.sixel_grammar.specs.declared.reader.Reader.{Reader}
-use Rattle.sixel_grammar.specs.Document.{events_of}
+use Rattle.sixel_grammar.specs.Document.{Document, events_of}
 use Rattle.sixel_grammar.specs.Following.{AreFollowed, FollowsBytes, TakesEvents}
 use Rattle.sixel_grammar.specs.Prefixes.{CompleteIn}
 use Rattle.sixel_grammar.specs.Standing.{StandsAfter}
 use Rattle.sixel_grammar.specs.Stretches.{sixels_from}
 use Rattle.sixel_grammar.proofs.StandLemmas.{read_complete}
-use Rattle.sixel_grammar.proofs.UniqueLemmas.{complete_once, complete_stays}
+use Rattle.sixel_grammar.proofs.UniqueLemmas.{complete_once, complete_stays, document_complete}
 use Rattle.sixel_model.specs.Events.{Attributes, raster_of}
 use Rattle.sixel_model.specs.Positions.{earliest}
 use Rattle.sixel_model.specs.Rules.{raster_before}
@@ -86,19 +86,35 @@ some-first : (o : Option Sides) (p : Option Sides) → IsSome o → option_or o 
 some-first (Some s) p is = refl
 some-first None p is = cc
 
+-- what comes later declares no other box
+box-remains : (seen all : List Placed) (bytes more : List ℕ) → CompleteIn seen bytes → CompleteIn all (bytes ++ more)
+    → IsSome (box_in (events_of seen)) → box_in (events_of all) ≡ box_in (events_of seen)
+box-remains seen all bytes more before after is =
+    let s = complete_stays bytes more seen all before after in
+    ap (λ (es : List Placed). box_in (events_of es)) s.1
+    ∙ box-then seen s.0
+    ∙ some-first (box_in (events_of seen)) (box_in (events_of s.0)) is
+
 -- what is read later declares no other box
 box-stays : (old new : Reader) (seen all : List Placed) (bytes more : List ℕ) → StandsAfter old seen bytes
     → StandsAfter new all (bytes ++ more) → IsSome (box_in (events_of seen))
     → box_in (events_of all) ≡ box_in (events_of seen)
 box-stays old new seen all bytes more before after is =
-    let s = complete_stays bytes more seen all (read_complete old seen bytes before)
-    (read_complete new all (bytes ++ more) after) in
-    ap (λ (es : List Placed). box_in (events_of es)) s.1
-    ∙ box-then seen s.0
-    ∙ some-first (box_in (events_of seen)) (box_in (events_of s.0)) is
+    box-remains seen all bytes more (read_complete old seen bytes before)
+    (read_complete new all (bytes ++ more) after) is
 
 screen-stays : (seen all : List Event) → box_in all ≡ box_in seen → declared_screen all ≡ declared_screen seen
 screen-stays seen all is = declared-in all (box_in seen) (sym is) ∙ sym (declared-by seen)
+
+-- each document that begins with these bytes declares the same screen
+pub screen-in : (reader : Reader) (seen placed : List Placed) (first rest : List ℕ) (sides : Sides)
+    → StandsAfter reader seen first → declared_screen (events_of seen) ≡ Some sides → Document placed (first ++ rest)
+    → declared_screen (events_of placed) ≡ Some sides
+screen-in reader seen placed first rest sides read declared doc =
+    screen-stays (events_of seen) (events_of placed)
+    (box-remains seen placed first rest (read_complete reader seen first read)
+    (document_complete placed (first ++ rest) doc) (has-box (events_of seen) sides declared))
+    ∙ declared
 
 -- ---- looking for it
 
@@ -135,7 +151,7 @@ pub finds-no-sixels : (finder : BoxFinder) (place : ℕ) (bytes : List ℕ)
 finds-no-sixels finder place bytes = finds-none finder (sixels_from place bytes) (sixels-declare place bytes)
 
 -- the reader has read these bytes, and this is the box that they declare
-abbrev FindsBox : Reader → Option Sides → List ℕ → Type 0
+abbrev pub FindsBox : Reader → Option Sides → List ℕ → Type 0
 FindsBox reader box bytes =
     AreFollowed (λ (found : Option Sides) (seen : List Placed). found ≡ box_in (events_of seen)) reader box bytes
 

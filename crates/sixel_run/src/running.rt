@@ -15,6 +15,7 @@ mod kept;
 mod list;
 mod list_lines;
 mod mend;
+mod on_konsole;
 mod render;
 mod scan;
 mod screen;
