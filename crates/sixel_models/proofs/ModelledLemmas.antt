@@ -18,7 +18,7 @@ use Rattle.sixel_models.specs.declared.reading.Reads.{Reads}
 use Rattle.sixel_models.specs.declared.reading.Reads.TheVariants.{Draws}
 use Rattle.sixel_terminal.specs.Stretches.{sixels_of}
 use Rattle.sixel_models.specs.declared.waiting.Waiting.{Waiting}
-use Rattle.sixel_models.specs.Courses.{AreDrawn, IsAt}
+use Rattle.sixel_models.specs.Courses.{AreDrawn, AreSixels, IsAt}
 use Rattle.sixel_models.specs.Modelled.{AreUnsaidBy, HasCome, HasFollowed, HasPlace, placed_at, waiting_in}
 use Rattle.sixel_models.specs.Modelled.{first_at, with_first, with_waiting}
 use Rattle.sixel_models.specs.Readings.{ArePlain, Model, Rule}
@@ -256,6 +256,20 @@ plain_drawn m read place (b ∷ bs) later plain =
           (plain_drawn m (read ++ q ∷ []) (place + 1) bs later known)),
     )
 
+sixels_there : (m : Model) (read : List Placed) (place : ℕ) (bytes : List ℕ) (later : List Placed)
+    → AreSixels (events_of (read ++ (sixels_from place bytes ++ later))) (length read) bytes
+sixels_there m read place [] later = tt
+sixels_there m read place (b ∷ bs) later =
+    let q : Placed = placed_at place (Step (Sixel (b - 63))) in
+    let rest : List Placed = sixels_from (place + 1) bs ++ later in
+    let long : length (read ++ q ∷ []) ≡ suc (length read) = length-append read (q ∷ []) ∙ omega arith in
+    let all : (read ++ q ∷ []) ++ rest ≡ read ++ q ∷ rest = append_assoc read (q ∷ []) rest in (
+      (is_at m read rest q _ refl).here,
+      subst (λ (n : ℕ). AreSixels (events_of (read ++ q ∷ rest)) n bs) long
+          (subst (λ (ps : List Placed). AreSixels (events_of ps) (length (read ++ q ∷ [])) bs) all
+          (sixels_there m (read ++ q ∷ []) (place + 1) bs later)),
+    )
+
 pub fewer : (rule : Rule) (before : List Event) (n k : ℕ) → k ≤ n → ArePlain rule before n → ArePlain rule before k
 fewer rule before n k le plain = λ earlier lt. plain earlier (omega (arith, le, lt))
 
@@ -267,18 +281,18 @@ sixels_length : (place : ℕ) (bytes : List ℕ) → length (sixels_from place b
 sixels_length place [] = refl
 sixels_length place (b ∷ bs) = ap suc (sixels_length (place + 1) bs)
 
--- the first of these sixels came last; they are read, and none waits
-pub follows_plain : {R : Type 0} (m : Model) (has_seen : R → List Event → Type 0) (w : Modelled R)
-    (opening : List Event) (before : List Placed) (place b : ℕ) (bs : List ℕ) (n : ℕ) (reading : R) (p : Progress)
+-- these sixels came last; they are read, and none waits
+follows_read : {R : Type 0} (m : Model) (has_seen : R → List Event → Type 0) (w : Modelled R)
+    (opening : List Event) (before : List Placed) (place b : ℕ) (bs : List ℕ) (reading : R) (p : Progress)
     → w.waiting.pending ≡ None
-    → ((es : List Event) → has_seen w.waiting.reading es → ArePlain m.rule es n) → suc (length bs) ≤ n
     → ((es : List Event) → has_seen w.waiting.reading es → has_seen reading (es ++ sixels_of (b ∷ bs)))
-    → ((first : List Event) (placed : List Placed) (k : ℕ) → AreDrawn m (events_of placed) k (b ∷ bs)
-    → HasCome m first placed k w.progress → HasCome m first placed (k + length (b ∷ bs)) p)
+    → (has_seen w.waiting.reading (events_of before) → (later : List Placed)
+    → HasCome m opening (before ++ (sixels_from place (b ∷ bs) ++ later)) (length before) w.progress
+    → HasCome m opening (before ++ (sixels_from place (b ∷ bs) ++ later)) (length before + length (b ∷ bs)) p)
     → HasFollowed m has_seen (with_waiting w place (Step (Sixel (b - 63)))) opening
     (before ++ placed_at place (Step (Sixel (b - 63))) ∷ [])
     → HasFollowed m has_seen (with_read w reading p) opening (before ++ sixels_from place (b ∷ bs))
-follows_plain m has_seen w opening before place b bs n reading p none plain enough reads draws h =
+follows_read m has_seen w opening before place b bs reading p none reads comes h =
     let q : Placed = placed_at place (Step (Sixel (b - 63))) in
     let read : h.read ≡ before = append_cancel_right h.read before (q ∷ []) (sym h.are) in
     let seen : has_seen w.waiting.reading (events_of before) =
@@ -299,17 +313,33 @@ follows_plain m has_seen w opening before place b bs n reading p none plain enou
           subst (λ (ps : List Placed). HasCome m opening (before ++ q ∷ rest) (length ps) w.progress) read
           (subst (λ (ps : List Placed). HasCome m opening ps (length h.read) w.progress)
           (append_assoc before (q ∷ []) rest) (h.come rest)) in
-          let drawn : AreDrawn m (events_of (before ++ q ∷ rest)) (length before) (b ∷ bs) =
-          plain_drawn m before place (b ∷ bs) later
-          (fewer m.rule (events_of before) n (suc (length bs)) enough (plain (events_of before) seen)) in
           let long : length before + length (b ∷ bs) ≡ length (before ++ sixels_from place (b ∷ bs)) =
           ap (λ (k : ℕ). length before + k) (sym (sixels_length place (b ∷ bs)))
           ∙ sym (length-append before (sixels_from place (b ∷ bs))) in
           subst (λ (ps : List Placed). HasCome m opening ps (length (before ++ sixels_from place (b ∷ bs))) p)
           (sym after)
-          (subst (λ (k : ℕ). HasCome m opening (before ++ q ∷ rest) k p) long
-          (draws opening (before ++ q ∷ rest) (length before) drawn old));
+          (subst (λ (k : ℕ). HasCome m opening (before ++ q ∷ rest) k p) long (comes seen later old));
     }
+
+-- the first of these sixels came last; they are drawn as they are, and none waits
+pub follows_plain : {R : Type 0} (m : Model) (has_seen : R → List Event → Type 0) (w : Modelled R)
+    (opening : List Event) (before : List Placed) (place b : ℕ) (bs : List ℕ) (n : ℕ) (reading : R) (p : Progress)
+    → w.waiting.pending ≡ None
+    → ((es : List Event) → has_seen w.waiting.reading es → ArePlain m.rule es n) → suc (length bs) ≤ n
+    → ((es : List Event) → has_seen w.waiting.reading es → has_seen reading (es ++ sixels_of (b ∷ bs)))
+    → ((first : List Event) (placed : List Placed) (k : ℕ) → AreDrawn m (events_of placed) k (b ∷ bs)
+    → HasCome m first placed k w.progress → HasCome m first placed (k + length (b ∷ bs)) p)
+    → HasFollowed m has_seen (with_waiting w place (Step (Sixel (b - 63)))) opening
+    (before ++ placed_at place (Step (Sixel (b - 63))) ∷ [])
+    → HasFollowed m has_seen (with_read w reading p) opening (before ++ sixels_from place (b ∷ bs))
+follows_plain m has_seen w opening before place b bs n reading p none plain enough reads draws h =
+    follows_read m has_seen w opening before place b bs reading p none reads
+    (λ seen later old.
+    draws opening (before ++ (sixels_from place (b ∷ bs) ++ later)) (length before)
+    (plain_drawn m before place (b ∷ bs) later
+    (fewer m.rule (events_of before) n (suc (length bs)) enough (plain (events_of before) seen)))
+    old)
+    h
 
 -- the same, and none of these bytes is split off
 pub follows_sixels : {R : Type 0} (m : Model) (has_seen : R → List Event → Type 0) (w : Modelled R)
@@ -325,6 +355,23 @@ follows_sixels m has_seen w opening before place [] reading p some none plain re
     absurd (omega (arith, some))
 follows_sixels m has_seen w opening before place (b ∷ bs) reading p some none plain reads draws h =
     follows_plain m has_seen w opening before place b bs (suc (length bs)) reading p none plain (omega arith) reads draws
+    h
+
+-- the same, where what was drawn stays as it is
+pub follows_past : {R : Type 0} (m : Model) (has_seen : R → List Event → Type 0) (w : Modelled R)
+    (opening : List Event) (before : List Placed) (place : ℕ) (bytes : List ℕ) (reading : R)
+    → 0 < length bytes → w.waiting.pending ≡ None
+    → ((es : List Event) → has_seen w.waiting.reading es → has_seen reading (es ++ sixels_of bytes))
+    → ((first : List Event) (placed : List Placed) (k : ℕ) → AreSixels (events_of placed) k bytes
+    → HasCome m first placed k w.progress → HasCome m first placed (k + length bytes) w.progress)
+    → HasFollowed m has_seen (with_first w place bytes) opening (before ++ first_at place bytes)
+    → HasFollowed m has_seen (with_read w reading w.progress) opening (before ++ sixels_from place bytes)
+follows_past m has_seen w opening before place [] reading some none reads stays h = absurd (omega (arith, some))
+follows_past m has_seen w opening before place (b ∷ bs) reading some none reads stays h =
+    follows_read m has_seen w opening before place b bs reading w.progress none reads
+    (λ seen later old.
+    stays opening (before ++ (sixels_from place (b ∷ bs) ++ later)) (length before)
+    (sixels_there m before place (b ∷ bs) later) old)
     h
 
 pub none_pending : {A : Type 0} (o : Option A) → is_some o ≡ false → o ≡ None

@@ -1,7 +1,7 @@
 -- How far a drawing by a model has come.
 use Rattle.std.proofs.Common.{length, ◌≡◌, ℕ, zero, suc, ◌+◌, ◌≤◌, inl, inr, Bool, true, false, List, [], ◌∷◌}
 use Rattle.std.proofs.Common.{◌-◌, ◌++◌, refl, sym, ap, subst, ◌∙◌, arith, append_assoc}
-use Rattle.std.specs.Prelude.{flat_map}
+use Rattle.std.specs.Prelude.{Some, flat_map, slice_get}
 use Rattle.std.specs.List.{range_with_len}
 use Rattle.std.proofs.Math.Nat.{eq-or-lt_of_le}
 use Rattle.std.proofs.lemmas.List.{append-nil, length-map}
@@ -20,7 +20,7 @@ use Rattle.sixel_models.specs.declared.reading.Reads.TheVariants.{Draws}
 use Rattle.sixel_terminal.specs.Stretches.{sixels_of}
 use Rattle.sixel_models.proofs.CourseLemmas.{course_push, stays_stopped}
 use Rattle.sixel_models.proofs.PlainLemmas.{first_before}
-use Rattle.sixel_models.specs.Courses.{AreDrawn, HasEnded, HasStopped, IsAt, IsCourse, SaidBelow, next_course}
+use Rattle.sixel_models.specs.Courses.{AreDrawn, AreSixels, HasEnded, HasStopped, IsAt, IsCourse, SaidBelow, next_course}
 use Rattle.sixel_models.specs.Modelled.{ComesBy, EndsAtPlace, HasDrawnBelow, HasEndedAt, HasPlace, IsDrawingOf}
 use Rattle.sixel_models.specs.Modelled.{drawn_below}
 use Rattle.sixel_models.specs.Readings.{IsSaid, Model, StopsNowhereBelow, drawn_by, is_stop, read_at}
@@ -263,6 +263,41 @@ come_sixels m opening placed n bytes Stopped end d after drawn draws keeps come 
       (stopped_sixels m opening (events_of placed) n bytes d drawn come.0 come.1),
 )
 come_sixels m opening placed n bytes Ended end d after drawn draws keeps come = record {
+  ended = record {
+    at = come.ended.at;
+    within = omega (arith, come.ended.within);
+    unsaid = come.ended.unsaid;
+    said = come.ended.said;
+  };
+  has_place = come.has_place;
+}
+
+-- ---- sixels behind a stop
+
+at_sixel : (m : Model) (events : List Event) (n b : ℕ) → slice_get events n ≡ Some (Step (Sixel (b - 63)))
+    → IsAt m events n (Step (Sixel (b - 63))) (read_at m events n)
+at_sixel m events n b here = record { here = here; reads_are = refl }
+
+stopped_past : (m : Model) (opening events : List Event) (n : ℕ) (bytes : List ℕ) (d : Drawn)
+    → AreSixels events n bytes → HasStopped m events n → HasDrawnBelow m opening events n d
+    → HasStopped m events (n + length bytes) × HasDrawnBelow m opening events (n + length bytes) d
+stopped_past m opening events n [] d are s h = (
+  not_further (λ k. HasStopped m events k) n s,
+  not_further (λ k. HasDrawnBelow m opening events k d) n h,
+)
+stopped_past m opening events n (b ∷ bs) d are s h =
+    let next : HasStopped m events (suc n) =
+    stays_stopped (Step (Sixel (b - 63))) (read_at m events n) (at_sixel m events n b are.0) refl s in
+    further (λ k. HasStopped m events k × HasDrawnBelow m opening events k d) n (length bs)
+    (stopped_past m opening events (suc n) bs d are.1 next (stops_on m opening events n d next h))
+
+pub come_past : (m : Model) (opening : List Event) (placed : List Placed) (n : ℕ) (bytes : List ℕ) (c : Course)
+    (end : ℕ) (d : Drawn) → (c ≡ Goes → ⊥) → AreSixels (events_of placed) n bytes → ComesBy m opening placed n c end d
+    → ComesBy m opening placed (n + length bytes) c end d
+come_past m opening placed n bytes Goes end d over are come = absurd (over refl)
+come_past m opening placed n bytes Stopped end d over are come =
+    stopped_past m opening (events_of placed) n bytes d are come.0 come.1
+come_past m opening placed n bytes Ended end d over are come = record {
   ended = record {
     at = come.ended.at;
     within = omega (arith, come.ended.within);

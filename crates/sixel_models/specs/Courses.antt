@@ -45,6 +45,12 @@ AreDrawn m events n [] = ⊤
 AreDrawn m events n (byte ∷ bytes) =
     IsAt m events n (Step (Sixel (byte - 63))) (Draws (Sixel (byte - 63))) × AreDrawn m events (suc n) bytes
 
+-- these sixels are the events at the positions from n on
+abbrev pub AreSixels : List Event → ℕ → List ℕ → Type 0
+AreSixels events n [] = ⊤
+AreSixels events n (byte ∷ bytes) =
+    (slice_get events n ≡ Some (Step (Sixel (byte - 63)))) × AreSixels events (suc n) bytes
+
 -- ---- the course with one more event. Only the contract of a private function cites these
 
 abbrev pub course_by : Reads → Course

@@ -15,9 +15,9 @@ ghost use Rattle.sixel_models.specs.Modelled.{opening_of};
 ghost use Rattle.sixel_models.specs.Named.{model_of};
 
 use crate::konsole::{moves_or_ends, waits};
-use crate::modelled::{same, sixel};
 use crate::named::Named;
 use crate::rectangle::KonsoleMeasure;
+use crate::words::{same, sixel};
 use sixel_grammar::{Command, Event, Follower, Placed};
 use std::convert::Infallible;
 

@@ -1,11 +1,11 @@
 //! Draws what a model makes of a document, while the document is read.
 
-ghost use Rattle.std.specs.Prelude.{◌≡◌, ◌<◌, ◌≤◌, ◌+◌, ◌-◌, ◌++◌, ◌∷◌, [], ℕ, IfOk, IsTrue, List, None, Option};
+ghost use Rattle.std.specs.Prelude.{◌≡◌, ◌<◌, ◌≤◌, ◌+◌, ◌++◌, ◌∷◌, [], ℕ, IfOk, IsTrue, List, None, Option};
 ghost use Rattle.std.specs.Prelude.{Some, length, slice_index, take, true};
 ghost use Rattle.sixel_grammar.specs.Bytes.{is_data};
 ghost use Rattle.sixel_grammar.specs.Document.{most_bytes};
 ghost use Rattle.sixel_grammar.specs.Stretches.{sixels_from};
-ghost use Rattle.sixel_grammar.specs.declared.command.Command.TheVariants.{Repeat, Select, Sixel};
+ghost use Rattle.sixel_grammar.specs.declared.command.Command.TheVariants.{Repeat, Select};
 ghost use Rattle.sixel_grammar.specs.declared.command.Event.{Event as AnEvent};
 ghost use Rattle.sixel_grammar.specs.declared.command.Event.TheVariants.{Step};
 ghost use Rattle.sixel_grammar.specs.declared.command.Placed.{Placed as Place};
@@ -18,7 +18,7 @@ ghost use Rattle.sixel_models.specs.Readings.{ArePlain, Model as AModel, is_unsa
 use crate::progress::Progress;
 use crate::reading::{Reading, Reads};
 use crate::waiting::Waiting;
-use arrayvec::ArrayVec;
+use crate::words::{same, sixel};
 use sixel_grammar::{Command, Event, Follower, Placed};
 use sixel_terminal::Drawing;
 use std::convert::Infallible;
@@ -53,34 +53,6 @@ pub struct Modelled<R> {
     place: u64,
     progress: Progress,
     controls: UnsaidControls,
-}
-
-/// An introducer with these parameters.
-fn introducer(eight: bool, from: &ArrayVec<u16, 3>) -> Event
-    ensures { result ≡ Event.Start eight from.now }
-{
-    let mut parameters = ArrayVec::new();
-    let _ = parameters.try_extend_from_slice(from.as_slice());
-    Event::Start { eight, parameters }
-}
-
-/// The same event.
-pub(crate) fn same(event: &Event) -> Event
-    ensures { result ≡ event.now }
-{
-    match event {
-        Event::Start { eight, parameters } => introducer(*eight, parameters),
-        Event::Step(command) => Event::Step(*command),
-        Event::Finish { eight } => Event::Finish { eight: *eight },
-    }
-}
-
-/// The sixel of a data byte.
-pub(crate) fn sixel(byte: u8) -> Event
-    requires { IsTrue (is_data byte) }
-    ensures { result ≡ Step (Sixel (byte - 63)) }
-{
-    Event::Step(Command::Sixel(byte - b'?'))
 }
 
 impl<R: Reading> Modelled<R> {
@@ -314,8 +286,12 @@ impl<R: Reading> Modelled<R> {
             (before ++ first_at place bytes.now)
             → HasFollowed R.model R.has_seen self.new opening (before ++ sixels_from place bytes.now) }
     {
-        self.add(place, sixel(bytes[0]));
-        self.push_each(place + 1, &bytes[1..]);
+        if self.progress.is_over() {
+            self.waiting.reading.note_sixels(bytes)
+        } else {
+            self.add(place, sixel(bytes[0]));
+            self.push_each(place + 1, &bytes[1..])
+        }
     }
 
     /// The same, where all are drawn as they are.
@@ -374,17 +350,6 @@ impl<R: Reading> Modelled<R> {
         }
     }
 
-    /// Whether none waits, and this repeat, if it comes next, is drawn as it is.
-    #[inline(always)]
-    fn draws_repeat(&self, count: u16, bits: u8) -> bool
-        ensures none { result ≡ true → self.now.waiting.pending ≡ None }
-        ensures plain { result ≡ true → (before : List AnEvent) (next : Option AnEvent)
-            → R.has_seen self.now.waiting.reading before
-            → R.model.rule before (Step (Repeat count bits)) next ≡ Draws (Repeat count bits) }
-    {
-        self.waiting.pending.is_none() && self.waiting.reading.is_plain_repeat(count, bits)
-    }
-
     /// Takes a repeat with its offset, where none waits and it is drawn as it is.
     #[inline(always)]
     fn push_plain_repeat(&mut self, place: u64, count: u16, bits: u8)
@@ -394,7 +359,8 @@ impl<R: Reading> Modelled<R> {
             → R.model.rule before (Step (Repeat count bits)) next ≡ Draws (Repeat count bits) }
         ensures terminal { self.new.progress.drawing.terminal ≡ self.old.progress.drawing.terminal }
         ensures followed { (opening : List AnEvent) (before : List Place)
-            → HasFollowed R.model R.has_seen self.old opening before
+            → HasFollowed R.model R.has_seen (with_waiting self.old place (Step (Repeat count bits))) opening
+            (before ++ placed_at place (Step (Repeat count bits)) ∷ [])
             → HasFollowed R.model R.has_seen self.new opening
             (before ++ placed_at place (Step (Repeat count bits)) ∷ []) }
     {
@@ -403,7 +369,21 @@ impl<R: Reading> Modelled<R> {
         self.progress.read(place, false, reads);
     }
 
-    /// Takes any repeat, with its offset.
+    /// Takes a repeat with its offset, where none waits.
+    #[inline(never)]
+    fn add_repeat(&mut self, place: u64, count: u16, bits: u8)
+        requires { self.old.waiting.pending ≡ None }
+        ensures terminal { self.new.progress.drawing.terminal ≡ self.old.progress.drawing.terminal }
+        ensures followed { (opening : List AnEvent) (before : List Place)
+            → HasFollowed R.model R.has_seen (with_waiting self.old place (Step (Repeat count bits))) opening
+            (before ++ placed_at place (Step (Repeat count bits)) ∷ [])
+            → HasFollowed R.model R.has_seen self.new opening
+            (before ++ placed_at place (Step (Repeat count bits)) ∷ []) }
+    {
+        self.add(place, Event::Step(Command::Repeat { count, bits }));
+    }
+
+    /// Takes any repeat, with its offset. It is fast for one that is drawn as it is.
     #[inline(never)]
     fn push_repeat(&mut self, place: u64, count: u16, bits: u8)
         ensures terminal { self.new.progress.drawing.terminal ≡ self.old.progress.drawing.terminal }
@@ -412,10 +392,15 @@ impl<R: Reading> Modelled<R> {
             → HasFollowed R.model R.has_seen self.new opening
             (before ++ placed_at place (Step (Repeat count bits)) ∷ []) }
     {
-        self.push(place, Event::Step(Command::Repeat { count, bits }));
+        self.settle_behind(&Event::Step(Command::Repeat { count, bits }));
+        if self.waiting.reading.is_plain_repeat(count, bits) {
+            self.push_plain_repeat(place, count, bits);
+        } else {
+            self.add_repeat(place, count, bits);
+        }
     }
 
-    /// The same, and fast for one without a set bit that is drawn as it is. Most long repeats are blank.
+    /// The same, and faster for one without a set bit, where none waits. Most long repeats are blank.
     #[inline(always)]
     fn push_blank_or_other(&mut self, place: u64, count: u16, bits: u8)
         ensures terminal { self.new.progress.drawing.terminal ≡ self.old.progress.drawing.terminal }
@@ -424,7 +409,10 @@ impl<R: Reading> Modelled<R> {
             → HasFollowed R.model R.has_seen self.new opening
             (before ++ placed_at place (Step (Repeat count bits)) ∷ []) }
     {
-        if bits % 64 == 0 && self.draws_repeat(count, bits) {
+        if bits % 64 == 0
+            && self.waiting.pending.is_none()
+            && self.waiting.reading.is_plain_repeat(count, bits)
+        {
             self.push_plain_repeat(place, count, bits);
         } else {
             self.push_repeat(place, count, bits);

@@ -1,14 +1,14 @@
 //! How far a model has come in a document, and what is drawn of it.
 
 ghost use Rattle.std.specs.Prelude.{◌≡◌, ◌<◌, ◌+◌, ◌++◌, [], ℕ, IfOk, IsTrue, List, None, Some, length, slice_index};
-ghost use Rattle.std.specs.Prelude.{suc};
+ghost use Rattle.std.specs.Prelude.{suc, true};
 ghost use Rattle.sixel_grammar.specs.Bytes.{is_data};
 ghost use Rattle.sixel_grammar.specs.declared.command.Event.{Event as AnEvent};
 ghost use Rattle.sixel_grammar.specs.declared.command.Placed.{Placed as Place};
 ghost use Rattle.sixel_grammar.specs.Document.{events_of};
 ghost use Rattle.sixel_terminal.specs.Drawings.{HasDrawn};
 ghost use Rattle.sixel_models.specs.declared.reading.Reads.{Reads as ReadsValue};
-ghost use Rattle.sixel_models.specs.Courses.{AreDrawn, IsAt};
+ghost use Rattle.sixel_models.specs.Courses.{AreDrawn, AreSixels, IsAt};
 ghost use Rattle.sixel_models.specs.Modelled.{HasCome, HasPlace, ModelGives, opening_of};
 ghost use Rattle.sixel_models.specs.Readings.{Model as AModel, drawn_by, is_unsaid_control};
 
@@ -137,6 +137,19 @@ impl Progress {
         match self.course {
             Course::Goes => self.drawing.push_stretch(bytes),
             Course::Stopped | Course::Ended => {}
+        }
+    }
+
+    /// Whether nothing is drawn of sixels that come next, whatever they are: the model has stopped or ended.
+    #[inline(always)]
+    pub(crate) fn is_over(&self) -> bool
+        ensures { result ≡ true → (m : AModel) (opening : List AnEvent) (placed : List Place) (n : ℕ)
+            (bytes : List ℕ) → AreSixels (events_of placed) n bytes → HasCome m opening placed n self.now
+            → HasCome m opening placed (n + length bytes) self.now }
+    {
+        match self.course {
+            Course::Goes => false,
+            Course::Stopped | Course::Ended => true,
         }
     }
 

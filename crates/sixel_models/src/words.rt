@@ -1,15 +1,46 @@
 //! What several terminals ask of events.
 
-ghost use Rattle.std.specs.Prelude.{◌≡◌, ◌<◌, ℕ, IsTrue, is_some, length, slice_index};
+ghost use Rattle.std.specs.Prelude.{◌≡◌, ◌<◌, ◌-◌, ℕ, IsTrue, is_some, length, slice_index};
 ghost use Rattle.std.specs.List.{list_any};
 ghost use Rattle.sixel_grammar.specs.Bytes.{is_data};
+ghost use Rattle.sixel_grammar.specs.declared.command.Command.TheVariants.{Sixel};
+ghost use Rattle.sixel_grammar.specs.declared.command.Event.TheVariants.{Step};
 ghost use Rattle.sixel_model.specs.Events as said;
 ghost use Rattle.sixel_terminal.specs.Stretches.{sixels_of};
 ghost use Rattle.sixel_models.specs.Words.{defining as defining_command, kept as kept_command, nearest, second_of};
 ghost use Rattle.sixel_models.specs.Words.{upper};
 
+use arrayvec::ArrayVec;
 use sixel_grammar::{Command, Event};
 use sixel_model::{BAND_ROWS, Colour, Parts};
+
+/// An introducer with these parameters.
+fn introducer(eight: bool, from: &ArrayVec<u16, 3>) -> Event
+    ensures { result ≡ Event.Start eight from.now }
+{
+    let mut parameters = ArrayVec::new();
+    let _ = parameters.try_extend_from_slice(from.as_slice());
+    Event::Start { eight, parameters }
+}
+
+/// The same event.
+pub(crate) fn same(event: &Event) -> Event
+    ensures { result ≡ event.now }
+{
+    match event {
+        Event::Start { eight, parameters } => introducer(*eight, parameters),
+        Event::Step(command) => Event::Step(*command),
+        Event::Finish { eight } => Event::Finish { eight: *eight },
+    }
+}
+
+/// The sixel of a data byte.
+pub(crate) fn sixel(byte: u8) -> Event
+    requires { IsTrue (is_data byte) }
+    ensures { result ≡ Step (Sixel (byte - 63)) }
+{
+    Event::Step(Command::Sixel(byte - b'?'))
+}
 
 /// The second parameter, if the event is an introducer. 0 if the parameter is missing.
 #[inline(always)]

@@ -4,7 +4,7 @@ use Rattle.sixel_grammar.specs.declared.command.Event.{Event}
 use Rattle.sixel_grammar.specs.declared.command.Event.TheVariants.{Step}
 use Rattle.sixel_grammar.specs.Document.{events_of}
 use Rattle.sixel_models.specs.Courses.{IsAt}
-use Rattle.sixel_models.proofs.ModelledLemmas.{follows_none, follows_now}
+use Rattle.sixel_models.proofs.ModelledLemmas.{follows_now}
 use Rattle.sixel_models.proofs.modelled.Modelled.push_plain_repeat.Goals as goal
 
 pub returns-clause-followed : goal.returns-clause-followed
@@ -17,4 +17,4 @@ returns-clause-followed g c = λ opening before h.
     (λ es seen controls first placed n at has come.
     c.read.ensures.come m first placed n repeat
     (subst (IsAt m (events_of placed) n repeat) (c.requires.plain es None seen) at) refl has come)
-    (follows_none m g.R.Reading.has_seen c.args.self.now opening before c.args.place repeat c.requires.none h)
+    h
