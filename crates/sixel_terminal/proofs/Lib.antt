@@ -14,6 +14,7 @@ pub mod DrawLemmas
 pub mod DrawnLemmas
 pub mod StretchLemmas
 pub mod SixelLemmas
+pub mod BlankLemmas
 pub mod PlainLemmas
 pub mod ClipLemmas
 pub mod FollowLemmas

@@ -8,6 +8,7 @@ pub mod Steps
 pub mod Standing
 pub mod Screens
 pub mod Stretches
+pub mod Blanks
 pub mod Drawings
 pub mod Laws
 pub mod Starts

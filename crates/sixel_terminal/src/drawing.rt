@@ -7,6 +7,7 @@ ghost use Rattle.sixel_grammar.specs.declared.command.Event.{Event as AnEvent};
 ghost use Rattle.sixel_grammar.specs.declared.command.Event.TheVariants.{Step};
 ghost use Rattle.sixel_grammar.specs.Bytes.{is_data};
 ghost use Rattle.sixel_model.specs.Events.{is_eight_bit};
+ghost use Rattle.sixel_terminal.specs.Blanks.{AreBlank};
 ghost use Rattle.sixel_terminal.specs.Drawing.{screen_on};
 ghost use Rattle.sixel_terminal.specs.Drawings.{HasDrawn};
 ghost use Rattle.sixel_terminal.specs.Stretches.{sixels_of};
@@ -126,6 +127,25 @@ impl Drawing {
         for byte in bytes {
             self.push(&Event::Step(Command::Sixel(byte - b'?')));
         }
+    }
+
+    /// How many columns a repeat of 0 paints: 0 or 1.
+    #[inline(always)]
+    pub fn zero_columns(&self) -> u8
+        ensures { result ≡ self.now.terminal.choices.zero }
+    {
+        self.terminal.zero_columns()
+    }
+
+    /// Draws data commands that paint nothing, of so many columns together. It takes no longer for many than for one.
+    #[inline(always)]
+    pub fn push_blanks(&mut self, columns: usize)
+        ensures terminal { self.new.terminal ≡ self.old.terminal }
+        ensures drawn { (before blanks : List AnEvent)
+            → AreBlank self.old.terminal.choices.zero columns blanks → HasDrawn self.old before
+            → HasDrawn self.new (before ++ blanks) }
+    {
+        self.pen = self.terminal.past_blanks(self.pen, columns);
     }
 
     /// Draws raster attributes before all events, which give the terminal's own ratio, and a box of this width and

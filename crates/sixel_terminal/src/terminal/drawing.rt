@@ -6,10 +6,12 @@ ghost use Rattle.std.specs.List.{list_any};
 ghost use Rattle.sixel_grammar.specs.declared.command.Event.{Event};
 ghost use Rattle.sixel_grammar.specs.Bytes.{is_data};
 ghost use Rattle.sixel_grammar.specs.Document.{events_of};
+ghost use Rattle.sixel_model.specs.declared.colour.Parts.{Parts};
 ghost use Rattle.sixel_model.specs.Events.{is_eight_bit};
 ghost use Rattle.sixel_terminal.specs.declared.pen.Pen.{Pen as APen};
 ghost use Rattle.sixel_terminal.specs.declared.pixel.Ink.{Ink as AnInk};
 ghost use Rattle.sixel_terminal.specs.declared.pixel.Ink.TheVariants.{Fixed};
+ghost use Rattle.sixel_terminal.specs.Blanks.{AreBlank};
 ghost use Rattle.sixel_terminal.specs.Canvases.{black};
 ghost use Rattle.sixel_terminal.specs.Drawing.{screen_on};
 ghost use Rattle.sixel_terminal.specs.Screens.{IsAllFixed, colour_in_ink};
@@ -147,6 +149,25 @@ impl Terminal {
         let ink = self.ink(colours, pen.selected);
         self.paint_stretch(pen, bytes, &ink, inks);
         Some(pen.moved(bytes.len()).column)
+    }
+
+    /// How many columns a repeat of 0 paints.
+    #[inline(always)]
+    pub(crate) fn zero_columns(&self) -> u8
+        ensures { result ≡ self.now.choices.zero }
+    {
+        self.choices.zero
+    }
+
+    /// The pen after data commands that paint nothing, of so many columns together.
+    #[inline(always)]
+    pub(crate) fn past_blanks(&self, pen: Pen, columns: usize) -> Pen
+        ensures { (before blanks : List Event) (colours : List Parts) (inks : List AnInk)
+            → AreBlank self.now.choices.zero columns blanks → StandsAfter self.now before pen colours inks
+            → StandsAfter self.now (before ++ blanks) result colours inks }
+    {
+        let _ = &self.choices;
+        pen.moved(columns)
     }
 
     /// Gives each pixel the colour that it shows after the events. `has_eight_bit` says whether one of them is an 8-bit
