@@ -15,6 +15,7 @@ pub mod AloneLemmas
 pub mod CourseLemmas
 pub mod ProgressLemmas
 pub mod ModelledLemmas
+pub mod CutLemmas
 pub mod NamedLemmas
 pub mod ShowingLemmas
 pub mod AtOnceLemmas

@@ -31,13 +31,13 @@ get_there : {A : Type 0} (before rest : List A) (x : A) → slice_get (before ++
 get_there [] rest x = refl
 get_there (b ∷ bs) rest x = get_there bs rest x
 
-events_then : (seen more : List Placed) → events_of (seen ++ more) ≡ events_of seen ++ events_of more
+pub events_then : (seen more : List Placed) → events_of (seen ++ more) ≡ events_of seen ++ events_of more
 events_then seen more = map-append (λ (p : Placed). p.event) seen more
 
 same_length : (placed : List Placed) → length (events_of placed) ≡ length placed
 same_length placed = length-map placed (λ (p : Placed). p.event)
 
-is_at : (m : Model) (before rest : List Placed) (q : Placed) (reads : Reads)
+pub is_at : (m : Model) (before rest : List Placed) (q : Placed) (reads : Reads)
     → reads ≡ m.rule (events_of before) q.event (slice_get (events_of rest) 0)
     → IsAt m (events_of (before ++ q ∷ rest)) (length before) q.event reads
 is_at m before rest q reads is =
@@ -150,6 +150,38 @@ none_waits : {R : Type 0} (w : Modelled R) (placed : List Placed) → w.waiting.
 none_waits w placed none =
     sym (append-nil placed) ∙ ap (λ (o : Option Event). placed ++ waits_for w.place o) (sym none)
 
+-- these came last, the first of them before the others; they are read, and none waits
+pub follows_read : {R : Type 0} (m : Model) (has_seen : R → List Event → Type 0) (w : Modelled R)
+    (opening : List Event) (before : List Placed) (place : ℕ) (event : Event) (more : List Placed) (reading : R)
+    (p : Progress) → w.waiting.pending ≡ None
+    → ((es : List Event) → has_seen w.waiting.reading es → has_seen reading (es ++ event ∷ events_of more))
+    → (has_seen w.waiting.reading (events_of before) → AreUnsaidBy m w.controls → (later : List Placed)
+    → HasCome m opening (before ++ placed_at place event ∷ (more ++ later)) (length before) w.progress
+    → HasCome m opening (before ++ placed_at place event ∷ (more ++ later)) (length before + suc (length more)) p)
+    → HasFollowed m has_seen (with_waiting w place event) opening (before ++ placed_at place event ∷ [])
+    → HasFollowed m has_seen (with_read w reading p) opening (before ++ placed_at place event ∷ more)
+follows_read m has_seen w opening before place event more reading p none reads comes h =
+    let q : Placed = placed_at place event in
+    let read : h.read ≡ before = append_cancel_right h.read before (q ∷ []) (sym h.are) in
+    let seen : has_seen w.waiting.reading (events_of before) =
+    subst (λ (ps : List Placed). has_seen w.waiting.reading (events_of ps)) read h.seen in
+    record {
+      controls = h.controls;
+      read = before ++ q ∷ more;
+      are = none_waits w (before ++ q ∷ more) none;
+      seen = subst (has_seen reading) (sym (events_then before (q ∷ more))) (reads (events_of before) seen);
+      come = λ later.
+          let all : List Placed = before ++ q ∷ (more ++ later) in
+          let old : HasCome m opening all (length before) w.progress =
+          subst (λ (ps : List Placed). HasCome m opening all (length ps) w.progress) read
+          (subst (λ (ps : List Placed). HasCome m opening ps (length h.read) w.progress)
+          (append_assoc before (q ∷ []) (more ++ later)) (h.come (more ++ later))) in
+          subst (λ (ps : List Placed). HasCome m opening ps (length (before ++ q ∷ more)) p)
+          (sym (append_assoc before (q ∷ more) later))
+          (subst (λ (n : ℕ). HasCome m opening all n p) (sym (length-append before (q ∷ more)))
+          (comes seen h.controls later old));
+    }
+
 -- the event that came last is read, and none waits
 pub follows_now : {R : Type 0} (m : Model) (has_seen : R → List Event → Type 0) (w : Modelled R)
     (opening : List Event) (before : List Placed) (place : ℕ) (event : Event) (reading : R) (p : Progress)
@@ -164,27 +196,14 @@ pub follows_now : {R : Type 0} (m : Model) (has_seen : R → List Event → Type
     → HasFollowed m has_seen (with_read w reading p) opening (before ++ placed_at place event ∷ [])
 follows_now m has_seen w opening before place event reading p none alone reads comes h =
     let q : Placed = placed_at place event in
-    let read : h.read ≡ before = append_cancel_right h.read before (q ∷ []) (sym h.are) in
-    let seen : has_seen w.waiting.reading (events_of before) =
-    subst (λ (ps : List Placed). has_seen w.waiting.reading (events_of ps)) read h.seen in
-    record {
-      controls = h.controls;
-      read = before ++ q ∷ [];
-      are = none_waits w (before ++ q ∷ []) none;
-      seen = subst (has_seen reading) (sym (events_then before (q ∷ []))) (reads (events_of before) seen);
-      come = λ later.
-          let all : (before ++ q ∷ []) ++ later ≡ before ++ q ∷ later = append_assoc before (q ∷ []) later in
-          let old : HasCome m opening (before ++ q ∷ later) (length before) w.progress =
-          subst (λ (ps : List Placed). HasCome m opening (before ++ q ∷ later) (length ps) w.progress) read
-          (subst (λ (ps : List Placed). HasCome m opening ps (length h.read) w.progress) all (h.come later)) in
-          let long : suc (length before) ≡ length (before ++ q ∷ []) =
-          sym (length-append before (q ∷ []) ∙ omega arith) in
-          subst (λ (ps : List Placed). HasCome m opening ps (length (before ++ q ∷ [])) p) (sym all)
-          (subst (λ (n : ℕ). HasCome m opening (before ++ q ∷ later) n p) long
-          (comes (events_of before) seen h.controls opening (before ++ q ∷ later) (length before)
-          (is_at m before later q _ (sym (alone (events_of before) (slice_get (events_of later) 0) seen)))
-          (has_place before later q) old));
-    }
+    let next : suc (length before) ≡ length before + 1 = omega arith in
+    follows_read m has_seen w opening before place event [] reading p none reads
+    (λ seen controls later old.
+    subst (λ (n : ℕ). HasCome m opening (before ++ q ∷ later) n p) next
+    (comes (events_of before) seen controls opening (before ++ q ∷ later) (length before)
+    (is_at m before later q _ (sym (alone (events_of before) (slice_get (events_of later) 0) seen)))
+    (has_place before later q) old))
+    h
 
 -- ---- at the end
 
@@ -281,8 +300,8 @@ sixels_length : (place : ℕ) (bytes : List ℕ) → length (sixels_from place b
 sixels_length place [] = refl
 sixels_length place (b ∷ bs) = ap suc (sixels_length (place + 1) bs)
 
--- these sixels came last; they are read, and none waits
-follows_read : {R : Type 0} (m : Model) (has_seen : R → List Event → Type 0) (w : Modelled R)
+-- the first of these sixels came last; they are read, and none waits
+pub follows_sixels_read : {R : Type 0} (m : Model) (has_seen : R → List Event → Type 0) (w : Modelled R)
     (opening : List Event) (before : List Placed) (place b : ℕ) (bs : List ℕ) (reading : R) (p : Progress)
     → w.waiting.pending ≡ None
     → ((es : List Event) → has_seen w.waiting.reading es → has_seen reading (es ++ sixels_of (b ∷ bs)))
@@ -292,34 +311,14 @@ follows_read : {R : Type 0} (m : Model) (has_seen : R → List Event → Type 0)
     → HasFollowed m has_seen (with_waiting w place (Step (Sixel (b - 63)))) opening
     (before ++ placed_at place (Step (Sixel (b - 63))) ∷ [])
     → HasFollowed m has_seen (with_read w reading p) opening (before ++ sixels_from place (b ∷ bs))
-follows_read m has_seen w opening before place b bs reading p none reads comes h =
-    let q : Placed = placed_at place (Step (Sixel (b - 63))) in
-    let read : h.read ≡ before = append_cancel_right h.read before (q ∷ []) (sym h.are) in
-    let seen : has_seen w.waiting.reading (events_of before) =
-    subst (λ (ps : List Placed). has_seen w.waiting.reading (events_of ps)) read h.seen in
-    let events : events_of (before ++ sixels_from place (b ∷ bs)) ≡ events_of before ++ sixels_of (b ∷ bs) =
-    events_then before (sixels_from place (b ∷ bs))
-    ∙ ap (λ (es : List Event). events_of before ++ es) (sixels_events place (b ∷ bs)) in
-    record {
-      controls = h.controls;
-      read = before ++ sixels_from place (b ∷ bs);
-      are = none_waits w (before ++ sixels_from place (b ∷ bs)) none;
-      seen = subst (has_seen reading) (sym events) (reads (events_of before) seen);
-      come = λ later.
-          let rest : List Placed = sixels_from (place + 1) bs ++ later in
-          let after : (before ++ sixels_from place (b ∷ bs)) ++ later ≡ before ++ q ∷ rest =
-          append_assoc before (sixels_from place (b ∷ bs)) later in
-          let old : HasCome m opening (before ++ q ∷ rest) (length before) w.progress =
-          subst (λ (ps : List Placed). HasCome m opening (before ++ q ∷ rest) (length ps) w.progress) read
-          (subst (λ (ps : List Placed). HasCome m opening ps (length h.read) w.progress)
-          (append_assoc before (q ∷ []) rest) (h.come rest)) in
-          let long : length before + length (b ∷ bs) ≡ length (before ++ sixels_from place (b ∷ bs)) =
-          ap (λ (k : ℕ). length before + k) (sym (sixels_length place (b ∷ bs)))
-          ∙ sym (length-append before (sixels_from place (b ∷ bs))) in
-          subst (λ (ps : List Placed). HasCome m opening ps (length (before ++ sixels_from place (b ∷ bs))) p)
-          (sym after)
-          (subst (λ (k : ℕ). HasCome m opening (before ++ q ∷ rest) k p) long (comes seen later old));
-    }
+follows_sixels_read m has_seen w opening before place b bs reading p none reads comes h =
+    follows_read m has_seen w opening before place (Step (Sixel (b - 63))) (sixels_from (place + 1) bs) reading p none
+    (λ es seen.
+    subst (λ (more : List Event). has_seen reading (es ++ more)) (sym (sixels_events place (b ∷ bs))) (reads es seen))
+    (λ seen controls later old.
+    subst (λ (n : ℕ). HasCome m opening (before ++ (sixels_from place (b ∷ bs) ++ later)) (length before + n) p)
+    (sym (sixels_length place (b ∷ bs))) (comes seen later old))
+    h
 
 -- the first of these sixels came last; they are drawn as they are, and none waits
 pub follows_plain : {R : Type 0} (m : Model) (has_seen : R → List Event → Type 0) (w : Modelled R)
@@ -333,7 +332,7 @@ pub follows_plain : {R : Type 0} (m : Model) (has_seen : R → List Event → Ty
     (before ++ placed_at place (Step (Sixel (b - 63))) ∷ [])
     → HasFollowed m has_seen (with_read w reading p) opening (before ++ sixels_from place (b ∷ bs))
 follows_plain m has_seen w opening before place b bs n reading p none plain enough reads draws h =
-    follows_read m has_seen w opening before place b bs reading p none reads
+    follows_sixels_read m has_seen w opening before place b bs reading p none reads
     (λ seen later old.
     draws opening (before ++ (sixels_from place (b ∷ bs) ++ later)) (length before)
     (plain_drawn m before place (b ∷ bs) later
@@ -368,7 +367,7 @@ pub follows_past : {R : Type 0} (m : Model) (has_seen : R → List Event → Typ
     → HasFollowed m has_seen (with_read w reading w.progress) opening (before ++ sixels_from place bytes)
 follows_past m has_seen w opening before place [] reading some none reads stays h = absurd (omega (arith, some))
 follows_past m has_seen w opening before place (b ∷ bs) reading some none reads stays h =
-    follows_read m has_seen w opening before place b bs reading w.progress none reads
+    follows_sixels_read m has_seen w opening before place b bs reading w.progress none reads
     (λ seen later old.
     stays opening (before ++ (sixels_from place (b ∷ bs) ++ later)) (length before)
     (sixels_there m before place (b ∷ bs) later) old)

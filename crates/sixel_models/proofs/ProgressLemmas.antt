@@ -6,7 +6,6 @@ use Rattle.std.specs.List.{range_with_len}
 use Rattle.std.proofs.Math.Nat.{eq-or-lt_of_le}
 use Rattle.std.proofs.lemmas.List.{append-nil, length-map}
 use Rattle.std.proofs.lemmas.List.Concat.{flat_map-append}
-use Rattle.sixel_grammar.specs.declared.command.Command.{Command}
 use Rattle.sixel_grammar.specs.declared.command.Command.TheVariants.{Sixel}
 use Rattle.sixel_grammar.specs.declared.command.Event.{Event}
 use Rattle.sixel_grammar.specs.declared.command.Event.TheVariants.{Step}
@@ -16,14 +15,15 @@ use Rattle.sixel_terminal.specs.Drawings.{Drawn, HasDrawn}
 use Rattle.sixel_models.specs.declared.course.Course.{Course}
 use Rattle.sixel_models.specs.declared.course.Course.TheVariants.{Goes, Stopped, Ended}
 use Rattle.sixel_models.specs.declared.reading.Reads.{Reads}
-use Rattle.sixel_models.specs.declared.reading.Reads.TheVariants.{Draws}
+use Rattle.sixel_models.specs.declared.reading.Reads.TheVariants.{Nothing, Draws, DrawsTwo, Stops, Unsaid}
 use Rattle.sixel_terminal.specs.Stretches.{sixels_of}
 use Rattle.sixel_models.proofs.CourseLemmas.{course_push, stays_stopped}
-use Rattle.sixel_models.proofs.PlainLemmas.{first_before}
-use Rattle.sixel_models.specs.Courses.{AreDrawn, AreSixels, HasEnded, HasStopped, IsAt, IsCourse, SaidBelow, next_course}
+use Rattle.sixel_models.specs.Courses.{AreDrawn, AreDrawnAs, AreSixels, HasEnded, HasStopped, IsAt, IsCourse}
+use Rattle.sixel_models.specs.Courses.{SaidBelow, next_course}
 use Rattle.sixel_models.specs.Modelled.{ComesBy, EndsAtPlace, HasDrawnBelow, HasEndedAt, HasPlace, IsDrawingOf}
 use Rattle.sixel_models.specs.Modelled.{drawn_below}
-use Rattle.sixel_models.specs.Readings.{IsSaid, Model, StopsNowhereBelow, drawn_by, is_stop, read_at}
+use Rattle.sixel_models.specs.Readings.{IsSaid, Model, StopsNowhereBelow, carries_on, drawn_by, is_stop}
+use Rattle.sixel_models.specs.Readings.{is_unsaid_control, read_at}
 
 -- ---- before any event
 
@@ -191,88 +191,13 @@ come_ended m opening placed n Ended end d is s = record {
 come_ended m opening placed n Goes end d is s = absurd cc
 come_ended m opening placed n Stopped end d is s = absurd cc
 
--- ---- sixels that are drawn as they are
-
-same_course : (c : Course) (command : Command) → next_course c false (Draws command) ≡ c
-same_course Goes command = refl
-same_course Stopped command = refl
-same_course Ended command = refl
+-- ---- sixels behind a stop
 
 further : (P : ℕ → Type 0) (n k : ℕ) → P (suc n + k) → P (n + suc k)
 further P n k h = subst P (omega arith) h
 
 not_further : (P : ℕ → Type 0) (n : ℕ) → P n → P (n + 0)
 not_further P n h = subst P (omega arith) h
-
-course_sixels : (m : Model) (events : List Event) (n : ℕ) (bytes : List ℕ) (c : Course) → AreDrawn m events n bytes
-    → IsCourse m events n c → IsCourse m events (n + length bytes) c
-course_sixels m events n [] c drawn s = not_further (λ k. IsCourse m events k c) n s
-course_sixels m events n (b ∷ bs) c drawn s =
-    let e : Event = Step (Sixel (b - 63)) in
-    further (λ k. IsCourse m events k c) n (length bs)
-    (course_sixels m events (suc n) bs c drawn.1
-    (subst (IsCourse m events (suc n)) (same_course c (Sixel (b - 63)))
-    (course_push m events n e c false (Draws (Sixel (b - 63))) drawn.0 refl s)))
-
-sixels_below : (m : Model) (opening events : List Event) (n : ℕ) (bytes : List ℕ) → AreDrawn m events n bytes
-    → (opening ++ drawn_below m events n) ++ sixels_of bytes ≡ opening ++ drawn_below m events (n + length bytes)
-sixels_below m opening events n [] drawn =
-    let same : n ≡ n + 0 = omega arith in
-    append-nil (opening ++ drawn_below m events n) ∙ ap (λ (k : ℕ). opening ++ drawn_below m events k) same
-sixels_below m opening events n (b ∷ bs) drawn =
-    let same : suc n + length bs ≡ n + suc (length bs) = omega arith in
-    first_before (opening ++ drawn_below m events n) b bs
-    ∙ (ap (λ (es : List Event). es ++ sixels_of bs)
-    (below_more m opening events n (Draws (Sixel (b - 63))) drawn.0.reads_are)
-    ∙ (sixels_below m opening events (suc n) bs drawn.1
-    ∙ ap (λ (k : ℕ). opening ++ drawn_below m events k) same))
-
-stopped_sixels : (m : Model) (opening events : List Event) (n : ℕ) (bytes : List ℕ) (d : Drawn)
-    → AreDrawn m events n bytes → HasStopped m events n → HasDrawnBelow m opening events n d
-    → HasDrawnBelow m opening events (n + length bytes) d
-stopped_sixels m opening events n [] d drawn s h = not_further (λ k. HasDrawnBelow m opening events k d) n h
-stopped_sixels m opening events n (b ∷ bs) d drawn s h =
-    let next : HasStopped m events (suc n) =
-    stays_stopped (Step (Sixel (b - 63))) (Draws (Sixel (b - 63))) drawn.0 refl s in
-    further (λ k. HasDrawnBelow m opening events k d) n (length bs)
-    (stopped_sixels m opening events (suc n) bs d drawn.1 next (stops_on m opening events n d next h))
-
-pub come_sixels : (m : Model) (opening : List Event) (placed : List Placed) (n : ℕ) (bytes : List ℕ) (c : Course)
-    (end : ℕ) (d after : Drawn) → AreDrawn m (events_of placed) n bytes
-    → (c ≡ Goes → (before : List Event) → HasDrawn d before → HasDrawn after (before ++ sixels_of bytes))
-    → ((c ≡ Goes → ⊥) → after ≡ d) → ComesBy m opening placed n c end d
-    → ComesBy m opening placed (n + length bytes) c end after
-come_sixels m opening placed n bytes Goes end d after drawn draws keeps come =
-    let goes = course_sixels m (events_of placed) n bytes Goes drawn come.0 in
-    let all : come.1.end ≡ n = all_below come.0.0 come.1 in (
-      goes,
-      record {
-        end = n + length bytes;
-        within = omega arith;
-        goes_on = goes.0;
-        stops = λ lt. absurd (omega (arith, lt));
-        drawn = subst (HasDrawn after)
-            (ap (λ (k : ℕ). (opening ++ drawn_below m (events_of placed) k) ++ sixels_of bytes) all
-            ∙ sixels_below m opening (events_of placed) n bytes drawn)
-            (draws refl _ come.1.drawn);
-      },
-    )
-come_sixels m opening placed n bytes Stopped end d after drawn draws keeps come = (
-  course_sixels m (events_of placed) n bytes Stopped drawn come.0,
-  subst (HasDrawnBelow m opening (events_of placed) (n + length bytes)) (sym (keeps (λ h. cc)))
-      (stopped_sixels m opening (events_of placed) n bytes d drawn come.0 come.1),
-)
-come_sixels m opening placed n bytes Ended end d after drawn draws keeps come = record {
-  ended = record {
-    at = come.ended.at;
-    within = omega (arith, come.ended.within);
-    unsaid = come.ended.unsaid;
-    said = come.ended.said;
-  };
-  has_place = come.has_place;
-}
-
--- ---- sixels behind a stop
 
 at_sixel : (m : Model) (events : List Event) (n b : ℕ) → slice_get events n ≡ Some (Step (Sixel (b - 63)))
     → IsAt m events n (Step (Sixel (b - 63))) (read_at m events n)
@@ -306,6 +231,123 @@ come_past m opening placed n bytes Ended end d over are come = record {
   };
   has_place = come.has_place;
 }
+
+-- ---- an event at which the model goes on
+
+same_course : (c : Course) (reads : Reads) → carries_on reads ≡ true → next_course c false reads ≡ c
+same_course Goes Nothing is = refl
+same_course Goes (Draws command) is = refl
+same_course Goes (DrawsTwo first second) is = refl
+same_course Goes Stops is = cc
+same_course Goes Unsaid is = cc
+same_course Stopped reads is = refl
+same_course Ended reads is = refl
+
+course_kept : (m : Model) (events : List Event) (n : ℕ) (e : Event) (reads : Reads) (c : Course)
+    → IsAt m events n e reads → is_unsaid_control m e ≡ false → carries_on reads ≡ true → IsCourse m events n c
+    → IsCourse m events (suc n) c
+course_kept m events n e reads c at said goes s =
+    subst (IsCourse m events (suc n)) (same_course c reads goes)
+    (course_push m events n e c false reads at (sym said) s)
+
+pub come_one : (m : Model) (opening : List Event) (placed : List Placed) (n : ℕ) (e : Event) (reads : Reads)
+    (c : Course) (end : ℕ) (d after : Drawn) → IsAt m (events_of placed) n e reads → is_unsaid_control m e ≡ false
+    → carries_on reads ≡ true
+    → (c ≡ Goes → (before : List Event) → HasDrawn d before → HasDrawn after (before ++ drawn_by reads))
+    → ((c ≡ Goes → ⊥) → after ≡ d) → ComesBy m opening placed n c end d → ComesBy m opening placed (suc n) c end after
+come_one m opening placed n e reads Goes end d after at said goes draws keeps come =
+    let course = course_kept m (events_of placed) n e reads Goes at said goes come.0 in (
+      course,
+      draws_on m opening (events_of placed) n reads d after at.reads_are course.0 (draws refl) come.1,
+    )
+come_one m opening placed n e reads Stopped end d after at said goes draws keeps come =
+    let course = course_kept m (events_of placed) n e reads Stopped at said goes come.0 in (
+      course,
+      subst (HasDrawnBelow m opening (events_of placed) (suc n)) (sym (keeps (λ h. cc)))
+          (stops_on m opening (events_of placed) n d course come.1),
+    )
+come_one m opening placed n e reads Ended end d after at said goes draws keeps come =
+    come_ended m opening placed n Ended end d refl come
+
+-- ---- sixels of which this is drawn
+
+course_drawn : (m : Model) (events : List Event) (n : ℕ) (bytes : List ℕ) (drawn : List Event)
+    → AreDrawnAs m events n bytes drawn → IsCourse m events n Goes → IsCourse m events (n + length bytes) Goes
+course_drawn m events n [] drawn are s = not_further (λ k. IsCourse m events k Goes) n s
+course_drawn m events n (b ∷ bs) drawn are s =
+    further (λ k. IsCourse m events k Goes) n (length bs)
+    (course_drawn m events (suc n) bs are.2 are.4
+    (course_kept m events n (Step (Sixel (b - 63))) (read_at m events n) Goes (at_sixel m events n b are.0) refl are.1 s))
+
+drawn_further : (m : Model) (opening events : List Event) (n : ℕ) (bytes : List ℕ) (drawn : List Event)
+    → AreDrawnAs m events n bytes drawn
+    → (opening ++ drawn_below m events n) ++ drawn ≡ opening ++ drawn_below m events (n + length bytes)
+drawn_further m opening events n [] drawn are =
+    let same : n ≡ n + 0 = omega arith in
+    ap (λ (es : List Event). (opening ++ drawn_below m events n) ++ es) are
+    ∙ (append-nil (opening ++ drawn_below m events n) ∙ ap (λ (k : ℕ). opening ++ drawn_below m events k) same)
+drawn_further m opening events n (b ∷ bs) drawn are =
+    let same : suc n + length bs ≡ n + suc (length bs) = omega arith in
+    let here : List Event = drawn_by (read_at m events n) in
+    ap (λ (es : List Event). (opening ++ drawn_below m events n) ++ es) are.3
+    ∙ (sym (append_assoc (opening ++ drawn_below m events n) here are.2)
+    ∙ (ap (λ (es : List Event). es ++ are.2) (below_more m opening events n (read_at m events n) refl)
+    ∙ (drawn_further m opening events (suc n) bs are.2 are.4
+    ∙ ap (λ (k : ℕ). opening ++ drawn_below m events k) same)))
+
+are_there : (m : Model) (events : List Event) (n : ℕ) (bytes : List ℕ) (drawn : List Event)
+    → AreDrawnAs m events n bytes drawn → AreSixels events n bytes
+are_there m events n [] drawn are = tt
+are_there m events n (b ∷ bs) drawn are = (are.0, are_there m events (suc n) bs are.2 are.4)
+
+pub come_drawn : (m : Model) (opening : List Event) (placed : List Placed) (n : ℕ) (bytes : List ℕ)
+    (drawn : List Event) (c : Course) (end : ℕ) (d after : Drawn) → AreDrawnAs m (events_of placed) n bytes drawn
+    → (c ≡ Goes → (before : List Event) → HasDrawn d before → HasDrawn after (before ++ drawn))
+    → ((c ≡ Goes → ⊥) → after ≡ d) → ComesBy m opening placed n c end d
+    → ComesBy m opening placed (n + length bytes) c end after
+come_drawn m opening placed n bytes drawn Goes end d after are draws keeps come =
+    let goes = course_drawn m (events_of placed) n bytes drawn are come.0 in
+    let all : come.1.end ≡ n = all_below come.0.0 come.1 in (
+      goes,
+      record {
+        end = n + length bytes;
+        within = omega arith;
+        goes_on = goes.0;
+        stops = λ lt. absurd (omega (arith, lt));
+        drawn = subst (HasDrawn after)
+            (ap (λ (k : ℕ). (opening ++ drawn_below m (events_of placed) k) ++ drawn) all
+            ∙ drawn_further m opening (events_of placed) n bytes drawn are)
+            (draws refl _ come.1.drawn);
+      },
+    )
+come_drawn m opening placed n bytes drawn Stopped end d after are draws keeps come =
+    subst (ComesBy m opening placed (n + length bytes) Stopped end) (sym (keeps (λ h. cc)))
+    (come_past m opening placed n bytes Stopped end d (λ h. cc) (are_there m (events_of placed) n bytes drawn are) come)
+come_drawn m opening placed n bytes drawn Ended end d after are draws keeps come =
+    come_past m opening placed n bytes Ended end d (λ h. cc) (are_there m (events_of placed) n bytes drawn are) come
+
+-- ---- sixels that are drawn as they are
+
+as_they_are : (m : Model) (events : List Event) (n : ℕ) (bytes : List ℕ) → AreDrawn m events n bytes
+    → AreDrawnAs m events n bytes (sixels_of bytes)
+as_they_are m events n [] drawn = refl
+as_they_are m events n (b ∷ bs) drawn =
+    let is : read_at m events n ≡ Draws (Sixel (b - 63)) = sym drawn.0.reads_are in (
+      drawn.0.here,
+      ap carries_on is,
+      sixels_of bs,
+      ap (λ (reads : Reads). drawn_by reads ++ sixels_of bs) (sym is),
+      as_they_are m events (suc n) bs drawn.1,
+    )
+
+pub come_sixels : (m : Model) (opening : List Event) (placed : List Placed) (n : ℕ) (bytes : List ℕ) (c : Course)
+    (end : ℕ) (d after : Drawn) → AreDrawn m (events_of placed) n bytes
+    → (c ≡ Goes → (before : List Event) → HasDrawn d before → HasDrawn after (before ++ sixels_of bytes))
+    → ((c ≡ Goes → ⊥) → after ≡ d) → ComesBy m opening placed n c end d
+    → ComesBy m opening placed (n + length bytes) c end after
+come_sixels m opening placed n bytes c end d after drawn draws keeps come =
+    come_drawn m opening placed n bytes (sixels_of bytes) c end d after
+    (as_they_are m (events_of placed) n bytes drawn) draws keeps come
 
 -- ---- at the end
 

@@ -80,7 +80,7 @@ still_filled true e s is = refl
 still_filled false true s is = refl
 still_filled false false s is = is
 
-fills_over : (before : List Event) (bytes : List ℕ) → fills_xterm before ≡ false
+pub fills_over : (before : List Event) (bytes : List ℕ) → fills_xterm before ≡ false
     → fills_xterm (before ++ sixels_of bytes) ≡ false
 fills_over before bytes is =
     rw (data_over before bytes, second_over before bytes)

@@ -1,5 +1,5 @@
 -- How far a model has come in a string.
-use Rattle.std.specs.Prelude.{◌≡◌, ◌<◌, ◌-◌, ℕ, suc, Bool, true, List, [], ◌∷◌, Some, slice_get, if◌then◌else◌, ⊤}
+use Rattle.std.specs.Prelude.{◌≡◌, ◌<◌, ◌-◌, ◌++◌, ℕ, suc, Bool, true, List, [], ◌∷◌, Some, slice_get, if◌then◌else◌, ⊤}
 use Rattle.sixel_grammar.specs.declared.command.Command.TheVariants.{Sixel}
 use Rattle.sixel_grammar.specs.declared.command.Event.{Event}
 use Rattle.sixel_grammar.specs.declared.command.Event.TheVariants.{Step}
@@ -7,7 +7,7 @@ use Rattle.sixel_models.specs.declared.course.Course.{Course}
 use Rattle.sixel_models.specs.declared.course.Course.TheVariants.{Goes, Stopped, Ended}
 use Rattle.sixel_models.specs.declared.reading.Reads.{Reads}
 use Rattle.sixel_models.specs.declared.reading.Reads.TheVariants.{Nothing, Draws, DrawsTwo, Stops, Unsaid}
-use Rattle.sixel_models.specs.Readings.{IsUnsaid, Model, StopsNowhereBelow, is_stop, read_at}
+use Rattle.sixel_models.specs.Readings.{IsUnsaid, Model, StopsNowhereBelow, carries_on, drawn_by, is_stop, read_at}
 
 -- the model says what the terminal does at each position below n
 abbrev pub SaidBelow : Model → List Event → ℕ → Type 0
@@ -50,6 +50,15 @@ abbrev pub AreSixels : List Event → ℕ → List ℕ → Type 0
 AreSixels events n [] = ⊤
 AreSixels events n (byte ∷ bytes) =
     (slice_get events n ≡ Some (Step (Sixel (byte - 63)))) × AreSixels events (suc n) bytes
+
+-- these sixels are the events at the positions from n on; at each of them the model goes on, and `drawn` is what a plain
+-- terminal draws in place of them all
+abbrev pub AreDrawnAs : Model → List Event → ℕ → List ℕ → List Event → Type 0
+AreDrawnAs m events n [] drawn = drawn ≡ []
+AreDrawnAs m events n (byte ∷ bytes) drawn =
+    (slice_get events n ≡ Some (Step (Sixel (byte - 63)))) × (carries_on (read_at m events n) ≡ true)
+    × (others : List Event) × (drawn ≡ drawn_by (read_at m events n) ++ others)
+    × AreDrawnAs m events (suc n) bytes others
 
 -- ---- the course with one more event. Only the contract of a private function cites these
 

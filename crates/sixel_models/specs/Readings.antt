@@ -1,11 +1,12 @@
 -- What a named terminal makes of the events of a string: its reading.
 use Rattle.std.specs.Prelude.{◌≡◌, ◌≤◌, ◌<◌, ◌+◌, ◌&&◌, ◌++◌, ℕ, Bool, true, false, List, [], ◌∷◌, Option, Some}
-use Rattle.std.specs.Prelude.{flat_map, length, slice_get, take}
+use Rattle.std.specs.Prelude.{flat_map, length, min, nat_lt, slice_get, take, if◌then◌else◌}
 use Rattle.std.specs.List.{range_with_len}
 use Rattle.std.specs.Option.{option_map_or}
-use Rattle.sixel_grammar.specs.declared.command.Command.TheVariants.{Sixel}
+use Rattle.sixel_grammar.specs.declared.command.Command.TheVariants.{Sixel, Repeat}
 use Rattle.sixel_grammar.specs.declared.command.Event.{Event}
 use Rattle.sixel_grammar.specs.declared.command.Event.TheVariants.{Start, Step, Finish}
+use Rattle.sixel_terminal.specs.Blanks.{AreBlank}
 use Rattle.sixel_terminal.specs.Stretches.{sixels_of}
 use Rattle.sixel_models.specs.declared.reading.Reads.{Reads}
 use Rattle.sixel_models.specs.declared.reading.Reads.TheVariants.{Nothing, Draws, DrawsTwo, Stops, Unsaid}
@@ -42,6 +43,14 @@ is_stop (DrawsTwo first second) = false
 is_stop Stops = true
 is_stop Unsaid = false
 
+-- the model says what the terminal does, and it doesn't stop
+abbrev pub carries_on : Reads → Bool
+carries_on Nothing = true
+carries_on (Draws command) = true
+carries_on (DrawsTwo first second) = true
+carries_on Stops = false
+carries_on Unsaid = false
+
 -- what it makes of the event at this position; past the end it draws nothing
 abbrev pub read_at : Model → List Event → ℕ → Reads
 read_at m events i =
@@ -56,6 +65,21 @@ abbrev pub ArePlain : Rule → List Event → ℕ → Type 0
 ArePlain rule before n =
     (earlier : List ℕ) → length earlier < n → (bits : ℕ) (next : Option Event)
     → rule (before ++ sixels_of earlier) (Step (Sixel bits)) next ≡ Draws (Sixel bits)
+
+-- the model goes on at an event, and what a plain terminal draws in place of it are data commands that paint nothing
+-- where a repeat of 0 has `zero_columns`; together they have so many columns
+pub record IsCut (zero_columns columns : ℕ) (reads : Reads) : Type 0 where
+  pub goes : carries_on reads ≡ true
+  pub blank : AreBlank zero_columns columns (drawn_by reads)
+
+-- the data commands that come next are cut, whatever follows. n of their columns are kept: each of the first n sixels
+-- has one, and those after them none; a repeat that isn't one of 0 has as many as it can
+pub record AreCut (rule : Rule) (before : List Event) (zero_columns n : ℕ) : Type 0 where
+  pub sixels : (earlier : List ℕ) (bits : ℕ) (next : Option Event)
+      → IsCut zero_columns (if nat_lt (length earlier) n then 1 else 0)
+      (rule (before ++ sixels_of earlier) (Step (Sixel bits)) next)
+  pub repeats : (count bits : ℕ) (next : Option Event) → 0 < count
+      → IsCut zero_columns (min count n) (rule before (Step (Repeat count bits)) next)
 
 -- what a plain terminal draws in place of the events: what comes before the first event, then what each gives, up to
 -- the first that stops, if there is one

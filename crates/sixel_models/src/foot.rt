@@ -196,6 +196,10 @@ impl Reading for Foot {
         self.has_painted = has_painted;
     }
 
+    fn kept_columns(&self, _zero_columns: u8) -> Option<usize> {
+        None
+    }
+
     #[inline(always)]
     fn is_plain_repeat(&self, count: u16, _bits: u8) -> bool {
         count != 0 && self.size.rows >= BAND_ROWS

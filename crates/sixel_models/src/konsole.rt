@@ -1,5 +1,7 @@
 //! What konsole makes of the events of a string.
 
+mod noting;
+
 ghost use Rattle.std.specs.Prelude.{◌≡◌, ◌==◌, ◌<◌, ◌&&◌, ◌||◌, ◌++◌, ◌∷◌, [], ℕ, List, None, Option, Some, false};
 ghost use Rattle.std.specs.Prelude.{is_none, length, not, true};
 ghost use Rattle.std.specs.Option.{option_map};
@@ -9,8 +11,7 @@ ghost use Rattle.sixel_grammar.specs.declared.command.Event.TheVariants.{Step as
 ghost use Rattle.sixel_terminal.specs.Stretches.{sixels_of};
 ghost use Rattle.sixel_models.specs.Konsole as rule;
 ghost use Rattle.sixel_models.specs.KonsoleSeen.{HasSeenKonsole, begun_in, counting_in, konsole_in, may_count_in};
-ghost use Rattle.sixel_models.specs.KonsoleSeen.{is_settled, next_begun, next_declares, next_late, next_stuck, said};
-ghost use Rattle.sixel_models.specs.KonsoleSeen.{selects_or_paints};
+ghost use Rattle.sixel_models.specs.KonsoleSeen.{is_settled, said, selects_or_paints};
 
 use crate::reading::{Reading, Reads};
 use crate::words::{defining, is_data_command, is_finish, is_raster, is_return, named_by, nearest};
@@ -446,40 +447,6 @@ impl Konsole {
         }
         .noted()
     }
-
-    /// Whether all is dropped after the event.
-    #[inline(always)]
-    fn gets_stuck(&self, event: &Event) -> bool
-        ensures { result ≡ next_stuck self.now event.now }
-    {
-        !is_return(event) && (self.stuck || has_unknown_system(event))
-    }
-
-    /// Whether a select, a definition or a data command came, this event included.
-    #[inline(always)]
-    fn gets_late(&self, event: &Event) -> bool
-        ensures { result ≡ next_late self.now event.now }
-    {
-        self.has_late || is_late(event)
-    }
-
-    /// Whether the picture has begun with the event, whatever follows.
-    #[inline(always)]
-    fn begins(&self, event: &Event) -> bool
-        ensures { result ≡ next_begun self.now event.now }
-    {
-        self.has_begun(moves_or_ends(event))
-            || named_by(event).is_some()
-            || (is_data_command(event) && !self.stuck)
-    }
-
-    /// Whether it is raster attributes that begin the picture, unless what follows drops them.
-    #[inline(always)]
-    fn declares(&self, event: &Event) -> bool
-        ensures { result ≡ next_declares self.now event.now }
-    {
-        is_raster(event) && !self.stuck
-    }
 }
 
 impl Reading for Konsole {
@@ -504,6 +471,10 @@ impl Reading for Konsole {
         if !bytes.is_empty() {
             self.see_sixels();
         }
+    }
+
+    fn kept_columns(&self, _zero_columns: u8) -> Option<usize> {
+        if self.stuck { Some(0) } else { None }
     }
 
     #[inline(always)]

@@ -370,6 +370,10 @@ impl Reading for MlTerm {
         }
     }
 
+    fn kept_columns(&self, _zero_columns: u8) -> Option<usize> {
+        None
+    }
+
     #[inline(always)]
     fn is_plain_repeat(&self, count: u16, bits: u8) -> bool {
         self.is_free(count) && (bits % 64 == 0 || self.is_said())

@@ -1,5 +1,7 @@
 //! Draws what a model makes of a document, while the document is read.
 
+mod cutting;
+
 ghost use Rattle.std.specs.Prelude.{◌≡◌, ◌<◌, ◌≤◌, ◌+◌, ◌++◌, ◌∷◌, [], ℕ, IfOk, IsTrue, List, None, Option};
 ghost use Rattle.std.specs.Prelude.{Some, length, slice_index, take, true};
 ghost use Rattle.sixel_grammar.specs.Bytes.{is_data};
@@ -225,7 +227,8 @@ impl<R: Reading> Modelled<R> {
         self.add(place, event);
     }
 
-    /// Takes the first of these sixels, and those after it that are drawn as they are. Gives how many these are.
+    /// Takes the first of these sixels, and those after it that are drawn as they are, or all if none of them paints.
+    /// Gives how many it took.
     fn push_some(&mut self, place: u64, bytes: &[u8]) -> usize
         requires sixels { (k : ℕ) → k < length bytes.now → IsTrue (is_data (slice_index bytes.now k)) }
         requires some { 0 < length bytes.now }
@@ -240,8 +243,7 @@ impl<R: Reading> Modelled<R> {
         self.settle(&first);
         let plain = self.waiting.reading.plain_sixels().min(bytes.len());
         if plain == 0 {
-            self.add(place, first);
-            return 1;
+            return self.add_some(place, bytes);
         }
         self.progress.read_sixels(&bytes[..plain]);
         self.waiting.reading.note_sixels(&bytes[..plain]);
@@ -264,7 +266,7 @@ impl<R: Reading> Modelled<R> {
         }
     }
 
-    /// Whether so many sixels that come next are drawn as they are.
+    /// Whether so many sixels that come next are drawn as they are. `false` says nothing.
     #[inline(always)]
     fn draws_sixels(&self, count: usize) -> bool
         ensures { result ≡ true → (before : List AnEvent) → R.has_seen self.now.waiting.reading before
@@ -288,6 +290,8 @@ impl<R: Reading> Modelled<R> {
     {
         if self.progress.is_over() {
             self.waiting.reading.note_sixels(bytes)
+        } else if let Some(columns) = self.kept_columns() {
+            self.push_cut_sixels(columns, bytes)
         } else {
             self.add(place, sixel(bytes[0]));
             self.push_each(place + 1, &bytes[1..])
@@ -367,20 +371,6 @@ impl<R: Reading> Modelled<R> {
         self.waiting.reading.note_repeat(count, bits);
         let reads = Reads::Draws(Command::Repeat { count, bits });
         self.progress.read(place, false, reads);
-    }
-
-    /// Takes a repeat with its offset, where none waits.
-    #[inline(never)]
-    fn add_repeat(&mut self, place: u64, count: u16, bits: u8)
-        requires { self.old.waiting.pending ≡ None }
-        ensures terminal { self.new.progress.drawing.terminal ≡ self.old.progress.drawing.terminal }
-        ensures followed { (opening : List AnEvent) (before : List Place)
-            → HasFollowed R.model R.has_seen (with_waiting self.old place (Step (Repeat count bits))) opening
-            (before ++ placed_at place (Step (Repeat count bits)) ∷ [])
-            → HasFollowed R.model R.has_seen self.new opening
-            (before ++ placed_at place (Step (Repeat count bits)) ∷ []) }
-    {
-        self.add(place, Event::Step(Command::Repeat { count, bits }));
     }
 
     /// Takes any repeat, with its offset. It is fast for one that is drawn as it is.

@@ -1,16 +1,17 @@
 //! How far a model has come in a document, and what is drawn of it.
 
 ghost use Rattle.std.specs.Prelude.{◌≡◌, ◌<◌, ◌+◌, ◌++◌, [], ℕ, IfOk, IsTrue, List, None, Some, length, slice_index};
-ghost use Rattle.std.specs.Prelude.{suc, true};
+ghost use Rattle.std.specs.Prelude.{false, suc, true};
 ghost use Rattle.sixel_grammar.specs.Bytes.{is_data};
 ghost use Rattle.sixel_grammar.specs.declared.command.Event.{Event as AnEvent};
 ghost use Rattle.sixel_grammar.specs.declared.command.Placed.{Placed as Place};
 ghost use Rattle.sixel_grammar.specs.Document.{events_of};
+ghost use Rattle.sixel_terminal.specs.Blanks.{AreBlank};
 ghost use Rattle.sixel_terminal.specs.Drawings.{HasDrawn};
 ghost use Rattle.sixel_models.specs.declared.reading.Reads.{Reads as ReadsValue};
-ghost use Rattle.sixel_models.specs.Courses.{AreDrawn, AreSixels, IsAt};
+ghost use Rattle.sixel_models.specs.Courses.{AreDrawn, AreDrawnAs, AreSixels, IsAt};
 ghost use Rattle.sixel_models.specs.Modelled.{HasCome, HasPlace, ModelGives, opening_of};
-ghost use Rattle.sixel_models.specs.Readings.{Model as AModel, drawn_by, is_unsaid_control};
+ghost use Rattle.sixel_models.specs.Readings.{Model as AModel, carries_on, drawn_by, is_unsaid_control};
 
 use crate::course::Course;
 use crate::reading::Reads;
@@ -140,7 +141,28 @@ impl Progress {
         }
     }
 
+    /// Reads sixels, or one other event. Where the course goes on, data commands that paint nothing are drawn in place of
+    /// them, of so many columns together.
+    #[inline(always)]
+    pub(crate) fn read_blanks(&mut self, columns: usize)
+        ensures terminal { self.new.drawing.terminal ≡ self.old.drawing.terminal }
+        ensures one { (m : AModel) (opening : List AnEvent) (placed : List Place) (n : ℕ) (e : AnEvent)
+            (reads : ReadsValue) → IsAt m (events_of placed) n e reads → is_unsaid_control m e ≡ false
+            → carries_on reads ≡ true → AreBlank self.old.drawing.terminal.choices.zero columns (drawn_by reads)
+            → HasCome m opening placed n self.old → HasCome m opening placed (suc n) self.new }
+        ensures sixels { (m : AModel) (opening : List AnEvent) (placed : List Place) (n : ℕ) (bytes : List ℕ)
+            (drawn : List AnEvent) → AreDrawnAs m (events_of placed) n bytes drawn
+            → AreBlank self.old.drawing.terminal.choices.zero columns drawn → HasCome m opening placed n self.old
+            → HasCome m opening placed (n + length bytes) self.new }
+    {
+        match self.course {
+            Course::Goes => self.drawing.push_blanks(columns),
+            Course::Stopped | Course::Ended => {}
+        }
+    }
+
     /// Whether nothing is drawn of sixels that come next, whatever they are: the model has stopped or ended.
+    /// `false` says nothing.
     #[inline(always)]
     pub(crate) fn is_over(&self) -> bool
         ensures { result ≡ true → (m : AModel) (opening : List AnEvent) (placed : List Place) (n : ℕ)

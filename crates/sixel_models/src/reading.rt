@@ -1,6 +1,6 @@
 //! What a named terminal makes of the events of a string, one by one.
 
-ghost use Rattle.std.specs.Prelude.{◌≡◌, ◌<◌, ◌++◌, ◌∷◌, [], ℕ, IsTrue, List, None, Option, false, length};
+ghost use Rattle.std.specs.Prelude.{◌≡◌, ◌<◌, ◌++◌, ◌∷◌, [], ℕ, IfSome, IsTrue, List, None, Option, false, length};
 ghost use Rattle.std.specs.Prelude.{slice_index, true};
 ghost use Rattle.std.specs.Option.{option_map};
 ghost use Rattle.sixel_grammar.specs.Bytes.{is_data};
@@ -9,7 +9,7 @@ ghost use Rattle.sixel_grammar.specs.declared.command.Command.TheVariants.{Repea
 ghost use Rattle.sixel_grammar.specs.declared.command.Event.TheVariants.{Step};
 ghost use Rattle.sixel_terminal.specs.Stretches.{sixels_of};
 ghost use Rattle.sixel_models.specs.declared.reading.Reads.TheVariants.{Draws};
-ghost use Rattle.sixel_models.specs.Readings.{ArePlain, Model as AModel};
+ghost use Rattle.sixel_models.specs.Readings.{AreCut, ArePlain, Model as AModel};
 
 use sixel_grammar::{Command, Event};
 
@@ -57,6 +57,12 @@ pub trait Reading {
         requires { (k : ℕ) → k < length bytes.now → IsTrue (is_data (slice_index bytes.now k)) }
         ensures { (before : List AnEvent) → has_seen self.old before
             → has_seen self.new (before ++ sixels_of bytes.now) };
+
+    /// If it paints none of the data commands that come next, whatever follows: how many of their columns move on.
+    /// `zero_columns` are those of a repeat of 0. `None` says nothing.
+    fn kept_columns(&self, zero_columns: u8) -> Option<usize>
+        ensures { IfSome result (λ columns. (before : List AnEvent) → has_seen self.now before
+            → AreCut model.rule before zero_columns columns) };
 
     /// Whether it draws this repeat as it is, if it comes next, whatever follows. `false` says nothing.
     fn is_plain_repeat(&self, count: u16, bits: u8) -> bool

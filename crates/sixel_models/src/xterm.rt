@@ -317,6 +317,20 @@ impl Reading for XTerm {
         *self = self.after_sixels(bytes.len());
     }
 
+    fn kept_columns(&self, zero_columns: u8) -> Option<usize> {
+        if zero_columns != 0 || self.fills() {
+            return None;
+        }
+        let columns = self.columns_left();
+        if columns == 0 {
+            Some(0)
+        } else if self.rows_left() == 0 {
+            Some(usize::from(columns))
+        } else {
+            None
+        }
+    }
+
     #[inline(always)]
     fn is_plain_repeat(&self, count: u16, _bits: u8) -> bool {
         count != 0 && count <= self.columns_left() && self.has_band() && !self.fills()
