@@ -118,13 +118,6 @@ pub bound_one : (ys zs : List Ink) (i k : ℕ) (ink : Ink) → zs ≡ set ys i i
 bound_one ys zs i k ink is lt bound =
     subst (λ (x : Ink). IsSome (register_in_ink x)) (sym (kept_one ys zs i k ink is lt)) bound
 
--- writing four leaves the next ones as they are
-pub kept_four : (old a b c d : List Ink) (i k : ℕ) (p q r s : Ink) → i + 4 ≤ k → a ≡ set old i p
-    → b ≡ set a (i + 1) q → c ≡ set b (i + 2) r → d ≡ set c (i + 3) s → get_or d k black ≡ get_or old k black
-kept_four old a b c d i k p q r s le first second third fourth =
-    kept_one c d (i + 3) k s fourth (omega (arith, le)) ∙ kept_one b c (i + 2) k r third (omega (arith, le))
-    ∙ kept_one a b (i + 1) k q second (omega (arith, le)) ∙ kept_one old a i k p first (omega (arith, le))
-
 -- the colour of a register is the one over any ground
 bound_at : (colours : List Parts) (under : Ground) (ys zs : List Ink) (i : ℕ) → IsBoundAt ys i
     → zs ≡ set ys i (Fixed (shown_in colours (get_or ys i black))) → zs ≡ set ys i (fixed_at colours under ys i)
@@ -149,13 +142,6 @@ four_bound colours under xs old a b c d i room bound are first second third four
     four_fixed colours under xs old a b c d i room are (bound_at colours under old a i one first)
     (bound_at colours under a b (i + 1) two second) (bound_at colours under b c (i + 2) three third)
     (bound_at colours under c d (i + 3) four fourth)
-
--- pixels that are kept are still those of registers
-pub bound_kept : (old new : List Ink) (from later end to : ℕ) → AreBoundIn old from to → from ≤ later → end ≤ to
-    → ((k : ℕ) → later ≤ k → get_or new k black ≡ get_or old k black) → AreBoundIn new later end
-bound_kept old new from later end to bound first last kept = λ i le lt.
-    subst (λ (x : Ink). IsSome (register_in_ink x)) (sym (kept i le))
-    (bound i (omega (arith, first, le)) (omega (arith, last, lt)))
 
 -- ---- four pixels that are the same
 
