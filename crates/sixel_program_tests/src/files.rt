@@ -8,7 +8,6 @@ mod faults;
 mod for_terminals;
 mod hints;
 mod lines;
-mod mended;
 mod named;
 mod noted;
 mod notices;
