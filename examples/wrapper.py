@@ -3,8 +3,8 @@
 
     examples/wrapper.py
 
-The program that the stand-in builds writes the text of its source. All is written in a temporary folder. `examples/run`
-calls this too.
+The program that the stand-in builds writes the text of its source. All is written in a temporary folder. tests/run calls
+this too.
 """
 
 import os
@@ -56,10 +56,13 @@ COPIES = {
 }
 
 faults = []
+tried = 0
 runs = 0
 
 
 def want(is_right, said):
+    global tried
+    tried += 1
     if not is_right:
         faults.append(said)
 
@@ -418,7 +421,8 @@ def main():
         run_staged_install(clone)
     for fault in faults:
         print(fault, file=sys.stderr)
-    print(f"{runs} runs of ./sixel, ./prove and ./install, {len(faults)} not as expected")
+    print(f"{runs} runs of ./sixel, ./prove and ./install")
+    print(f"{tried - len(faults)} passed, {len(faults)} failed")
     return 1 if faults else 0
 
 

@@ -30,26 +30,6 @@ pub const SURVEY: Task = Task::Survey {
     terminals: NOT_NAMED,
 };
 
-/// A check by the rules that these named terminals ask for, too.
-pub fn check_for(terminals: NamedTerminals) -> Task
-    ensures { HasSides result }
-{
-    Task::Check {
-        profile: Profile::Registers16,
-        terminals,
-    }
-}
-
-/// Such a survey.
-pub fn survey_for(terminals: NamedTerminals) -> Task
-    ensures { HasSides result }
-{
-    Task::Survey {
-        profile: Profile::Registers16,
-        terminals,
-    }
-}
-
 pub const SCAN: Task = Task::Scan {
     profile: Profile::Registers16,
     eight_bit: false,
@@ -109,18 +89,6 @@ pub fn sheet() -> Task
     }
 }
 
-/// `mend` with this background, and without options.
-pub fn mend_on(background: Colour) -> Task
-    ensures { HasSides result }
-{
-    Task::Mend {
-        profile: Profile::Registers16,
-        background,
-        showing: false,
-        selects: false,
-    }
-}
-
 /// No file can be opened.
 pub const NO_FILES: MemoryFolder<'static> = MemoryFolder {
     files: &[],
@@ -161,21 +129,4 @@ pub fn exit_over<R: Read + Drop, W: Write + Drop, E: Write + Drop>(
         &mut ToWrite::new(output),
         &mut ToWrite::new(errors),
     )
-}
-
-/// Whether a task on the bytes ends so, with these bytes on standard output and on standard error.
-pub fn ends(
-    alloc: Global,
-    task: Task,
-    bytes: &[u8],
-    exit: Exit,
-    written: &[u8],
-    said: &[u8],
-) -> bool
-    requires { HasSides task }
-{
-    let mut output = Vec::new(alloc);
-    let mut errors = Vec::new(alloc);
-    let ended = exit_over(alloc, NO_TERMINALS, task, bytes, &mut output, &mut errors);
-    ended == exit && output.as_slice() == written && errors.as_slice() == said
 }

@@ -3,18 +3,11 @@
 ghost use Rattle.std.specs.Prelude.{◌≡◌, IfOk};
 ghost use Rattle.sixel_run.specs.Outputs.{HasSides};
 
-mod differing;
 mod faults;
-mod for_terminals;
-mod hints;
-mod lines;
-mod mended;
 mod named;
-mod noted;
 mod notices;
 mod redirection;
 mod scanned;
-mod surveyed;
 mod system;
 mod tasks;
 mod told;
@@ -22,9 +15,7 @@ mod twice;
 
 use crate::ends::{CHECK, NO_TERMINALS};
 use crate::memory_folder::MemoryFolder;
-use sixel_asked::Terminals as NamedTerminals;
 use sixel_io::{FromRead, ToWrite};
-use sixel_model::Profile;
 use sixel_program::{Exit, Lines, Peeked, Request, Terminals, Unopened, execute};
 use sixel_run::Task;
 use sixel_test_devices::Narrow;
@@ -35,9 +26,6 @@ use std::test::Fail;
 
 /// One black pixel.
 const PIXEL: &[u8] = b"\x1bPq\"1;1;1;1#0;2;0;0;0#0@\x1b\\";
-
-/// A picture of two columns and one row, in register 16.
-const WIDE: &[u8] = b"\x1bPq\"1;1;2;1#16;2;0;0;0#16!2@\x1b\\";
 
 const RATIO: &[u8] = b"\x1bPq\"2;1;1;1\x1b\\";
 
@@ -56,9 +44,6 @@ const FULL: &[u8] = b"\x1bPq\"1;1;1;6#0;2;0;0;0#0~\x1b\\";
 /// The same in a box of two columns.
 const HALF: &[u8] = b"\x1bPq\"1;1;2;6#0;2;0;0;0#0~\x1b\\";
 
-/// Six pixels in register 1, which is selected before it is defined.
-const PEN: &[u8] = b"\x1bPq\"1;1;1;6#1#1;2;100;0;0~\x1b\\";
-
 const PNG: &[u8] = b"\x89PNG\r\n\x1a\n\0\0\0\rIHDR";
 
 /// One red pixel.
@@ -69,22 +54,14 @@ const FOLDER: MemoryFolder<'static> = MemoryFolder {
         ("pixel", PIXEL),
         ("a b", PIXEL),
         ("-x", PIXEL),
-        ("wide", WIDE),
         ("ratio", RATIO),
         ("three", THREE),
         ("full", FULL),
         ("half", HALF),
-        ("pen", PEN),
-        ("blank", b"\x1bPq\x1b\\"),
         ("large", b"\x1bPq\"1;1;2049;1\x1b\\"),
         ("text", b"x"),
-        ("empty", b""),
         ("png", PNG),
-        ("bitmap", b"BM"),
-        ("red", RED),
         ("log", LOG),
-        ("wrapped", b"\x1bP\x1bPq\"1;1;1;1#0;2;0;0;0#0@\x1b\\"),
-        ("eight", b"\x90q\"1;1;1;1#0;2;0;0;0#0@\x9c"),
     ],
     cut: &[("cut", b"\x1bPq\"1;1;1;1#0;2"), ("halved", HALVED)],
     refused: &[
@@ -105,7 +82,6 @@ const QUIET: Lines = Lines::Nothing { is_json: false };
 struct Asked<'a> {
     task: Task,
     lines: Lines,
-    explains: bool,
     names: &'a [&'a str],
     input: &'a [u8],
 }
@@ -199,7 +175,7 @@ fn request_of(alloc: Global, asked: &Asked<'_>) -> Result<Request, AllocError>
     Ok(Request {
         task: asked.task,
         lines: asked.lines,
-        explains: asked.explains,
+        explains: false,
         files,
     })
 }
@@ -251,7 +227,6 @@ fn asked_of<'a>(task: Task, names: &'a [&'a str], input: &'a [u8]) -> Asked<'a>
     Asked {
         task,
         lines: ALL,
-        explains: false,
         names,
         input,
     }
@@ -312,117 +287,12 @@ fn checks(
     check_ends(alloc, names, PIXEL, unread(exit, written, said))
 }
 
+/// What was read of a file before its reads fail has no verdict, and the file after it is judged.
 #[test]
-fn portable_files(rt: HostRuntime) -> Result<(), Fail> {
-    let one = b"pixel: portable 1 1\n";
-    assert!(rt; checks(rt.alloc(), &["pixel"], Exit::Done, one, b"")?);
-    let two = b"pixel: portable 1 1\na b: portable 1 1\n";
-    assert!(rt; checks(rt.alloc(), &["pixel", "a b"], Exit::Done, two, b"")?);
-    let twice = b"pixel: portable 1 1\npixel: portable 1 1\n";
-    assert!(rt; checks(rt.alloc(), &["pixel", "pixel"], Exit::Done, twice, b"")?);
-    let dashed = b"-x: portable 1 1\n";
-    assert!(rt; checks(rt.alloc(), &["-x"], Exit::Done, dashed, b"")?);
-    Ok(())
-}
-
-/// Each file is judged, even after one that is refused or can't be opened or read.
-#[test]
-fn files_of_each_kind(rt: HostRuntime) -> Result<(), Fail> {
-    let names = ["pixel", "ratio", "text", "none", "cut", "empty", "a b"];
-    let written = b"pixel: portable 1 1\nratio: broken Ratio 3\na b: portable 1 1\n";
-    let said = b"sixel: text: NotSixel at 0\nsixel: none: no such file\nsixel: cut: read failed\n\
-        sixel: empty: Truncated at 0\nsixel: the input is empty\n";
-    assert!(rt; checks(rt.alloc(), &names, Exit::Refused, written, said)?);
-    Ok(())
-}
-
-/// The exit status is the greatest of all files, in any order.
-#[test]
-fn the_greatest_status(rt: HostRuntime) -> Result<(), Fail> {
-    let broken = b"ratio: broken Ratio 3\n";
-    let first = b"ratio: broken Ratio 3\npixel: portable 1 1\n";
-    let last = b"pixel: portable 1 1\nratio: broken Ratio 3\n";
-    let text = b"sixel: text: NotSixel at 0\n";
-    let none = b"sixel: none: no such file\n";
-    assert!(rt; checks(rt.alloc(), &["ratio"], Exit::Broken, broken, b"")?);
-    assert!(rt; checks(rt.alloc(), &["ratio", "pixel"], Exit::Broken, first, b"")?);
-    assert!(rt; checks(rt.alloc(), &["pixel", "ratio"], Exit::Broken, last, b"")?);
-    assert!(rt; checks(rt.alloc(), &["text", "ratio"], Exit::Refused, broken, text)?);
-    assert!(rt; checks(rt.alloc(), &["ratio", "text"], Exit::Refused, broken, text)?);
-    assert!(rt; checks(rt.alloc(), &["ratio", "none"], Exit::Refused, broken, none)?);
-    assert!(rt; checks(rt.alloc(), &["none"], Exit::Refused, b"", none)?);
-    Ok(())
-}
-
-/// All files are checked in the same profile.
-#[test]
-fn files_in_the_wide_profile(rt: HostRuntime) -> Result<(), Fail> {
-    let names = ["wide", "pixel"];
-    let narrow = b"wide: broken Register 11\npixel: portable 1 1\n";
-    assert!(rt; checks(rt.alloc(), &names, Exit::Broken, narrow, b"")?);
-    let wide = Task::Check {
-        profile: Profile::Registers256,
-        terminals: NamedTerminals::none(),
-    };
-    let asked = asked_of(wide, &names, RATIO);
-    let portable = b"wide: portable 2 1\npixel: portable 1 1\n";
-    let ended = unread(Exit::Done, portable, b"");
-    assert!(rt; ends_over(rt.alloc(), &asked, STREAMS, ended)?);
-    Ok(())
-}
-
-/// Whether a check of these files ends so, where standard input has these bytes and is read.
-fn reads(
-    alloc: Global,
-    names: &[&str],
-    input: &[u8],
-    exit: Exit,
-    written: &[u8],
-    said: &[u8],
-) -> Result<bool, AllocError> {
-    check_ends(alloc, names, input, after_input(exit, written, said))
-}
-
-/// The advice on a file goes by its own first bytes.
-#[test]
-fn files_of_other_formats(rt: HostRuntime) -> Result<(), Fail> {
-    let said = b"sixel: text: NotSixel at 0\nsixel: png: NotSixel at 0\n\
-        sixel: this is a PNG; `pngtopnm -mix | pnmdepth 255 | ppmtoppm | pnmquant 16 | sixel encode` makes sixel text of it\n";
-    let names = ["text", "png", "pixel"];
+fn a_file_whose_reads_fail(rt: HostRuntime) -> Result<(), Fail> {
+    let said = b"sixel: cut: read failed\n";
+    let names = ["cut", "pixel"];
     let written = b"pixel: portable 1 1\n";
     assert!(rt; checks(rt.alloc(), &names, Exit::Refused, written, said)?);
-    let piped = b"sixel: -: NotSixel at 0\n\
-        sixel: this is a PNG; `pngtopnm -mix | pnmdepth 255 | ppmtoppm | pnmquant 16 | sixel encode` makes sixel text of it\n";
-    assert!(rt; reads(rt.alloc(), &["-"], PNG, Exit::Refused, b"", piped)?);
-    Ok(())
-}
-
-/// `-` is standard input, wherever it stands.
-#[test]
-fn standard_input_among_files(rt: HostRuntime) -> Result<(), Fail> {
-    let alloc = rt.alloc();
-    let alone = b"-: portable 1 1\n";
-    assert!(rt; reads(alloc, &["-"], PIXEL, Exit::Done, alone, b"")?);
-    let second = b"ratio: broken Ratio 3\n-: portable 1 1\n";
-    assert!(rt; reads(alloc, &["ratio", "-"], PIXEL, Exit::Broken, second, b"")?);
-    let fault = b"sixel: -: NotSixel at 0\n";
-    let after = b"pixel: portable 1 1\n";
-    assert!(rt; reads(alloc, &["-", "pixel"], b"x", Exit::Refused, after, fault)?);
-    let between = b"pixel: portable 1 1\n-: broken Ratio 3\npixel: portable 1 1\n";
-    let names = ["pixel", "-", "pixel"];
-    assert!(rt; reads(alloc, &names, RATIO, Exit::Broken, between, b"")?);
-    Ok(())
-}
-
-/// Without a file, lines have no name before them.
-#[test]
-fn standard_input_alone(rt: HostRuntime) -> Result<(), Fail> {
-    let alloc = rt.alloc();
-    assert!(rt; reads(alloc, &[], PIXEL, Exit::Done, b"portable 1 1\n", b"")?);
-    assert!(rt; reads(alloc, &[], RATIO, Exit::Broken, b"broken Ratio 3\n", b"")?);
-    let other = b"sixel: NotSixel at 0\n";
-    assert!(rt; reads(alloc, &[], b"x", Exit::Refused, b"", other)?);
-    let empty = b"sixel: Truncated at 0\nsixel: the input is empty\n";
-    assert!(rt; reads(alloc, &[], b"", Exit::Refused, b"", empty)?);
     Ok(())
 }

@@ -8,8 +8,6 @@ mod files;
 #[cfg(test)]
 mod first_bytes;
 #[cfg(test)]
-mod formats;
-#[cfg(test)]
 mod memory_folder;
 #[cfg(test)]
 mod streams;

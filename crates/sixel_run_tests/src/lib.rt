@@ -2,23 +2,15 @@
 #![tactic(auto)]
 
 #[cfg(test)]
-mod asked;
-#[cfg(test)]
 mod at_limits;
 #[cfg(test)]
 mod blocks;
 #[cfg(test)]
-mod differs;
-#[cfg(test)]
 mod exhausted;
-#[cfg(test)]
-mod high_registers;
 #[cfg(test)]
 mod in_turn;
 #[cfg(test)]
 mod lines;
-#[cfg(test)]
-mod named;
 #[cfg(test)]
 mod round_trip;
 #[cfg(test)]

@@ -12,6 +12,11 @@ const GRAMMAR: RunFault = RunFault::Grammar(Fault {
     place: 268_435_456,
 });
 
+const TOO_LONG: RunFault = RunFault::Grammar(Fault {
+    reason: Reason::TooLong,
+    place: 7,
+});
+
 const PPM: RunFault = RunFault::Ppm {
     reason: PpmReason::TooManyColours,
     place: 60,
@@ -39,6 +44,7 @@ fn finds(finding: &Finding, line: &str) -> bool {
 fn writes_the_line_of_each_fault(rt: HostRuntime) -> Result<(), Fail> {
     let rows = [
         (GRAMMAR, "Grammar", "sixel: NumberTooLarge at 268435456\n"),
+        (TOO_LONG, "Grammar", "sixel: TooLong at 7\n"),
         (PPM, "Ppm", "sixel: TooManyColours at 60\n"),
         (RunFault::NotRgb, "NotRgb", "sixel: NotRgb\n"),
         (RunFault::NoBox, "NoBox", "sixel: NoBox\n"),
@@ -66,61 +72,16 @@ fn writes_the_line_of_each_fault(rt: HostRuntime) -> Result<(), Fail> {
     Ok(())
 }
 
-#[test]
-fn names_each_reason(rt: HostRuntime) {
-    let rows = [
-        (Reason::NotSixel, "sixel: NotSixel at 7\n"),
-        (Reason::BadByte, "sixel: BadByte at 7\n"),
-        (Reason::NumberTooLarge, "sixel: NumberTooLarge at 7\n"),
-        (Reason::FieldCount, "sixel: FieldCount at 7\n"),
-        (Reason::BadRepeat, "sixel: BadRepeat at 7\n"),
-        (Reason::BadTerminator, "sixel: BadTerminator at 7\n"),
-        (Reason::Truncated, "sixel: Truncated at 7\n"),
-        (Reason::TooLong, "sixel: TooLong at 7\n"),
-        (Reason::Trailing, "sixel: Trailing at 7\n"),
-    ];
-    for (reason, line) in rows {
-        assert!(rt;
-            says(RunFault::Grammar(Fault { reason, place: 7 }), line),
-            "{line}"
-        );
-    }
-}
-
-#[test]
-fn names_each_reason_of_a_picture_file(rt: HostRuntime) {
-    let rows = [
-        (PpmReason::Header, "sixel: Header at 7\n"),
-        (PpmReason::Size, "sixel: Size at 7\n"),
-        (PpmReason::Maxval, "sixel: Maxval at 7\n"),
-        (PpmReason::Sample, "sixel: Sample at 7\n"),
-        (PpmReason::Short, "sixel: Short at 7\n"),
-        (PpmReason::Trailing, "sixel: Trailing at 7\n"),
-        (PpmReason::TooManyColours, "sixel: TooManyColours at 7\n"),
-    ];
-    for (reason, line) in rows {
-        assert!(rt; says(RunFault::Ppm { reason, place: 7 }, line), "{line}");
-    }
-}
-
+/// Of no document: an offset and a pixel that are too large, and a pixel of a rule that has none.
 #[test]
 fn writes_the_line_of_a_finding(rt: HostRuntime) {
     let rows = [
-        (Rule::Unselected, 21, None, "broken Unselected 21\n"),
-        (
-            Rule::Uncovered,
-            24,
-            Some((1, 0)),
-            "broken Uncovered 24 1 0\n",
-        ),
         (
             Rule::Outside,
             u64::MAX,
             Some((u64::MAX, u64::MAX)),
             "broken Outside 18446744073709551615 18446744073709551615 18446744073709551615\n",
         ),
-        (Rule::EightBit, 0, None, "broken EightBit 0\n"),
-        // in no document: this rule has no pixel
         (Rule::RasterFirst, 3, Some((1, 0)), "broken RasterFirst 3\n"),
     ];
     for (rule, place, pixel, line) in rows {

@@ -58,12 +58,7 @@ fn picture_file(alloc: Global, profile: Profile, width: u32, height: u32) -> Res
 }
 
 /// Encodes a PPM into the room. Returns the number of bytes of its text, if it is encoded.
-pub fn encode_into(
-    alloc: Global,
-    profile: Profile,
-    picture: &[u8],
-    room: &mut [u8],
-) -> Option<usize> {
+fn encode_into(alloc: Global, profile: Profile, picture: &[u8], room: &mut [u8]) -> Option<usize> {
     let mut input = SliceSource::new(picture, 37, None);
     let mut output = SliceSink::new(room, 64, None);
     let answer = run(alloc, Task::Encode { profile }, &mut input, &mut output);

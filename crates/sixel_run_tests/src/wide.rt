@@ -2,9 +2,8 @@
 
 ghost use Rattle.sixel_run.specs.Outputs.{HasSides};
 
-use crate::round_trip::{comes_back, encode_into, push_pixel, sends};
-use crate::runs::{CHECK, WIDE_CHECK, WIDE_ENCODE, WIDE_RENDER, agrees};
-use sixel_check::{Finding, Rule};
+use crate::round_trip::{comes_back, push_pixel, sends};
+use crate::runs::{WIDE_CHECK, WIDE_ENCODE};
 use sixel_io::{SliceSink, SliceSource};
 use sixel_model::{Parts, Profile};
 use sixel_run::{Status, Task, run};
@@ -25,39 +24,6 @@ fn the_last_register_comes_back(rt: HostRuntime) {
     let text = b"\x1bP0;1q\"1;1;1;1#16;2;0;0;0#255;1;120;50;100#16@\x1b\\";
     let colours = [(16, Parts::Rgb(0, 0, 0)), (255, Parts::Hls(120, 50, 100))];
     assert!(rt; comes_back(rt.alloc(), Profile::Registers256, bytes, 16, &colours, text));
-}
-
-/// A header, and a row of `count` pixels, each in its own colour.
-fn row_of(alloc: Global, header: &[u8], count: u16) -> Result<Vec<u8>, AllocError> {
-    let mut bytes = Vec::from_slice(alloc, header)?;
-    for number in 0..count {
-        push_pixel(&mut bytes, number)?;
-    }
-    Ok(bytes)
-}
-
-/// 6 and 10 bytes, ten definitions of 10 bytes and six of 12 come before the definition of register 16.
-fn is_too_wide(alloc: Global, text: &[u8]) -> bool {
-    let finding = Finding {
-        rule: Rule::Register,
-        place: 188,
-        pixel: None,
-    };
-    let answer = Ok(Status::Broken(finding));
-    agrees(alloc, CHECK, text, 100, b"broken Register 188\n", answer)
-}
-
-#[test]
-fn a_picture_of_256_colours_comes_back(rt: HostRuntime) -> Result<(), Fail> {
-    let bytes = row_of(rt.alloc(), b"P6 256 1 100\n", 256)?;
-    let mut room = [0; 8192];
-    let count = encode_into(rt.alloc(), Profile::Registers256, &bytes, &mut room).ok_or("no text")?;
-    let text = room.get(..count).ok_or("the text")?;
-    assert!(rt; sends(rt.alloc(), WIDE_CHECK, text, b"portable 256 1\n"));
-    assert!(rt; is_too_wide(rt.alloc(), text));
-    let file = row_of(rt.alloc(), b"P6\n256 1\n100\n", 256)?;
-    assert!(rt; sends(rt.alloc(), WIDE_RENDER, text, &file));
-    Ok(())
 }
 
 /// A row of 2,048 pixels; each colour is `step` colours after the one before.

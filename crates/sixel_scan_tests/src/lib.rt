@@ -1,8 +1,5 @@
-//! What no contract of `sixel_scan` can say: that a string is told before the next byte is asked for. And which strings
-//! stand in a pass-through.
+//! What no contract of `sixel_scan` can say: that a string is told before the next byte is asked for.
 #![tactic(auto)]
 
 #[cfg(test)]
 mod sources;
-#[cfg(test)]
-mod wrapped;

@@ -1,12 +1,13 @@
 //! Streams that fail.
 
 use super::{
-    FOLDER, PIXEL, RATIO, STREAMS, Streams, after_input, check_of, ends_over, request_of, unread,
+    Asked, FOLDER, FULL, PIXEL, RATIO, SEEN, STREAMS, Streams, after_input, asked_of, check_of,
+    ends_over, request_of, unread,
 };
-use crate::ends::NO_TERMINALS;
+use crate::ends::{NO_TERMINALS, SURVEY, differ};
 use crate::memory_folder::Watched;
 use sixel_io::{FromRead, ToWrite};
-use sixel_program::{Exit, Peeked, execute};
+use sixel_program::{Exit, Lines, Peeked, execute};
 use sixel_test_devices::Narrow;
 use std::alloc::{AllocError, Global};
 use std::cell::Cell;
@@ -42,6 +43,42 @@ fn an_output_that_fails(rt: HostRuntime) -> Result<(), Fail> {
     let written = b"pixel: portable 1 1\nratio: br";
     let said = b"sixel: text: NotSixel at 0\nsixel: none: no such file\nsixel: write failed\n";
     assert!(rt; is_cut(rt.alloc(), &names, 29, written, said)?);
+    Ok(())
+}
+
+/// What fits of the lines of a survey or a comparison is written, and no further file is read.
+#[test]
+fn an_output_that_fails_between_lines(rt: HostRuntime) -> Result<(), Fail> {
+    let said = b"sixel: write failed\n";
+    let cut = unread(Exit::Refused, b"three: Register 2 11\nthre", said);
+    let asked = asked_of(SURVEY, &["three", "-"], PIXEL);
+    assert!(rt; ends_over(rt.alloc(), &asked, narrow(25), cut)?);
+    let cut = unread(Exit::Refused, b"half: xterm konsole\nhalf:", said);
+    let asked = asked_of(differ(), &["half", "-"], FULL);
+    assert!(rt; ends_over(rt.alloc(), &asked, narrow(25), cut)?);
+    Ok(())
+}
+
+/// If the output fails in the middle of an object, that of a refusal too, no further file is read.
+#[test]
+fn an_output_that_fails_in_an_object(rt: HostRuntime) -> Result<(), Fail> {
+    let asked = Asked {
+        lines: Lines::Json { only_failed: false },
+        ..check_of(false, &["text", "-"], RATIO)
+    };
+    let cut = unread(Exit::Refused, b"{\"file\":\"tex", b"sixel: write failed\n");
+    assert!(rt; ends_over(rt.alloc(), &asked, narrow(12), cut)?);
+    Ok(())
+}
+
+/// No hint follows a failed write.
+#[test]
+fn an_output_that_fails_before_a_hint(rt: HostRuntime) -> Result<(), Fail> {
+    let written = b"ratio: broken Ratio 3\n";
+    let ended = unread(Exit::Refused, written, b"sixel: write failed\n");
+    let full = Streams { room: 22, ..SEEN };
+    let asked = check_of(false, &["ratio", "pixel"], PIXEL);
+    assert!(rt; ends_over(rt.alloc(), &asked, full, ended)?);
     Ok(())
 }
 

@@ -44,16 +44,6 @@ fn a_file_that_cannot_be_opened(rt: HostRuntime) -> Result<(), Fail> {
     Ok(())
 }
 
-/// A name is opened as it is given, with the blanks around it.
-#[test]
-fn names_between_blanks(rt: HostRuntime) -> Result<(), Fail> {
-    let said =
-        b"sixel:  pixel: no such file\nsixel: pixel : no such file\nsixel: \\x09pixel\\x0A: no such file\n";
-    let names = [" pixel", "pixel ", "\tpixel\n"];
-    assert!(rt; checks(rt.alloc(), &names, Exit::Refused, b"", said)?);
-    Ok(())
-}
-
 /// Takes everything, and counts the calls.
 #[derive(Drop)]
 struct Takes<'a> {

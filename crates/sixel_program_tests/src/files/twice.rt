@@ -1,14 +1,10 @@
 //! Standard input that is named twice: a usage error, and nothing is read.
 
-ghost use Rattle.sixel_run.specs.Outputs.{HasSides};
-
 use super::{
     Ended, INTERACTIVE, PIXEL, STREAMS, Streams, after_input, asked_of, check_of, ends_over, unread,
 };
-use crate::ends::{RENDER, SCAN, SURVEY, differ};
+use crate::ends::RENDER;
 use sixel_program::Exit;
-use sixel_run::Task;
-use std::alloc::{AllocError, Global};
 use std::test::Fail;
 
 const SAID: &[u8] =
@@ -17,27 +13,6 @@ const SAID: &[u8] =
 /// A usage error: nothing is written, and nothing is read.
 fn refused() -> Ended<'static> {
     unread(Exit::Usage, b"", SAID)
-}
-
-/// Whether the task over the files of these names is refused.
-fn is_refused(alloc: Global, task: Task, names: &[&str]) -> Result<bool, AllocError>
-    requires { HasSides task }
-{
-    ends_over(alloc, &asked_of(task, names, PIXEL), STREAMS, refused())
-}
-
-#[test]
-fn several_tasks(rt: HostRuntime) -> Result<(), Fail> {
-    assert!(rt; is_refused(rt.alloc(), SURVEY, &["-", "-"])?);
-    assert!(rt; is_refused(rt.alloc(), SCAN, &["-", "pixel", "-"])?);
-    assert!(rt; is_refused(rt.alloc(), differ(), &["full", "-", "-"])?);
-    let twice = check_of(false, &["-", "-"], PIXEL);
-    assert!(rt; ends_over(rt.alloc(), &twice, STREAMS, refused())?);
-    let quiet = check_of(true, &["-", "-"], PIXEL);
-    assert!(rt; ends_over(rt.alloc(), &quiet, STREAMS, refused())?);
-    let among = check_of(false, &["none", "-", "a b", "-", "-"], PIXEL);
-    assert!(rt; ends_over(rt.alloc(), &among, STREAMS, refused())?);
-    Ok(())
 }
 
 /// No notice that the task waits comes before it.

@@ -1,4 +1,0 @@
-use Rattle.sixel_scan_tests.proofs.wrapped.says.Goals as goal
-
-pub next_string-requires : goal.next_string-requires
-next_string-requires c = (_, _, _, _, c.new-scan.ensures _)
