@@ -2,8 +2,7 @@
 
 use crate::ends::{CHECK, ENCODE, RENDER, SCAN, SHOW, SHOW_BOX, SURVEY, ends, mend_on};
 use sixel_model::Colour;
-use sixel_program::Exit;
-use sixel_run::Task;
+use sixel_report::{Exit, Task};
 use std::test::Fail;
 
 /// Whether `encode` refuses the bytes with these lines, and writes nothing.

@@ -1,13 +1,13 @@
 //! Checks and surveys for named terminals.
 
-ghost use Rattle.sixel_run.specs.Outputs.{HasSides};
+ghost use Rattle.sixel_report.specs.Outputs.{HasSides};
 
 use crate::runs::agrees;
 use sixel_asked::{AskedFinding, AskedRule, Terminals};
 use sixel_check::{Finding, Rule};
 use sixel_model::Profile;
 use sixel_named::{NamedFinding, NamedRule};
-use sixel_run::{RuleSet, Status, Task};
+use sixel_report::{RuleSet, Status, Task};
 use std::alloc::Global;
 
 const XTERM: Terminals = Terminals {

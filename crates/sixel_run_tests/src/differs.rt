@@ -1,11 +1,11 @@
 //! What `differ` says of the four named terminals.
 
-ghost use Rattle.sixel_run.specs.Outputs.{HasSides};
+ghost use Rattle.sixel_report.specs.Outputs.{HasSides};
 
 use crate::runs::{Limits, agrees, run_counted};
 use sixel_grammar::{Fault, Reason};
 use sixel_model::Colour;
-use sixel_run::{RunFault, Status, Task};
+use sixel_report::{RunFault, Status, Task};
 use std::alloc::Global;
 use std::test::Fail;
 

@@ -1,10 +1,10 @@
 //! Shows of strings that name a register above 15.
 
-ghost use Rattle.sixel_run.specs.Outputs.{HasSides};
+ghost use Rattle.sixel_report.specs.Outputs.{HasSides};
 
 use crate::runs::{SHOW_BOX, agrees};
 use sixel_model::Profile;
-use sixel_run::{Note, RunFault, Status, Task};
+use sixel_report::{Note, RunFault, Status, Task};
 use std::alloc::Global;
 
 const HIGH: Status = Status::Noted(Note::HighRegister);

@@ -1,14 +1,14 @@
 //! Screens of the named terminals.
 
 ghost use Rattle.std.specs.Prelude.{◌&&◌, IsTrue};
-ghost use Rattle.sixel_run.specs.Outputs.{HasSides};
+ghost use Rattle.sixel_report.specs.Outputs.{HasSides};
 ghost use Rattle.sixel_terminal.specs.Limits.{is_screen_side};
 
 use crate::runs::agrees;
 use sixel_grammar::{Fault, Reason};
 use sixel_model::Colour;
 use sixel_models::Named;
-use sixel_run::{Area, RunFault, Status, Task};
+use sixel_report::{Area, RunFault, Status, Task};
 use std::alloc::Global;
 use std::test::Fail;
 

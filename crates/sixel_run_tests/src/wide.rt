@@ -1,13 +1,14 @@
 //! Runs in the profile of 256 registers.
 
-ghost use Rattle.sixel_run.specs.Outputs.{HasSides};
+ghost use Rattle.sixel_report.specs.Outputs.{HasSides};
 
 use crate::round_trip::{comes_back, encode_into, push_pixel, sends};
 use crate::runs::{CHECK, WIDE_CHECK, WIDE_ENCODE, WIDE_RENDER, agrees};
 use sixel_check::{Finding, Rule};
 use sixel_io::{SliceSink, SliceSource};
 use sixel_model::{Parts, Profile};
-use sixel_run::{Status, Task, run};
+use sixel_report::{Status, Task};
+use sixel_run::run;
 use std::alloc::{AllocError, Global};
 use std::test::Fail;
 

@@ -5,7 +5,7 @@ use super::{
     unread,
 };
 use crate::ends::{differ, sheet};
-use sixel_program::Exit;
+use sixel_report::Exit;
 use std::alloc::{AllocError, Global};
 use std::test::Fail;
 

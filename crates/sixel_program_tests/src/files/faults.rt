@@ -6,7 +6,8 @@ use super::{
 use crate::ends::NO_TERMINALS;
 use crate::memory_folder::Watched;
 use sixel_io::{FromRead, ToWrite};
-use sixel_program::{Exit, Peeked, execute};
+use sixel_program::{Peeked, execute};
+use sixel_report::Exit;
 use sixel_test_devices::Narrow;
 use std::alloc::{AllocError, Global};
 use std::cell::Cell;

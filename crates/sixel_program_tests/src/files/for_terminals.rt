@@ -1,6 +1,6 @@
 //! Checks and surveys for named terminals.
 
-ghost use Rattle.sixel_run.specs.Outputs.{HasSides};
+ghost use Rattle.sixel_report.specs.Outputs.{HasSides};
 
 use super::{
     ALL, Asked, Ended, PEN, PIXEL, QUIET, SEEN, STREAMS, Streams, WIDE, after_input, asked_of,
@@ -8,8 +8,7 @@ use super::{
 };
 use crate::ends::{check_for, survey_for};
 use sixel_asked::Terminals;
-use sixel_program::{Exit, Lines};
-use sixel_run::Task;
+use sixel_report::{Exit, Lines, Task};
 use std::alloc::{AllocError, Global};
 use std::test::Fail;
 

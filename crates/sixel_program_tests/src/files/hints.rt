@@ -1,6 +1,6 @@
 //! The hint after a check of an input that isn't portable, where standard error is a terminal.
 
-ghost use Rattle.sixel_run.specs.Outputs.{HasSides};
+ghost use Rattle.sixel_report.specs.Outputs.{HasSides};
 
 use super::{
     Asked, Ended, PIXEL, RATIO, SEEN, STREAMS, Streams, WIDE, after_input, asked_of, check_of,
@@ -9,8 +9,7 @@ use super::{
 use crate::ends::{RENDER, SURVEY};
 use sixel_asked::Terminals as NamedTerminals;
 use sixel_model::Profile;
-use sixel_program::{Exit, Lines};
-use sixel_run::Task;
+use sixel_report::{Exit, Lines, Task};
 use std::alloc::{AllocError, Global};
 use std::test::Fail;
 

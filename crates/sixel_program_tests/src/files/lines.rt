@@ -1,14 +1,13 @@
 //! Which lines a check, a survey or a scan writes, and in which form.
 
-ghost use Rattle.sixel_run.specs.Outputs.{HasSides};
+ghost use Rattle.sixel_report.specs.Outputs.{HasSides};
 
 use super::{
     ALL, Asked, Ended, PIXEL, RATIO, SEEN, STREAMS, Streams, after_input, asked_of, ends_over,
     unread,
 };
 use crate::ends::{CHECK, SCAN, SURVEY};
-use sixel_program::{Exit, Lines};
-use sixel_run::Task;
+use sixel_report::{Exit, Lines, Task};
 use std::alloc::{AllocError, Global};
 use std::test::Fail;
 

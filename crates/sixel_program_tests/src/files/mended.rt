@@ -1,12 +1,11 @@
 //! Pictures that are mended. The terminal that shows them, and what is refused, are those of the task.
 
-ghost use Rattle.sixel_run.specs.Outputs.{HasSides};
+ghost use Rattle.sixel_report.specs.Outputs.{HasSides};
 
 use super::{PIXEL, PNG, ends_unread};
 use crate::ends::{ends, mend_on};
 use sixel_model::{Colour, Profile};
-use sixel_program::Exit;
-use sixel_run::Task;
+use sixel_report::{Exit, Task};
 use std::alloc::{AllocError, Global};
 use std::test::Fail;
 

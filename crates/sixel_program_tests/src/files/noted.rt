@@ -1,12 +1,11 @@
 //! Notes: what is said of a task that did its work, where that may surprise. A quiet task says nothing.
 
-ghost use Rattle.sixel_run.specs.Outputs.{HasSides};
+ghost use Rattle.sixel_report.specs.Outputs.{HasSides};
 
 use super::{Asked, STREAMS, after_input, asked_of, ends_over, unread};
 use crate::ends::{SCAN, SHOW, SHOW_BOX, mend_on};
 use sixel_model::{Colour, Profile};
-use sixel_program::{Exit, Lines};
-use sixel_run::Task;
+use sixel_report::{Exit, Lines, Task};
 use std::alloc::{AllocError, Global};
 use std::test::Fail;
 

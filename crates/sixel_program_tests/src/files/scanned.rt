@@ -7,8 +7,8 @@ use super::{
 use crate::ends::{NO_TERMINALS, SCAN};
 use sixel_io::{FromRead, ToWrite};
 use sixel_model::Profile;
-use sixel_program::{Exit, Peeked, execute};
-use sixel_run::Task;
+use sixel_program::{Peeked, execute};
+use sixel_report::{Exit, Task};
 use sixel_test_devices::Narrow;
 use std::alloc::{AllocError, Global};
 use std::io;

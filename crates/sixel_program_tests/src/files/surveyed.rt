@@ -7,8 +7,7 @@ use super::{
 use crate::ends::SURVEY;
 use sixel_asked::Terminals as NamedTerminals;
 use sixel_model::Profile;
-use sixel_program::Exit;
-use sixel_run::Task;
+use sixel_report::{Exit, Task};
 use std::test::Fail;
 
 /// Each line has the name of its file before it.

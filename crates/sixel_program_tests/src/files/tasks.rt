@@ -1,14 +1,13 @@
 //! Tasks on one file.
 
-ghost use Rattle.sixel_run.specs.Outputs.{HasSides};
+ghost use Rattle.sixel_report.specs.Outputs.{HasSides};
 
 use super::{
     PIXEL, PNG, RED, STREAMS, Streams, after_input, asked_of, ends_over, ends_unread, unread,
 };
 use crate::ends::{ENCODE, RENDER, SHOW, SHOW_BOX, show_on};
 use sixel_models::Named;
-use sixel_program::Exit;
-use sixel_run::Task;
+use sixel_report::{Exit, Task};
 use std::alloc::{AllocError, Global};
 use std::test::Fail;
 

@@ -1,13 +1,12 @@
 //! Standard input that is named twice: a usage error, and nothing is read.
 
-ghost use Rattle.sixel_run.specs.Outputs.{HasSides};
+ghost use Rattle.sixel_report.specs.Outputs.{HasSides};
 
 use super::{
     Ended, INTERACTIVE, PIXEL, STREAMS, Streams, after_input, asked_of, check_of, ends_over, unread,
 };
 use crate::ends::{RENDER, SCAN, SURVEY, differ};
-use sixel_program::Exit;
-use sixel_run::Task;
+use sixel_report::{Exit, Task};
 use std::alloc::{AllocError, Global};
 use std::test::Fail;
 

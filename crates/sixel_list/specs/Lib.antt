@@ -1,0 +1,3 @@
+pub mod SixelLines
+pub mod Outputs
+pub mod Listings
