@@ -1,6 +1,6 @@
 //! The jobs that users wait for, each over made inputs. No call is made twice on one input.
 
-ghost use Rattle.sixel_run.specs.Outputs.{HasSides};
+ghost use Rattle.sixel_report.specs.Outputs.{HasSides};
 
 use crate::dice::Dice;
 use crate::pixels::Content;
@@ -9,7 +9,7 @@ use crate::stock::{Form, Stock, ppm, put_picture};
 use crate::styles::Style;
 use sixel_asked::Terminals;
 use sixel_model::{Colour, Profile};
-use sixel_run::Task;
+use sixel_report::Task;
 use std::alloc::{AllocError, Global};
 
 const NARROW: Profile = Profile::Registers16;

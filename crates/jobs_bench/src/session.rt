@@ -1,12 +1,12 @@
 //! Requests over documents in memory, with a digest of what they write and of how they end.
 
 ghost use Rattle.std.specs.Prelude.{None};
-ghost use Rattle.sixel_run.specs.Outputs.{HasSides};
+ghost use Rattle.sixel_report.specs.Outputs.{HasSides};
 
 use crate::digest::{Digest, Digested};
 use sixel_io::{FromRead, ToWrite};
-use sixel_program::{Exit, Folder, Lines, Peeked, Request, Terminals, Unopened, code_of, execute};
-use sixel_run::Task;
+use sixel_program::{Folder, Peeked, Terminals, Unopened, execute};
+use sixel_report::{Exit, Lines, Request, Task, code_of};
 use std::alloc::{AllocError, Global};
 use std::io;
 use std::io::Read;

@@ -5,7 +5,8 @@ mod pipe;
 
 use pipe::{Errors, Output};
 use sixel_io::{FromRead, ToWrite};
-use sixel_program::{Input, Peeked, System, Terminals, code_of, execute};
+use sixel_program::{Input, Peeked, System, Terminals, execute};
+use sixel_report::code_of;
 use sixel_words::{Process, arguments_of, task_in, tell};
 use std::cell::Cell;
 use std::io::IsTerminal;

@@ -1,6 +1,6 @@
 -- The name that a line asks for.
-use Rattle.std.proofs.Common.{◌≡◌, ◌∙◌, ◌∷◌, ◌++◌, [], Bool, List, None, Option, Some}
-use Rattle.std.proofs.Common.{ap, ap₂, append-nil, append_assoc, codes, cond, drop, false, map, refl, subst, sym, true}
+use Rattle.std.proofs.Common.{◌≡◌, ◌∙◌, ◌∷◌, ◌++◌, [], Bool, List, None, Option, Some, ap, ap₂, append-nil}
+use Rattle.std.proofs.Common.{append_assoc, codes, cond, drop, false, map, refl, subst, sym, true}
 use Rattle.std.specs.Prelude.{IfSome, IsNone, find, option_map}
 use Rattle.std.specs.List.{concat}
 use Rattle.std.specs.Option.{option_or}
@@ -12,7 +12,7 @@ use Rattle.std.proofs.lemmas.Slice.Eq.{bytes_eq-Decides}
 use Rattle.sixel_explain.specs.declared.explanations.Topic.{Topic}
 use Rattle.sixel_explain.specs.Explanations.{all_called, is_line, last_name, line_of, listed, listed_names, name_called}
 use Rattle.sixel_explain.specs.Explanations.{name_in, names_in, topic_name, topic_of_end, words_of}
-use Rattle.sixel_run.specs.Texts.{Text}
+use Rattle.sixel_report.specs.Texts.{Text}
 use Rattle.sixel_explain.proofs.NameLemmas.{each, name_listed}
 
 -- a listed name in small letters is that name

@@ -1,11 +1,11 @@
 -- The name that is most like a word.
-use Rattle.std.proofs.Common.{◌≡◌, ◌∷◌, ◌++◌, ◌<◌, ◌≤◌, ℕ, zero, suc, [], List, None, Option, Some}
-use Rattle.std.proofs.Common.{arith, get_or, length, map, refl, sym}
+use Rattle.std.proofs.Common.{◌≡◌, ◌∷◌, ◌++◌, ◌<◌, ◌≤◌, ℕ, zero, suc, [], List, None, Option, Some, arith, get_or}
+use Rattle.std.proofs.Common.{length, map, refl, sym}
 use Rattle.std.specs.Borrow.{Bor}
 use Rattle.std.specs.Prelude.{All, Contains}
 use Rattle.std.proofs.lemmas.List.Elements.{All-nil, All-push, All-weaker}
 use Rattle.sixel_explain.specs.Explanations.{edits, most_edits}
-use Rattle.sixel_run.specs.Texts.{Text}
+use Rattle.sixel_report.specs.Texts.{Text}
 
 -- the name that was kept takes this many edits; if none was, the count is the first that is too great
 abbrev pub IsKept : List Text → Text → Option Text → ℕ → Type 0

@@ -1,8 +1,8 @@
 -- A line of the program asks for its topic.
-use Rattle.std.proofs.Common.{◌≡◌, ◌≢◌, ◌∙◌, ◌∷◌, ◌++◌, ◌==◌, ◌+◌, ◌-◌, ◌<◌, ◌≤◌, ◌⊎◌, ◌||◌, ℕ, []}
-use Rattle.std.proofs.Common.{Bool, List, None, Option, Some, ap, append-nil, append_assoc, arith, codes, cond, drop}
-use Rattle.std.proofs.Common.{false, inl, inr, is_some, le-leb, le-ltb, length, length-append, lt-ltb, map, nat_lt}
-use Rattle.std.proofs.Common.{ne_eqb, refl, sym, take, true}
+use Rattle.std.proofs.Common.{◌≡◌, ◌≢◌, ◌∙◌, ◌∷◌, ◌++◌, ◌==◌, ◌+◌, ◌-◌, ◌<◌, ◌≤◌, ◌⊎◌, ◌||◌, ℕ, [], Bool, List, None}
+use Rattle.std.proofs.Common.{Option, Some, ap, append-nil, append_assoc, arith, codes, cond, drop, false, inl, inr}
+use Rattle.std.proofs.Common.{is_some, le-leb, le-ltb, length, length-append, lt-ltb, map, nat_lt, ne_eqb, refl, sym}
+use Rattle.std.proofs.Common.{take, true}
 use Rattle.std.specs.Prelude.{decimal}
 use Rattle.std.specs.Char.{to_ascii_lowercase}
 use Rattle.std.specs.Cmp.Lexicographic.{pointwise}
@@ -24,16 +24,15 @@ use Rattle.sixel_model.specs.declared.rule.Rule.TheVariants as rule
 use Rattle.sixel_judge.specs.declared.verdict.Finding.{Finding}
 use Rattle.sixel_grammar.specs.declared.fault.Reason.TheVariants.{Truncated}
 use Rattle.sixel_ppm.specs.declared.ppm.PpmReason.TheVariants as ppm
-use Rattle.sixel_run.specs.declared.fault.RunFault.{RunFault}
-use Rattle.sixel_run.specs.declared.fault.RunFault.TheVariants as fault
-use Rattle.sixel_run.specs.Texts.{Text, asked_line, fault_parts, finding_line, line, pixel_parts}
-use Rattle.sixel_run.specs.Texts.{rule_name, spaced}
-use Rattle.sixel_run.proofs.DigitLemmas.{AreDigits, number, number_digits}
+use Rattle.sixel_report.specs.declared.fault.RunFault.{RunFault}
+use Rattle.sixel_report.specs.declared.fault.RunFault.TheVariants as fault
+use Rattle.sixel_report.specs.Texts.{Text, asked_line, fault_parts, finding_line, line, pixel_parts, rule_name, spaced}
+use Rattle.sixel_report.proofs.DigitLemmas.{AreDigits, number, number_digits}
 use Rattle.sixel_explain.specs.declared.explanations.Topic.{Topic}
 use Rattle.sixel_explain.specs.declared.explanations.Topic.TheVariants as topic
 use Rattle.sixel_explain.specs.Explanations.{ArePasted, ends_in, is_line, is_mark, last_name, line_of, listed}
-use Rattle.sixel_explain.specs.Explanations.{listed_names, name_called, names_in}
-use Rattle.sixel_explain.specs.Explanations.{topic_name, topic_of, topic_of_end, words_of}
+use Rattle.sixel_explain.specs.Explanations.{listed_names, name_called, names_in, topic_name, topic_of, topic_of_end}
+use Rattle.sixel_explain.specs.Explanations.{words_of}
 use Rattle.sixel_explain.proofs.LineLemmas.{by_end, by_word, last_of_both, line_asks, no_name}
 use Rattle.sixel_explain.proofs.NameLemmas.{each, name_listed}
 

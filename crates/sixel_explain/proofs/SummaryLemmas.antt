@@ -9,7 +9,7 @@ use Rattle.sixel_ppm.specs.declared.ppm.PpmReason.TheVariants as ppm
 use Rattle.sixel_explain.specs.declared.explanations.Topic.{Topic}
 use Rattle.sixel_explain.specs.declared.explanations.Topic.TheVariants as topic
 use Rattle.sixel_explain.specs.Explanations.{first_line, summary}
-use Rattle.sixel_run.specs.Texts.{Text}
+use Rattle.sixel_report.specs.Texts.{Text}
 
 -- what follows the first space of a text, up to the end of the line
 abbrev pub cut : Text → Text

@@ -1,7 +1,7 @@
 -- What `explain` says, and of which topics.
-use Rattle.std.specs.Prelude.{◌≡◌, ◌∷◌, ◌++◌, ◌==◌, ℕ, Bool, List, [], Option, Some, None, codes, find, map}
-use Rattle.std.specs.Prelude.{◌<◌, ◌≤◌, ◌&&◌, ◌||◌, All, Contains, chars, drop, if◌then◌else◌, is_some, length}
-use Rattle.std.specs.Prelude.{flat_map, nat_le, option_map}
+use Rattle.std.specs.Prelude.{◌≡◌, ◌∷◌, ◌++◌, ◌==◌, ℕ, Bool, List, [], Option, Some, None, codes, find, map, ◌<◌, ◌≤◌}
+use Rattle.std.specs.Prelude.{◌&&◌, ◌||◌, All, Contains, chars, drop, if◌then◌else◌, is_some, length, flat_map, nat_le}
+use Rattle.std.specs.Prelude.{option_map}
 use Rattle.std.specs.Io.{StartsWith}
 use Rattle.std.specs.List.{concat, ends_with, list_any, slice_split}
 use Rattle.std.specs.Option.{option_and_then, option_or}
@@ -24,9 +24,9 @@ use Rattle.sixel_explain.specs.declared.explanations.Topic.{Topic}
 use Rattle.sixel_explain.specs.declared.explanations.Topic.TheVariants.{Rule, Asked, Grammar, Ppm, NotRgb, NoBox}
 use Rattle.sixel_explain.specs.declared.explanations.Topic.TheVariants.{Unmodelled, NoString, Empty, TooLarge}
 use Rattle.sixel_explain.specs.declared.explanations.Topic.TheVariants.{OutOfMemory, Read, Write}
-use Rattle.sixel_run.specs.declared.fault.RunFault.{RunFault}
-use Rattle.sixel_run.specs.declared.fault.RunFault.TheVariants as fault
-use Rattle.sixel_run.specs.Texts.{Text, ppm_reason_name, reason_name, rule_name}
+use Rattle.sixel_report.specs.declared.fault.RunFault.{RunFault}
+use Rattle.sixel_report.specs.declared.fault.RunFault.TheVariants as fault
+use Rattle.sixel_report.specs.Texts.{Text, ppm_reason_name, reason_name, rule_name}
 
 -- the name of a topic; for a rule and for a reason it is the name in the line of `check` or of a fault
 abbrev pub topic_name : Topic → Text

@@ -14,7 +14,7 @@ use sixel_asked::AskedRule;
 use sixel_check::Rule;
 use sixel_grammar::Reason;
 use sixel_ppm::PpmReason;
-use sixel_run::{RunFault, ppm_reason_name, reason_name, rule_name};
+use sixel_report::{RunFault, ppm_reason_name, reason_name, rule_name};
 
 /// What can be explained: a rule, or why a run was refused.
 #[derive(Clone, Copy, Debug, PartialEq, Eq, Drop)]

@@ -6,9 +6,9 @@ ghost use Rattle.sixel_asked.specs.Names.{name_of};
 ghost use Rattle.sixel_asked.specs.declared.rule.AskedRule.{AskedRule};
 ghost use Rattle.sixel_model.specs.declared.rule.Rule.{Rule};
 ghost use Rattle.sixel_explain.specs.declared.explanations.Topic.{Topic};
-ghost use Rattle.sixel_run.specs.declared.fault.RunFault.{RunFault};
+ghost use Rattle.sixel_report.specs.declared.fault.RunFault.{RunFault};
 ghost use Rattle.sixel_explain.specs.Explanations.{line_of, listed_names, names_in, topic_name, topic_of};
-ghost use Rattle.sixel_run.specs.Texts.{Text, rule_name};
+ghost use Rattle.sixel_report.specs.Texts.{Text, rule_name};
 
 /// `explain` lists the name of each rule, also of those that named terminals ask for, and of each fault of a run.
 pub fn each_name_is_listed()

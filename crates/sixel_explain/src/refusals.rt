@@ -7,7 +7,7 @@ ghost use Rattle.sixel_grammar.specs.declared.fault.Reason.{Reason as AReason};
 ghost use Rattle.sixel_ppm.specs.declared.ppm.PpmReason.{PpmReason as APpmReason};
 ghost use Rattle.sixel_explain.specs.declared.explanations.Topic.TheVariants as topic;
 ghost use Rattle.sixel_explain.specs.Explanations.{first_line};
-ghost use Rattle.sixel_run.specs.Texts.{ppm_reason_name, reason_name};
+ghost use Rattle.sixel_report.specs.Texts.{ppm_reason_name, reason_name};
 
 use sixel_grammar::Reason;
 use sixel_ppm::PpmReason;

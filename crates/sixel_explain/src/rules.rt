@@ -6,7 +6,7 @@ ghost use Rattle.std.specs.Str.{str_to_ascii_lowercase};
 ghost use Rattle.sixel_model.specs.declared.rule.Rule.{Rule as ARule};
 ghost use Rattle.sixel_explain.specs.declared.explanations.Topic.TheVariants as topic;
 ghost use Rattle.sixel_explain.specs.Explanations.{first_line};
-ghost use Rattle.sixel_run.specs.Texts.{rule_name};
+ghost use Rattle.sixel_report.specs.Texts.{rule_name};
 
 use sixel_check::Rule;
 

@@ -1,6 +1,6 @@
 -- What is found wrong, each once: there is room for all.
-use Rattle.std.proofs.Common.{◌≡◌, ◌∙◌, ◌++◌, ◌∷◌, ◌<◌, ◌+◌, ℕ, true, false, List, [], ap, arith, get_or, length, map, refl}
-use Rattle.std.proofs.Common.{Bool, cond, filter, sym, take}
+use Rattle.std.proofs.Common.{◌≡◌, ◌∙◌, ◌++◌, ◌∷◌, ◌<◌, ◌+◌, ℕ, true, false, List, [], ap, arith, get_or, length, map}
+use Rattle.std.proofs.Common.{refl, Bool, cond, filter, sym, take}
 use Rattle.std.proofs.lemmas.List.{length-append, map-append, take_more}
 use Rattle.std.proofs.lemmas.List.Folds.{list_any-append, list_any_at}
 use Rattle.std.proofs.lemmas.List.Elements.{filter_more}
@@ -20,17 +20,17 @@ use Rattle.sixel_named.specs.declared.rule.NamedRule.TheVariants.{Portable, Aske
 use Rattle.sixel_program.specs.declared.hints.Cause.{Cause}
 use Rattle.sixel_program.specs.declared.hints.Cause.TheVariants.{Refusal, Rule}
 use Rattle.sixel_io.specs.Devices.{SinkState, change}
-use Rattle.sixel_run.specs.Texts.{Text}
-use Rattle.sixel_program.specs.Exits.{IsPut}
+use Rattle.sixel_report.specs.Texts.{Text}
+use Rattle.sixel_report.specs.Exits.{IsPut}
 use Rattle.sixel_program.specs.Files.{ArePut}
 use Rattle.sixel_model.specs.declared.profile.Profile.{Profile}
-use Rattle.sixel_run.specs.declared.task.Task.{Task}
-use Rattle.sixel_run.specs.declared.task.Task.TheVariants.{Check, Survey}
-use Rattle.sixel_run.specs.RuleSets.{rules_in}
-use Rattle.sixel_run.specs.declared.fault.RunFault.{RunFault}
-use Rattle.sixel_run.specs.declared.rule_set.RuleSet.{RuleSet}
-use Rattle.sixel_run.specs.declared.task.Status.{Status}
-use Rattle.sixel_run.specs.declared.task.Status.TheVariants.{Surveyed}
+use Rattle.sixel_report.specs.declared.task.Task.{Task}
+use Rattle.sixel_report.specs.declared.task.Task.TheVariants.{Check, Survey}
+use Rattle.sixel_report.specs.RuleSets.{rules_in}
+use Rattle.sixel_report.specs.declared.fault.RunFault.{RunFault}
+use Rattle.sixel_report.specs.declared.rule_set.RuleSet.{RuleSet}
+use Rattle.sixel_report.specs.declared.task.Status.{Status}
+use Rattle.sixel_report.specs.declared.task.Status.TheVariants.{Surveyed}
 use Rattle.sixel_named.specs.declared.verdict.NamedFinding.{NamedFinding}
 use Rattle.sixel_named.specs.Rules.{rule_of}
 use Rattle.sixel_program.specs.Hints.{cause_name, causes_in, hints_of, is_same, with_cause, with_causes}

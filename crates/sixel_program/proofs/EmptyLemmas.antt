@@ -1,15 +1,15 @@
 -- Which inputs are empty: those whose end is refused at offset 0.
 use Rattle.std.proofs.Common.{◌≡◌, ◌==◌, ◌&&◌, ◌||◌, ◌+◌, ◌-◌, ◌*◌, ◌<◌, ◌≤◌, ℕ, suc, zero, Bool, true, false, List, []}
-use Rattle.std.proofs.Common.{◌∷◌, ◌++◌, length, nat_le, nat_lt, refl, subst, arith, inl, inr, ap, sym, ◌∙◌}
-use Rattle.std.proofs.Common.{eqb-true, not}
+use Rattle.std.proofs.Common.{◌∷◌, ◌++◌, length, nat_le, nat_lt, refl, subst, arith, inl, inr, ap, sym, ◌∙◌, eqb-true}
+use Rattle.std.proofs.Common.{not}
 use Rattle.std.specs.Prelude.{◌↔◌, if◌then◌else◌, slice_get, take, Result, Ok, Err, IfErr}
 use Rattle.std.proofs.lemmas.Bool.{and_from, and_parts, cond_both}
 use Rattle.std.proofs.lemmas.Bool.Decides.{nat_tests}
 use Rattle.sixel_grammar.specs.Bytes.{is_body, is_digit, separator}
 use Rattle.sixel_grammar.specs.Document.{most_bytes}
-use Rattle.sixel_grammar.specs.Faults.{Form, NothingYet, Introducing, Parameters, LastSeparator, NoCommand, RepeatNumber}
-use Rattle.sixel_grammar.specs.Faults.{RasterFields, ColourFields, Terminating, Ended, IsFaultOf, IsRefused, IsTooLong}
-use Rattle.sixel_grammar.specs.Faults.{Stops, refusal}
+use Rattle.sixel_grammar.specs.Faults.{Form, NothingYet, Introducing, Parameters, LastSeparator, NoCommand}
+use Rattle.sixel_grammar.specs.Faults.{RepeatNumber, RasterFields, ColourFields, Terminating, Ended, IsFaultOf}
+use Rattle.sixel_grammar.specs.Faults.{IsRefused, IsTooLong, Stops, refusal}
 use Rattle.sixel_grammar.specs.declared.fault.Fault.{Fault}
 use Rattle.sixel_grammar.specs.declared.fault.Reason.{Reason}
 use Rattle.sixel_grammar.specs.declared.fault.Reason.TheVariants.{BadByte, BadRepeat, FieldCount, NotSixel}
@@ -23,7 +23,7 @@ use Rattle.sixel_ppm.specs.declared.ppm.PpmFault.TheVariants.{Format}
 use Rattle.sixel_ppm.specs.declared.ppm.PpmReason.{PpmReason}
 use Rattle.sixel_ppm.specs.declared.ppm.PpmReason.TheVariants as ppm
 use Rattle.sixel_model.specs.Pictures.{PictureValue, most_side}
-use Rattle.sixel_run.specs.declared.fault.RunFault.TheVariants.{Grammar, Ppm}
+use Rattle.sixel_report.specs.declared.fault.RunFault.TheVariants.{Grammar, Ppm}
 use Rattle.sixel_program.specs.Formats.{is_early_end, is_of_empty}
 
 -- ---- sixel text

@@ -6,7 +6,7 @@ use Rattle.std.specs.Char.{to_ascii_lowercase}
 use Rattle.sixel_asked.specs.Names.{name_of}
 use Rattle.sixel_asked.specs.declared.tally.AskedEntry.{AskedEntry}
 use Rattle.sixel_survey.specs.declared.entry.Entry.{Entry}
-use Rattle.sixel_run.specs.Texts.{Text, asked_entry_line, entry_line, line, pixel_parts, rule_name, spaced}
+use Rattle.sixel_report.specs.Texts.{Text, asked_entry_line, entry_line, line, pixel_parts, rule_name, spaced}
 use Rattle.sixel_explain.specs.declared.explanations.Topic.{Topic}
 use Rattle.sixel_explain.specs.declared.explanations.Topic.TheVariants as topic
 use Rattle.sixel_explain.specs.Explanations.{ArePasted, line_of, names_in, topic_name}

@@ -1,17 +1,16 @@
 -- On checks and surveys of several files.
 use Rattle.std.proofs.Common.{◌≡◌, ◌∙◌, ◌+◌, ◌<◌, ℕ, Bool, true, false, List, [], ◌∷◌, ◌++◌, length, take, drop, Option}
 use Rattle.std.proofs.Common.{Some, None, refl, sym, ap, ap₂, subst, arith, inl, inr, flat_map, All, map, ◌==◌, ◌||◌}
+use Rattle.std.proofs.Common.{cond, get_or}
 use Rattle.std.proofs.lemmas.Bool.{eqb-true}
 use Rattle.std.specs.Prelude.{◌⊎◌, ◌≢◌, Result, Ok, Err, IfSome, String, string_bytes}
 use Rattle.std.specs.Global.{Global}
 use Rattle.std.specs.Io.KnownBytes.{Appends, Consumes, Keeps}
 use Rattle.std.proofs.KnownBytes.{Consumes-nil, Appends-trans}
-use Rattle.std.proofs.Common.{cond, get_or}
 use Rattle.std.specs.List.{list_any}
-use Rattle.std.proofs.lemmas.List.{append-nil, length-append, take-append-drop, take_more}
+use Rattle.std.proofs.lemmas.List.{append-nil, length-append, take-append-drop, take_more, map-append}
 use Rattle.std.proofs.lemmas.List.Elements.{All-cons, All-head, All-nil, All-push, All-tail}
 use Rattle.std.proofs.lemmas.Grind.{flat_map-append}
-use Rattle.std.proofs.lemmas.List.{map-append}
 use Rattle.std.proofs.lemmas.List.Folds.{list_any-append}
 use Rattle.std.proofs.lemmas.List.Sums.{fold-append, fold_push, sum_by_push}
 use Rattle.sixel_io.specs.Devices.{Change, SinkState, SourceState, change, one_more}
@@ -24,31 +23,31 @@ use Rattle.sixel_grammar.proofs.ViableLemmas.{complete}
 use Rattle.sixel_model.specs.Profiles.{count_of}
 use Rattle.sixel_program.specs.declared.hints.Cause.{Cause}
 use Rattle.sixel_run.proofs.StringLemmas.{none_given}
-use Rattle.sixel_program.specs.declared.exit.Exit.{Exit}
-use Rattle.sixel_program.specs.declared.exit.Exit.TheVariants as exit
-use Rattle.sixel_run.specs.declared.fault.RunFault.{RunFault}
-use Rattle.sixel_run.specs.declared.fault.RunFault.TheVariants as run
-use Rattle.sixel_run.specs.declared.task.Status.{Status}
-use Rattle.sixel_run.specs.declared.task.Task.{Task}
-use Rattle.sixel_run.specs.declared.task.Task.TheVariants as task
-use Rattle.sixel_run.specs.declared.task.Task.TheVariants.{Check}
-use Rattle.sixel_program.specs.Exits.{IsPut, exit_for_answer}
+use Rattle.sixel_report.specs.declared.exit.Exit.{Exit}
+use Rattle.sixel_report.specs.declared.exit.Exit.TheVariants as exit
+use Rattle.sixel_report.specs.declared.fault.RunFault.{RunFault}
+use Rattle.sixel_report.specs.declared.fault.RunFault.TheVariants as run
+use Rattle.sixel_report.specs.declared.task.Status.{Status}
+use Rattle.sixel_report.specs.declared.task.Task.{Task}
+use Rattle.sixel_report.specs.declared.task.Task.TheVariants as task
+use Rattle.sixel_report.specs.declared.task.Task.TheVariants.{Check}
+use Rattle.sixel_report.specs.Exits.{IsPut, exit_for_answer}
 use Rattle.sixel_program.specs.Formats.{IsFormat}
 use Rattle.sixel_program.specs.Files.{AreChecked, ArePut, FileEnd, FilesEnd, IsChecked, IsFileEnd, AreCut}
 use Rattle.sixel_program.specs.Files.{IsFileOpening, IsFinished, IsRead, causes_among, complaints_of, failed_among}
-use Rattle.sixel_program.specs.Files.{exit_of_end, files_exit, files_text, is_dash, labels_for}
-use Rattle.sixel_program.specs.Files.{labels_of, name_of, said_of, text_of_end, worse}
-use Rattle.sixel_program.specs.Files.{worst, wrapped_among}
+use Rattle.sixel_program.specs.Files.{exit_of_end, files_exit, files_text, is_dash, labels_for, labels_of, name_of}
+use Rattle.sixel_program.specs.Files.{said_of, text_of_end, worse, worst, wrapped_among}
 use Rattle.sixel_program.specs.Notes.{has_wrapped}
 use Rattle.sixel_run.specs.LineTasks.{ReadsOver, has_lines}
 use Rattle.sixel_program.specs.Hints.{causes_in, causes_of, with_cause, with_causes}
 use Rattle.sixel_program.specs.Openings.{FailsWith, FolderView, bytes_of}
 use Rattle.sixel_program.specs.declared.folder.Unopened.{Unopened}
-use Rattle.sixel_run.specs.Outputs.{TakesMemory, Wrote, failures_by}
+use Rattle.sixel_run.specs.Outputs.{TakesMemory, Wrote}
+use Rattle.sixel_report.specs.Outputs.{failures_by}
 use Rattle.sixel_program.specs.Counts.{has_failed}
-use Rattle.sixel_program.specs.declared.lines.Lines.{Lines}
-use Rattle.sixel_program.specs.declared.lines.Shown.{Shown}
-use Rattle.sixel_run.specs.Texts.{Text, fault_line}
+use Rattle.sixel_report.specs.declared.wanted_lines.Lines.{Lines}
+use Rattle.sixel_program.specs.declared.shown.Shown.{Shown}
+use Rattle.sixel_report.specs.Texts.{Text, fault_line}
 use Rattle.sixel_program.proofs.DashLemmas.{or_false}
 use Rattle.sixel_program.proofs.EndLemmas.{kept}
 

@@ -5,7 +5,7 @@ use Rattle.std.specs.List.{AllByRecursion}
 use Rattle.std.specs.Prelude.{decimal}
 use Rattle.json.specs.Print.{ends, escape, escape_byte, print_from, quoted, token_text}
 use Rattle.json.specs.Token.{end_object}
-use Rattle.sixel_run.specs.Texts.{Text}
+use Rattle.sixel_report.specs.Texts.{Text}
 use Rattle.sixel_program.specs.declared.names.Spelling.TheVariants.{Quoted}
 use Rattle.sixel_program.specs.Json.{Member, file_member, json_line, next_member, next_members, number_member}
 use Rattle.sixel_program.specs.Json.{object_line, spelled, text_member, tokens_of}

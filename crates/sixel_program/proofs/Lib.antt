@@ -1,6 +1,5 @@
 pub mod OpeningLemmas
 pub mod PeekedLemmas
-pub mod PutLemmas
 pub mod EndLemmas
 pub mod EmptyLemmas
 pub mod DashLemmas
@@ -10,6 +9,7 @@ pub mod NamedLemmas
 pub mod EntryLemmas
 pub mod StringLineLemmas
 pub mod RequestLemmas
+pub mod FeedLemmas
 pub mod SeveralLemmas
 pub mod StatusLemmas
 pub mod ReportLemmas

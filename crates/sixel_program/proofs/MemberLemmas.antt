@@ -9,14 +9,14 @@ use Rattle.sixel_scan.specs.declared.answer.Answer.{Answer}
 use Rattle.sixel_scan.specs.declared.answer.Answer.TheVariants.{Portable, Broken, Refused}
 use Rattle.sixel_ppm.specs.declared.ppm.PpmReason.{PpmReason}
 use Rattle.sixel_explain.specs.Explanations.{topic_of}
-use Rattle.sixel_run.specs.declared.fault.RunFault.{RunFault}
-use Rattle.sixel_run.specs.declared.fault.RunFault.TheVariants.{Grammar, Ppm, Read}
-use Rattle.sixel_run.specs.declared.item.Item.{Item}
-use Rattle.sixel_run.specs.declared.item.Item.TheVariants.{Asked, AskedEntry, Outcome, Entry, Group, Same, String}
-use Rattle.sixel_run.specs.declared.item.Item.TheVariants.{Unmodelled}
+use Rattle.sixel_report.specs.declared.fault.RunFault.{RunFault}
+use Rattle.sixel_report.specs.declared.fault.RunFault.TheVariants.{Grammar, Ppm, Read}
+use Rattle.sixel_report.specs.declared.item.Item.{Item}
+use Rattle.sixel_report.specs.declared.item.Item.TheVariants.{Asked, AskedEntry, Outcome, Entry, Group, Same, String}
+use Rattle.sixel_report.specs.declared.item.Item.TheVariants.{Unmodelled}
 use Rattle.sixel_program.specs.declared.folder.Unopened.{Unopened}
-use Rattle.sixel_program.specs.Json.{Member, answer_members, broken_at, fault_members, item_members}
-use Rattle.sixel_program.specs.Json.{outcome_members, pixel_members, plain_refusal, unread_members}
+use Rattle.sixel_program.specs.Json.{Member, answer_members, broken_at, fault_members, item_members, outcome_members}
+use Rattle.sixel_program.specs.Json.{pixel_members, plain_refusal, unread_members}
 use Rattle.sixel_program.proofs.JsonLemmas.{AllEnd}
 
 pub both_end : (a b : List Member) → AllEnd a → AllEnd b → AllEnd (a ++ b)

@@ -1,24 +1,24 @@
 -- How the check, the survey or the scan of an input ends, quiet or not.
-use Rattle.std.proofs.Common.{◌≡◌, ◌∙◌, ℕ, Bool, true, false, List, [], ◌∷◌, Option, Some, None, flat_map, inl, inr}
-use Rattle.std.proofs.Common.{ap, refl, subst, sym, take}
+use Rattle.std.proofs.Common.{◌≡◌, ◌∙◌, ℕ, Bool, true, false, List, [], ◌∷◌, Option, Some, None, flat_map, inl, inr, ap}
+use Rattle.std.proofs.Common.{refl, subst, sym, take}
 use Rattle.std.specs.Prelude.{◌⊎◌, ◌≢◌, IfErr, IfOk, Result, Ok, Err}
 use Rattle.std.specs.Io.KnownBytes.{Appends, Keeps}
 use Rattle.std.proofs.KnownBytes.{Appends-trans}
 use Rattle.sixel_io.specs.Devices.{Change, SinkState, SourceState, Writes, change, one_more}
 use Rattle.sixel_io.proofs.SinkLemmas.{Appends-none, puts-longer, puts-then}
-use Rattle.sixel_run.specs.declared.fault.RunFault.{RunFault}
-use Rattle.sixel_run.specs.declared.fault.RunFault.TheVariants as run
-use Rattle.sixel_run.specs.declared.item.Item.{Item}
-use Rattle.sixel_run.specs.declared.task.Status.{Status}
-use Rattle.sixel_run.specs.declared.task.Task.{Task}
+use Rattle.sixel_report.specs.declared.fault.RunFault.{RunFault}
+use Rattle.sixel_report.specs.declared.fault.RunFault.TheVariants as run
+use Rattle.sixel_report.specs.declared.item.Item.{Item}
+use Rattle.sixel_report.specs.declared.task.Status.{Status}
+use Rattle.sixel_report.specs.declared.task.Task.{Task}
 use Rattle.sixel_run.specs.LineTasks.{EndsAs, PutsText, WritesItems}
-use Rattle.sixel_run.specs.Outputs.{CountsWrites, failures_by}
-use Rattle.sixel_run.specs.Texts.{Text}
+use Rattle.sixel_report.specs.Outputs.{CountsWrites, failures_by}
+use Rattle.sixel_report.specs.Texts.{Text}
 use Rattle.sixel_run.proofs.LineTaskLemmas.{same_found}
-use Rattle.sixel_program.specs.Lines.{is_quiet}
+use Rattle.sixel_report.specs.Lines.{is_quiet}
 use Rattle.sixel_program.specs.declared.formats.Format.{Format}
-use Rattle.sixel_program.specs.declared.lines.Lines.{Lines}
-use Rattle.sixel_program.specs.declared.lines.Lines.TheVariants.{Nothing}
+use Rattle.sixel_report.specs.declared.wanted_lines.Lines.{Lines}
+use Rattle.sixel_report.specs.declared.wanted_lines.Lines.TheVariants.{Nothing}
 use Rattle.sixel_program.specs.Files.{ArePut, IsFileEnd, IsNamedEnd, refusal_text, said_of_file, written_for}
 use Rattle.sixel_program.specs.Formats.{IsFormat}
 use Rattle.sixel_program.proofs.FilesLemmas.{memory_kept, over_kept, wrote_kept}

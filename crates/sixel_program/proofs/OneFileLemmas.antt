@@ -1,16 +1,17 @@
 -- On a task over one file.
 use Rattle.std.proofs.Common.{◌≡◌, ◌∙◌, Some, None, false, inl, inr, refl, sym, true}
 use Rattle.sixel_io.specs.Devices.{Change, SinkState, SourceState, change}
-use Rattle.sixel_program.specs.declared.exit.Exit.{Exit}
-use Rattle.sixel_program.specs.declared.exit.Exit.TheVariants as exit
-use Rattle.sixel_run.specs.declared.task.Task.{Task}
-use Rattle.sixel_program.specs.Exits.{IsPut, RunEnds}
+use Rattle.sixel_report.specs.declared.exit.Exit.{Exit}
+use Rattle.sixel_report.specs.declared.exit.Exit.TheVariants as exit
+use Rattle.sixel_report.specs.declared.task.Task.{Task}
+use Rattle.sixel_report.specs.Exits.{IsPut}
+use Rattle.sixel_program.specs.Exits.{RunEnds}
 use Rattle.sixel_program.specs.Files.{FileEnds, is_dash}
 use Rattle.sixel_program.specs.Names.{unopened_line}
 use Rattle.sixel_program.specs.Openings.{CountsOf, FolderView, IsOpening, bytes_of}
 use Rattle.sixel_program.specs.declared.folder.Unopened.{Unopened}
-use Rattle.sixel_program.specs.declared.lines.Lines.{Lines}
-use Rattle.sixel_run.specs.Texts.{Text}
+use Rattle.sixel_report.specs.declared.wanted_lines.Lines.{Lines}
+use Rattle.sixel_report.specs.Texts.{Text}
 
 module _ (t : Task) (q : Lines) {O : Type 0} (folder : FolderView O) (name : Text) (o e : Change SinkState) where
   pub dash_ends : (x : Exit) (i : Change SourceState) → is_dash name ≡ true → RunEnds t q (Some name) x i o e

@@ -1,6 +1,6 @@
 -- Names in which U+FFFD is looked for.
-use Rattle.std.proofs.Common.{◌≡◌, ◌∙◌, ◌∷◌, ◌++◌, [], Some, None, ap, append_assoc, arith, drop, length}
-use Rattle.std.proofs.Common.{refl, sym, take}
+use Rattle.std.proofs.Common.{◌≡◌, ◌∙◌, ◌∷◌, ◌++◌, [], Some, None, ap, append_assoc, arith, drop, length, refl, sym}
+use Rattle.std.proofs.Common.{take}
 use Rattle.std.specs.Prelude.{Result, Ok, Err, MatchResult}
 use Rattle.std.specs.Str.Pattern.{FindsText, HasMatch}
 use Rattle.std.proofs.lemmas.List.{length-append, take-append-drop}
@@ -8,7 +8,7 @@ use Rattle.std.proofs.Math.Seq.{drop-append_seam}
 use Rattle.sixel_program.specs.declared.folder.Unopened.{Unopened}
 use Rattle.sixel_program.specs.declared.folder.Unopened.TheVariants.{NotText}
 use Rattle.sixel_program.specs.Openings.{IsNotText, IsOpening, OpensAs, Told}
-use Rattle.sixel_run.specs.Texts.{Text}
+use Rattle.sixel_report.specs.Texts.{Text}
 
 abbrev replacement : Text
 replacement = 0xEF ∷ 0xBF ∷ 0xBD ∷ []

@@ -1,6 +1,6 @@
 -- What a line of JSON reads back as, and that it is one line.
-use Rattle.std.proofs.Common.{◌≡◌, ◌≤◌, ◌∙◌, ◌∷◌, ◌++◌, ◌&&◌, ℕ, [], List, Some, Bool, false, true}
-use Rattle.std.proofs.Common.{ap, arith, cond, flat_map, inl, inr, nat_eq, refl, subst, sym}
+use Rattle.std.proofs.Common.{◌≡◌, ◌≤◌, ◌∙◌, ◌∷◌, ◌++◌, ◌&&◌, ℕ, [], List, Some, Bool, false, true, ap, arith, cond}
+use Rattle.std.proofs.Common.{flat_map, inl, inr, nat_eq, refl, subst, sym}
 use Rattle.std.proofs.lemmas.List.{append_cancel_right}
 use Rattle.std.proofs.lemmas.Bool.{ne_eqb}
 use Rattle.std.proofs.lemmas.Bool.Decides.{nat_tests}
@@ -18,8 +18,8 @@ use Rattle.json.specs.Tree.{HasNumbers, MembersHaveNumbers, depth, json_tokens, 
 use Rattle.json.specs.Print.{ArePrintable, IsPrintable, begins, ends, escape, escape_byte, escape_letter, print}
 use Rattle.json.specs.Print.{print_from, quoted, separator, token_text}
 use Rattle.json.specs.Token.{Token, begin_object, end_object, key}
-use Rattle.sixel_run.specs.Texts.{IsLine, Text}
-use Rattle.sixel_run.proofs.DigitLemmas.{AreDigits, number_digits}
+use Rattle.sixel_report.specs.Texts.{IsLine, Text}
+use Rattle.sixel_report.proofs.DigitLemmas.{AreDigits, number_digits}
 use Rattle.sixel_program.specs.Json.{HaveValues, IsValue, Member, json_line, members_of, object, tokens_of, value_of}
 
 abbrev AllHave : List Member → Type 0

@@ -1,17 +1,16 @@
 -- What is written and said of an input that is refused, in JSON or not.
-use Rattle.std.proofs.Common.{◌≡◌, ◌∷◌, true, false, [], Option, None, refl}
-use Rattle.std.specs.Prelude.{◌≢◌, Result, Ok, Err}
-use Rattle.sixel_run.specs.declared.fault.RunFault.{RunFault}
-use Rattle.sixel_run.specs.declared.fault.RunFault.TheVariants as run
-use Rattle.sixel_run.specs.declared.task.Status.{Status}
-use Rattle.sixel_run.specs.Texts.{Text}
-use Rattle.sixel_program.specs.Lines.{is_json, is_quiet}
+use Rattle.std.proofs.Common.{◌≡◌, true, false, [], Option, None, refl}
+use Rattle.std.specs.Prelude.{Result, Ok, Err}
+use Rattle.sixel_report.specs.declared.fault.RunFault.{RunFault}
+use Rattle.sixel_report.specs.declared.fault.RunFault.TheVariants as run
+use Rattle.sixel_report.specs.declared.task.Status.{Status}
+use Rattle.sixel_report.specs.Texts.{Text}
+use Rattle.sixel_report.specs.Lines.{is_json, is_quiet}
 use Rattle.sixel_program.specs.declared.folder.Unopened.{Unopened}
 use Rattle.sixel_program.specs.declared.formats.Format.{Format}
-use Rattle.sixel_program.specs.declared.lines.Lines.{Lines}
-use Rattle.sixel_program.specs.declared.lines.Lines.TheVariants.{Json, Nothing, Plain}
+use Rattle.sixel_report.specs.declared.wanted_lines.Lines.{Lines}
+use Rattle.sixel_report.specs.declared.wanted_lines.Lines.TheVariants.{Json, Nothing, Plain}
 use Rattle.sixel_program.specs.Files.{message_about, refusal_object, refusal_text, said_of_file}
-use Rattle.sixel_program.specs.Json.{fault_members, file_member, json_line}
 
 -- an input that isn't refused has no refusal, nor a message
 pub no_refusal : (lines : Lines) (label : Option Text) (status : Status)
@@ -56,8 +55,3 @@ pub in_lines : (lines : Lines) (label : Option Text) (unopened : Option Unopened
 in_lines (Nothing json) label unopened format answer is = record { refusal = refl; message = refl }
 in_lines (Plain only_failed) label unopened format answer is = record { refusal = refl; message = refl }
 in_lines (Json only_failed) label unopened format answer is = let no : true ≡ false = is in cc
-
-pub fault_object : (label : Option Text) (fault : RunFault) → fault ≢ run.Write
-    → refusal_object label None (Err fault) ≡ json_line (file_member label ∷ fault_members fault)
-fault_object label run.Write other = absurd (other refl)
-fault_object label fault other = refl

@@ -3,24 +3,25 @@ use Rattle.std.proofs.Common.{◌≡◌, ◌∙◌, ℕ, Bool, true, false, List
 use Rattle.std.proofs.Common.{subst, inl, inr, fold, map}
 use Rattle.std.specs.Prelude.{◌≢◌, ◌⊎◌, Result, Ok, Err, IfSome, if◌then◌else◌}
 use Rattle.sixel_io.specs.Devices.{Change, SinkState, SourceState}
-use Rattle.sixel_program.specs.declared.exit.Exit.{Exit}
-use Rattle.sixel_program.specs.Lines.{all_of}
-use Rattle.sixel_program.specs.declared.lines.Lines.{Lines}
-use Rattle.sixel_program.specs.declared.lines.Lines.TheVariants.{Plain}
-use Rattle.sixel_program.specs.declared.lines.Shown.{Shown}
-use Rattle.sixel_program.specs.declared.exit.Exit.TheVariants as exit
-use Rattle.sixel_run.specs.declared.fault.RunFault.{RunFault}
-use Rattle.sixel_run.specs.declared.fault.RunFault.TheVariants as run
-use Rattle.sixel_run.specs.declared.task.Status.{Status}
-use Rattle.sixel_run.specs.declared.task.Status.TheVariants as status
-use Rattle.sixel_run.specs.declared.task.Task.{Task}
-use Rattle.sixel_run.specs.declared.task.Task.TheVariants as task
-use Rattle.sixel_program.specs.Exits.{RunEnds, exit_for_answer}
+use Rattle.sixel_report.specs.declared.exit.Exit.{Exit}
+use Rattle.sixel_report.specs.Lines.{all_of}
+use Rattle.sixel_report.specs.declared.wanted_lines.Lines.{Lines}
+use Rattle.sixel_report.specs.declared.wanted_lines.Lines.TheVariants.{Plain}
+use Rattle.sixel_program.specs.declared.shown.Shown.{Shown}
+use Rattle.sixel_report.specs.declared.exit.Exit.TheVariants as exit
+use Rattle.sixel_report.specs.declared.fault.RunFault.{RunFault}
+use Rattle.sixel_report.specs.declared.fault.RunFault.TheVariants as run
+use Rattle.sixel_report.specs.declared.task.Status.{Status}
+use Rattle.sixel_report.specs.declared.task.Status.TheVariants as status
+use Rattle.sixel_report.specs.declared.task.Task.{Task}
+use Rattle.sixel_report.specs.declared.task.Task.TheVariants as task
+use Rattle.sixel_program.specs.Exits.{RunEnds}
+use Rattle.sixel_report.specs.Exits.{exit_for_answer}
 use Rattle.sixel_program.specs.Files.{FileEnd, FileEnds, FilesEnd, RequestEnds, exit_of_end, labels_for, name_of}
 use Rattle.sixel_program.specs.Files.{names_read, told_of, worse}
 use Rattle.sixel_program.specs.Openings.{FolderView, bytes_of}
 use Rattle.sixel_run.specs.Outputs.{Wrote}
-use Rattle.sixel_run.specs.Texts.{Text}
+use Rattle.sixel_report.specs.Texts.{Text}
 use Rattle.sixel_program.proofs.DashLemmas.{labels_read}
 
 -- ---- what is asked for

@@ -10,32 +10,32 @@ use Rattle.sixel_io.specs.Devices.{Change, SinkState, change, one_more}
 use Rattle.sixel_io.proofs.SinkLemmas.{Appends-none}
 use Rattle.sixel_io.proofs.DeviceLemmas.{Appends-then}
 use Rattle.std.proofs.lemmas.List.Elements.{All-cons, All-nil}
-use Rattle.sixel_program.specs.Lines.{is_portable_item}
-use Rattle.sixel_program.specs.declared.exit.Exit.{Exit}
-use Rattle.sixel_program.specs.declared.exit.Exit.TheVariants as exit
+use Rattle.sixel_report.specs.Lines.{is_portable_item}
+use Rattle.sixel_report.specs.declared.exit.Exit.{Exit}
+use Rattle.sixel_report.specs.declared.exit.Exit.TheVariants as exit
 use Rattle.sixel_grammar.specs.declared.fault.Fault.{Fault}
-use Rattle.sixel_run.specs.declared.fault.RunFault.{RunFault}
-use Rattle.sixel_run.specs.declared.fault.RunFault.TheVariants as run
-use Rattle.sixel_run.specs.declared.task.Status.{Status}
-use Rattle.sixel_program.specs.Exits.{IsPut, exit_code, exit_for_answer}
+use Rattle.sixel_report.specs.declared.fault.RunFault.{RunFault}
+use Rattle.sixel_report.specs.declared.fault.RunFault.TheVariants as run
+use Rattle.sixel_report.specs.declared.task.Status.{Status}
+use Rattle.sixel_report.specs.Exits.{IsPut, exit_code, exit_for_answer}
 use Rattle.sixel_program.specs.Files.{ArePut, FileEnd, IsFileEnd, IsSaid, exit_of_end, files_exit, refusal_object}
-use Rattle.sixel_program.specs.declared.lines.Lines.TheVariants.{Json, Nothing, Plain}
+use Rattle.sixel_program.specs.Files.{written_for, files_text, worse}
+use Rattle.sixel_report.specs.declared.wanted_lines.Lines.TheVariants.{Json, Nothing, Plain}
 use Rattle.sixel_program.proofs.FilesLemmas.{from_done}
 use Rattle.sixel_program.specs.Exits.{labelled}
-use Rattle.sixel_program.specs.Files.{written_for}
-use Rattle.sixel_run.specs.declared.item.Item.{Item}
+use Rattle.sixel_report.specs.declared.item.Item.{Item}
 use Rattle.sixel_program.proofs.NamedLemmas.{none_written}
-use Rattle.sixel_program.specs.Files.{files_text, worse}
 use Rattle.sixel_run.specs.LineTasks.{has_lines, scans}
 use Rattle.sixel_run.proofs.StringLemmas.{not_a_fault}
-use Rattle.sixel_run.specs.Outputs.{Gives, ScanGives, ScansBefore, ScansUnread, Wrote, WroteWith}
+use Rattle.sixel_run.specs.Outputs.{Gives, ScanGives, ScansBefore, ScansUnread, Wrote}
+use Rattle.sixel_report.specs.Outputs.{WroteWith}
 use Rattle.sixel_run.specs.Scanned.{Finds, scan_text}
-use Rattle.sixel_run.specs.declared.task.Task.{Task}
-use Rattle.sixel_run.specs.declared.task.Task.TheVariants.{Check, Differ, Scan, Survey}
+use Rattle.sixel_report.specs.declared.task.Task.{Task}
+use Rattle.sixel_report.specs.declared.task.Task.TheVariants.{Check, Differ, Scan, Survey}
 use Rattle.sixel_scan.specs.declared.answer.Scanned.{Scanned}
 use Rattle.sixel_model.specs.Profiles.{count_of}
 use Rattle.sixel_model.specs.declared.profile.Profile.{Profile}
-use Rattle.sixel_run.specs.Texts.{Text, item_line, items_text}
+use Rattle.sixel_report.specs.Texts.{Text, item_line, items_text}
 
 -- ---- the greatest
 

@@ -4,21 +4,21 @@ use Rattle.std.proofs.Common.{subst, suc, sym, zero}
 use Rattle.std.specs.Prelude.{All, Contains, Err, IfSome, Ok, Result, slice_index_or}
 use Rattle.std.proofs.lemmas.List.Elements.{All-cons, All-head, All-nil, All-tail}
 use Rattle.sixel_io.specs.Devices.{Change, SinkState, SourceState}
-use Rattle.sixel_program.specs.declared.exit.Exit.{Exit}
-use Rattle.sixel_program.specs.declared.lines.Lines.{Lines}
-use Rattle.sixel_program.specs.declared.lines.Shown.{Shown}
-use Rattle.sixel_program.specs.declared.exit.Exit.TheVariants as exit
-use Rattle.sixel_run.specs.declared.fault.RunFault.{RunFault}
-use Rattle.sixel_run.specs.declared.task.Status.{Status}
-use Rattle.sixel_run.specs.declared.task.Status.TheVariants as status
-use Rattle.sixel_run.specs.declared.task.Task.{Task}
-use Rattle.sixel_program.specs.Exits.{exit_code, exit_for_answer}
+use Rattle.sixel_report.specs.declared.exit.Exit.{Exit}
+use Rattle.sixel_report.specs.declared.wanted_lines.Lines.{Lines}
+use Rattle.sixel_program.specs.declared.shown.Shown.{Shown}
+use Rattle.sixel_report.specs.declared.exit.Exit.TheVariants as exit
+use Rattle.sixel_report.specs.declared.fault.RunFault.{RunFault}
+use Rattle.sixel_report.specs.declared.task.Status.{Status}
+use Rattle.sixel_report.specs.declared.task.Status.TheVariants as status
+use Rattle.sixel_report.specs.declared.task.Task.{Task}
+use Rattle.sixel_report.specs.Exits.{exit_code, exit_for_answer}
 use Rattle.sixel_run.specs.Outputs.{Wrote}
 use Rattle.sixel_program.specs.Files.{FileEnd, FilesEnd, IsBrokenOver, IsDoneOver, IsFileEnd, IsJudgedOver, IsRead}
 use Rattle.sixel_program.specs.Files.{RequestEnds, exit_of_end, files_exit, labels_for, name_of, names_read, told_of}
 use Rattle.sixel_program.proofs.FilesLemmas.{names_of}
 use Rattle.sixel_program.specs.Openings.{FolderView, bytes_of}
-use Rattle.sixel_run.specs.Texts.{Text, items_text}
+use Rattle.sixel_report.specs.Texts.{Text, items_text}
 use Rattle.sixel_program.proofs.EndLemmas.{broken_gives, done_gives}
 use Rattle.sixel_program.proofs.RequestLemmas.{request_read}
 use Rattle.sixel_program.proofs.SeveralLemmas.{contains_later, greatest_of, reached}

@@ -5,7 +5,7 @@ use Rattle.sixel_grammar.specs.declared.fault.Fault.{Fault}
 use Rattle.sixel_judge.specs.declared.verdict.Finding.{Finding}
 use Rattle.sixel_scan.specs.declared.answer.Scanned.{Scanned}
 use Rattle.sixel_scan.specs.declared.answer.Answer.TheVariants.{Broken, Refused}
-use Rattle.sixel_run.specs.Texts.{Text, finding_line, reason_name, refusal_line, rule_name, spaced, string_line}
+use Rattle.sixel_report.specs.Texts.{Text, finding_line, reason_name, refusal_line, rule_name, spaced, string_line}
 use Rattle.sixel_explain.specs.declared.explanations.Topic.TheVariants as topic
 use Rattle.sixel_explain.specs.Explanations.{ArePasted, line_of, names_in}
 use Rattle.sixel_explain.proofs.PastedLemmas.{finding_pasted, line_after, low, low_number, name_before_number}

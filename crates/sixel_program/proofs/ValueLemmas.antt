@@ -10,15 +10,15 @@ use Rattle.sixel_judge.specs.declared.verdict.Outcome.{Outcome as AnOutcome}
 use Rattle.sixel_judge.specs.declared.verdict.Outcome.TheVariants as outcome
 use Rattle.sixel_scan.specs.declared.answer.Answer.{Answer}
 use Rattle.sixel_scan.specs.declared.answer.Answer.TheVariants.{Portable, Broken, Refused}
-use Rattle.sixel_run.specs.declared.fault.RunFault.{RunFault}
-use Rattle.sixel_run.specs.declared.fault.RunFault.TheVariants.{Grammar, Ppm}
-use Rattle.sixel_run.specs.Texts.{Text}
-use Rattle.sixel_run.specs.declared.item.Item.{Item}
-use Rattle.sixel_run.specs.declared.item.Item.TheVariants.{Asked, AskedEntry, Outcome, Entry, Group, Same, String}
-use Rattle.sixel_run.specs.declared.item.Item.TheVariants.{Unmodelled}
+use Rattle.sixel_report.specs.declared.fault.RunFault.{RunFault}
+use Rattle.sixel_report.specs.declared.fault.RunFault.TheVariants.{Grammar, Ppm}
+use Rattle.sixel_report.specs.Texts.{Text}
+use Rattle.sixel_report.specs.declared.item.Item.{Item}
+use Rattle.sixel_report.specs.declared.item.Item.TheVariants.{Asked, AskedEntry, Outcome, Entry, Group, Same, String}
+use Rattle.sixel_report.specs.declared.item.Item.TheVariants.{Unmodelled}
 use Rattle.sixel_program.specs.declared.folder.Unopened.{Unopened}
-use Rattle.sixel_program.specs.Json.{FitsAnswer, FitsFault, FitsItem, FitsOutcome, FitsPixel, HaveValues, IsValue, Member}
-use Rattle.sixel_program.specs.Json.{answer_members, broken_at, fault_members, file_member, item_members}
+use Rattle.sixel_program.specs.Json.{FitsAnswer, FitsFault, FitsItem, FitsOutcome, FitsPixel, HaveValues, IsValue}
+use Rattle.sixel_program.specs.Json.{Member, answer_members, broken_at, fault_members, file_member, item_members}
 use Rattle.sixel_program.specs.Json.{outcome_members, pixel_members, unread_members}
 
 abbrev Has : Member → Type 0

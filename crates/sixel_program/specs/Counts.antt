@@ -1,14 +1,14 @@
 -- The last line of a check of several files: how many of them failed.
-use Rattle.std.specs.Prelude.{◌&&◌, ◌||◌, ◌∷◌, ◌==◌, ℕ, Bool, true, false, [], codes, decimal, if◌then◌else◌, nat_lt, Result}
-use Rattle.std.specs.Prelude.{Ok}
-use Rattle.sixel_program.specs.declared.lines.Lines.{Lines}
-use Rattle.sixel_program.specs.declared.lines.Lines.TheVariants.{Json, Nothing, Plain}
-use Rattle.sixel_run.specs.declared.fault.RunFault.{RunFault}
-use Rattle.sixel_run.specs.declared.task.Status.{Status}
-use Rattle.sixel_run.specs.declared.task.Status.TheVariants.{Done, Noted}
-use Rattle.sixel_run.specs.declared.task.Task.{Task}
-use Rattle.sixel_run.specs.declared.task.Task.TheVariants.{Check}
-use Rattle.sixel_run.specs.Texts.{Text, line}
+use Rattle.std.specs.Prelude.{◌&&◌, ◌||◌, ◌∷◌, ◌==◌, ℕ, Bool, true, false, [], codes, decimal, if◌then◌else◌, nat_lt}
+use Rattle.std.specs.Prelude.{Result, Ok}
+use Rattle.sixel_report.specs.declared.wanted_lines.Lines.{Lines}
+use Rattle.sixel_report.specs.declared.wanted_lines.Lines.TheVariants.{Json, Nothing, Plain}
+use Rattle.sixel_report.specs.declared.fault.RunFault.{RunFault}
+use Rattle.sixel_report.specs.declared.task.Status.{Status}
+use Rattle.sixel_report.specs.declared.task.Status.TheVariants.{Done, Noted}
+use Rattle.sixel_report.specs.declared.task.Task.{Task}
+use Rattle.sixel_report.specs.declared.task.Task.TheVariants.{Check}
+use Rattle.sixel_report.specs.Texts.{Text, line}
 
 -- whether an input with this answer isn't portable: a rule is broken, or it is refused
 abbrev pub has_failed : Result Status RunFault → Bool

@@ -1,42 +1,25 @@
 -- How a run ends: exit statuses and messages.
-use Rattle.std.specs.Prelude.{◌≡◌, ◌≢◌, ◌⊎◌, ◌++◌, ℕ, [], Bool, false, true, take, IfSome, Result, Ok, Err, None}
-use Rattle.std.specs.Prelude.{Option, Some, if◌then◌else◌}
-use Rattle.std.specs.Io.KnownBytes.{Appends}
-use Rattle.sixel_io.specs.Devices.{Change, SinkState, SourceState, one_more}
-use Rattle.sixel_program.specs.declared.exit.Exit.{Exit}
-use Rattle.sixel_program.specs.declared.exit.Exit.TheVariants.{Done, Broken, Refused, Usage}
-use Rattle.sixel_run.specs.declared.fault.RunFault.{RunFault}
-use Rattle.sixel_run.specs.declared.task.Status.{Status}
-use Rattle.sixel_run.specs.declared.task.Status.TheVariants as status
-use Rattle.sixel_run.specs.declared.task.Task.{Task}
-use Rattle.sixel_run.specs.declared.task.Task.TheVariants as task
-use Rattle.sixel_run.specs.declared.fault.RunFault.TheVariants as run
+use Rattle.std.specs.Prelude.{◌≡◌, ◌≢◌, ◌⊎◌, ◌++◌, ℕ, [], Bool, false, true, IfSome, Result, Ok, Err, None, Option}
+use Rattle.std.specs.Prelude.{Some, if◌then◌else◌}
+use Rattle.sixel_io.specs.Devices.{Change, SinkState, SourceState}
+use Rattle.sixel_report.specs.declared.exit.Exit.{Exit}
+use Rattle.sixel_report.specs.declared.exit.Exit.TheVariants.{Done, Broken}
+use Rattle.sixel_report.specs.declared.fault.RunFault.{RunFault}
+use Rattle.sixel_report.specs.declared.task.Status.{Status}
+use Rattle.sixel_report.specs.declared.task.Status.TheVariants as status
+use Rattle.sixel_report.specs.declared.task.Task.{Task}
+use Rattle.sixel_report.specs.declared.task.Task.TheVariants as task
+use Rattle.sixel_report.specs.declared.fault.RunFault.TheVariants as run
 use Rattle.sixel_program.specs.declared.formats.Format.{Format}
 use Rattle.sixel_program.specs.Formats.{IsFormat, advice_for}
-use Rattle.sixel_program.specs.Lines.{is_quiet}
+use Rattle.sixel_report.specs.Lines.{is_quiet}
 use Rattle.sixel_program.specs.Names.{named, named_fault_line}
 use Rattle.sixel_program.specs.Notes.{note_line}
-use Rattle.sixel_program.specs.declared.lines.Lines.{Lines}
-use Rattle.sixel_run.specs.Outputs.{CountsReads, CountsWrites, TakesMemory, Wrote}
-use Rattle.sixel_run.specs.Texts.{Text, fault_line, finding_line}
-
--- the exit status as a number
-abbrev pub exit_code : Exit → ℕ
-exit_code Done = 0
-exit_code Broken = 1
-exit_code Refused = 2
-exit_code Usage = 3
-
--- the exit status after a run with this answer
-abbrev pub exit_for_answer : Result Status RunFault → Exit
-exit_for_answer (Ok status.Done) = Done
-exit_for_answer (Ok (status.Noted note)) = Done
-exit_for_answer (Ok (status.Broken finding)) = Broken
-exit_for_answer (Ok (status.Asked finding)) = Broken
-exit_for_answer (Ok (status.Surveyed first rules)) = Broken
-exit_for_answer (Ok (status.Unfit wrapped)) = Broken
-exit_for_answer (Ok status.Differing) = Broken
-exit_for_answer (Err fault) = Refused
+use Rattle.sixel_report.specs.declared.wanted_lines.Lines.{Lines}
+use Rattle.sixel_report.specs.Outputs.{CountsReads, CountsWrites}
+use Rattle.sixel_run.specs.Outputs.{TakesMemory, Wrote}
+use Rattle.sixel_report.specs.Texts.{Text, fault_line, finding_line}
+use Rattle.sixel_report.specs.Exits.{IsPut, exit_for_answer}
 
 -- ---- what is said of a run
 
@@ -65,12 +48,6 @@ complaint t lines name (Ok (status.Unfit wrapped)) = []
 complaint t lines name (Ok status.Differing) = []
 complaint t lines name (Ok (status.Broken finding)) = if is_render t then labelled name (finding_line finding) else []
 complaint t lines name (Err fault) = fault_said name fault
-
--- the text was appended to the bytes of a sink; or a prefix of it was, and a call on the sink failed
-abbrev pub IsPut : Text → Change SinkState → Type 0
-IsPut text sink =
-    (Appends sink.old.taken sink.new.taken text × (sink.new.failures ≡ sink.old.failures))
-    ⊎ ((n : ℕ) × Appends sink.old.taken sink.new.taken (take n text) × (sink.new.failures ≡ one_more sink.old.failures))
 
 -- how a run of the task ended, over an input that has this name or none. The run had some answer. The input and the
 -- output are as after a run with this answer, the exit status is that of the answer, and the errors got the message

@@ -7,34 +7,36 @@ use Rattle.std.specs.List.{All, list_any}
 use Rattle.std.specs.Str.{bytes_eq}
 use Rattle.sixel_io.specs.Devices.{Change, SinkState, SourceState, change, one_more}
 use Rattle.sixel_program.specs.declared.hints.Cause.{Cause}
-use Rattle.sixel_program.specs.declared.exit.Exit.{Exit}
+use Rattle.sixel_report.specs.declared.exit.Exit.{Exit}
 use Rattle.sixel_program.specs.declared.folder.Unopened.{Unopened}
-use Rattle.sixel_program.specs.declared.exit.Exit.TheVariants.{Broken, Done, Refused}
+use Rattle.sixel_report.specs.declared.exit.Exit.TheVariants.{Broken, Done, Refused}
 use Rattle.sixel_scan.specs.Scans.{longest_stream}
-use Rattle.sixel_run.specs.declared.fault.RunFault.{RunFault}
-use Rattle.sixel_run.specs.declared.fault.RunFault.TheVariants as run
-use Rattle.sixel_run.specs.declared.task.Status.{Status}
-use Rattle.sixel_run.specs.declared.task.Task.{Task}
-use Rattle.sixel_run.specs.declared.task.Task.TheVariants.{Check, Encode, Render, Scan, Show, ShowBox, ShowOn}
-use Rattle.sixel_run.specs.declared.task.Task.TheVariants.{Differ, DifferSheet, Survey}
+use Rattle.sixel_report.specs.declared.fault.RunFault.{RunFault}
+use Rattle.sixel_report.specs.declared.fault.RunFault.TheVariants as run
+use Rattle.sixel_report.specs.declared.task.Status.{Status}
+use Rattle.sixel_report.specs.declared.task.Task.{Task}
+use Rattle.sixel_report.specs.declared.task.Task.TheVariants.{Check, Encode, Render, Scan, Show, ShowBox, ShowOn}
+use Rattle.sixel_report.specs.declared.task.Task.TheVariants.{Differ, DifferSheet, Survey}
 use Rattle.sixel_program.specs.declared.formats.Format.{Format}
 use Rattle.sixel_program.specs.declared.terminals.Terminals.{Terminals}
 use Rattle.sixel_program.specs.Formats.{IsFormat, advice_on}
-use Rattle.sixel_program.specs.Exits.{IsPut, RunEnds, exit_code, exit_for_answer, fault_said, labelled}
+use Rattle.sixel_report.specs.Exits.{IsPut, exit_code, exit_for_answer}
+use Rattle.sixel_program.specs.Exits.{RunEnds, fault_said, labelled}
 use Rattle.sixel_run.specs.LineTasks.{ReadsOver, scans}
-use Rattle.sixel_run.specs.Outputs.{Gives, TakesMemory, Wrote, failures_by}
+use Rattle.sixel_run.specs.Outputs.{Gives, TakesMemory, Wrote}
+use Rattle.sixel_report.specs.Outputs.{failures_by}
 use Rattle.sixel_program.specs.Hints.{causes_of, hinted, hints_of}
 use Rattle.sixel_program.specs.Names.{unopened_line}
 use Rattle.sixel_program.specs.Notes.{has_wrapped, wrapped_line}
 use Rattle.sixel_program.specs.Openings.{CountsOf, FailsWith, FolderView, IsOpening, Told, bytes_of}
-use Rattle.sixel_run.specs.declared.item.Item.{Item}
-use Rattle.sixel_run.specs.Texts.{Text, fault_line, item_line, items_text}
-use Rattle.sixel_program.specs.declared.lines.Lines.{Lines}
-use Rattle.sixel_program.specs.declared.lines.Lines.TheVariants.{Json, Nothing, Plain}
+use Rattle.sixel_report.specs.declared.item.Item.{Item}
+use Rattle.sixel_report.specs.Texts.{Text, fault_line, item_line, items_text}
+use Rattle.sixel_report.specs.declared.wanted_lines.Lines.{Lines}
+use Rattle.sixel_report.specs.declared.wanted_lines.Lines.TheVariants.{Json, Nothing, Plain}
 use Rattle.sixel_program.specs.Json.{fault_members, file_member, item_members, json_line, unread_members}
 use Rattle.sixel_program.specs.Counts.{count_of, has_failed}
-use Rattle.sixel_program.specs.Lines.{all_of, is_portable_item, is_quiet}
-use Rattle.sixel_program.specs.declared.lines.Shown.{Shown}
+use Rattle.sixel_report.specs.Lines.{all_of, is_portable_item, is_quiet}
+use Rattle.sixel_program.specs.declared.shown.Shown.{Shown}
 
 -- ---- names
 

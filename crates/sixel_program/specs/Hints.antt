@@ -1,10 +1,11 @@
 -- The hints after a check or a survey: which explanation helps.
-use Rattle.std.specs.Prelude.{◌++◌, ◌∷◌, Bool, List, [], codes, flat_map, fold, map, take, Result, Ok, Err, if◌then◌else◌}
+use Rattle.std.specs.Prelude.{◌++◌, ◌∷◌, Bool, List, [], codes, flat_map, fold, map, take, Result, Ok, Err}
+use Rattle.std.specs.Prelude.{if◌then◌else◌}
 use Rattle.std.specs.List.{list_any}
 use Rattle.std.specs.Str.{bytes_eq}
-use Rattle.sixel_program.specs.Lines.{is_quiet}
-use Rattle.sixel_program.specs.declared.lines.Lines.{Lines}
-use Rattle.sixel_program.specs.declared.lines.Shown.{Shown}
+use Rattle.sixel_report.specs.Lines.{is_quiet}
+use Rattle.sixel_report.specs.declared.wanted_lines.Lines.{Lines}
+use Rattle.sixel_program.specs.declared.shown.Shown.{Shown}
 use Rattle.sixel_model.specs.declared.profile.Profile.{Profile}
 use Rattle.sixel_model.specs.declared.profile.Profile.TheVariants.{Registers16}
 use Rattle.sixel_model.specs.declared.rule.Rule.TheVariants as rule
@@ -12,14 +13,14 @@ use Rattle.sixel_named.specs.Rules.{rule_of}
 use Rattle.sixel_named.specs.declared.rule.NamedRule.TheVariants.{Portable, Asked}
 use Rattle.sixel_program.specs.declared.hints.Cause.{Cause}
 use Rattle.sixel_program.specs.declared.hints.Cause.TheVariants.{Rule, Refusal}
-use Rattle.sixel_run.specs.declared.fault.RunFault.{RunFault}
-use Rattle.sixel_run.specs.declared.fault.RunFault.TheVariants.{Grammar}
-use Rattle.sixel_run.specs.declared.task.Status.{Status}
-use Rattle.sixel_run.specs.declared.task.Status.TheVariants as status
-use Rattle.sixel_run.specs.declared.task.Task.{Task}
-use Rattle.sixel_run.specs.declared.task.Task.TheVariants.{Check, Survey}
-use Rattle.sixel_run.specs.RuleSets.{rules_in}
-use Rattle.sixel_run.specs.Texts.{Text, named_rule_name, reason_name}
+use Rattle.sixel_report.specs.declared.fault.RunFault.{RunFault}
+use Rattle.sixel_report.specs.declared.fault.RunFault.TheVariants.{Grammar}
+use Rattle.sixel_report.specs.declared.task.Status.{Status}
+use Rattle.sixel_report.specs.declared.task.Status.TheVariants as status
+use Rattle.sixel_report.specs.declared.task.Task.{Task}
+use Rattle.sixel_report.specs.declared.task.Task.TheVariants.{Check, Survey}
+use Rattle.sixel_report.specs.RuleSets.{rules_in}
+use Rattle.sixel_report.specs.Texts.{Text, named_rule_name, reason_name}
 
 -- what a run found wrong with its input: the rule that is broken, or of a survey the first one and all others; or why it
 -- is no sixel text

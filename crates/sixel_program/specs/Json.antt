@@ -23,12 +23,12 @@ use Rattle.sixel_scan.specs.declared.answer.Scanned.{Scanned}
 use Rattle.sixel_explain.specs.declared.explanations.Topic.{Topic}
 use Rattle.sixel_explain.specs.declared.explanations.Topic.TheVariants as topic
 use Rattle.sixel_explain.specs.Explanations.{summary, topic_name, topic_of}
-use Rattle.sixel_run.specs.declared.fault.RunFault.{RunFault}
-use Rattle.sixel_run.specs.declared.fault.RunFault.TheVariants.{Grammar, Ppm, Read}
-use Rattle.sixel_run.specs.declared.item.Item.{Item}
-use Rattle.sixel_run.specs.declared.item.Item.TheVariants.{Asked, AskedEntry, Outcome, Entry, Group, Same, String}
-use Rattle.sixel_run.specs.declared.item.Item.TheVariants.{Unmodelled}
-use Rattle.sixel_run.specs.Texts.{Text, named_rule_name, ppm_reason_name, reason_name}
+use Rattle.sixel_report.specs.declared.fault.RunFault.{RunFault}
+use Rattle.sixel_report.specs.declared.fault.RunFault.TheVariants.{Grammar, Ppm, Read}
+use Rattle.sixel_report.specs.declared.item.Item.{Item}
+use Rattle.sixel_report.specs.declared.item.Item.TheVariants.{Asked, AskedEntry, Outcome, Entry, Group, Same, String}
+use Rattle.sixel_report.specs.declared.item.Item.TheVariants.{Unmodelled}
+use Rattle.sixel_report.specs.Texts.{Text, named_rule_name, ppm_reason_name, reason_name}
 use Rattle.sixel_program.specs.declared.folder.Unopened.{Unopened}
 use Rattle.sixel_program.specs.declared.names.Spelling.{Spelling}
 use Rattle.sixel_program.specs.declared.names.Spelling.TheVariants.{Printed, Quoted}

@@ -7,5 +7,5 @@ pub mod Hints
 pub mod Openings
 pub mod Json
 pub mod Counts
-pub mod Lines
+pub mod Shown
 pub mod Files

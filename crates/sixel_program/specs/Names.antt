@@ -1,9 +1,9 @@
 -- How file names are printed, and lines that contain one.
 use Rattle.std.specs.Prelude.{◌+◌, ◌-◌, ◌/◌, ◌%◌, ◌==◌, ◌||◌, ℕ, Bool, [], ◌∷◌, ◌++◌, codes, nat_lt, flat_map}
 use Rattle.std.specs.Prelude.{if◌then◌else◌}
-use Rattle.sixel_run.specs.declared.fault.RunFault.{RunFault}
-use Rattle.sixel_run.specs.declared.fault.RunFault.TheVariants as run
-use Rattle.sixel_run.specs.Texts.{Text, fault_line, fault_parts, line}
+use Rattle.sixel_report.specs.declared.fault.RunFault.{RunFault}
+use Rattle.sixel_report.specs.declared.fault.RunFault.TheVariants as run
+use Rattle.sixel_report.specs.Texts.{Text, fault_line, fault_parts, line}
 use Rattle.sixel_program.specs.declared.folder.Unopened.{Unopened}
 use Rattle.sixel_program.specs.Openings.{reason_text}
 

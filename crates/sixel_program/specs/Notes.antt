@@ -1,11 +1,11 @@
 -- Notes: lines about a task that is done, if its result may surprise.
 use Rattle.std.specs.Prelude.{◌++◌, ◌∷◌, ◌&&◌, Bool, true, false, [], codes, Result, Ok, if◌then◌else◌}
-use Rattle.sixel_run.specs.declared.fault.RunFault.{RunFault}
-use Rattle.sixel_run.specs.declared.task.Note.{Note}
-use Rattle.sixel_run.specs.declared.task.Note.TheVariants.{OneColour, HighRegister, Wrapped}
-use Rattle.sixel_run.specs.declared.task.Status.{Status}
-use Rattle.sixel_run.specs.declared.task.Status.TheVariants.{Noted, Unfit}
-use Rattle.sixel_run.specs.Texts.{Text}
+use Rattle.sixel_report.specs.declared.fault.RunFault.{RunFault}
+use Rattle.sixel_report.specs.declared.task.Note.{Note}
+use Rattle.sixel_report.specs.declared.task.Note.TheVariants.{OneColour, HighRegister, Wrapped}
+use Rattle.sixel_report.specs.declared.task.Status.{Status}
+use Rattle.sixel_report.specs.declared.task.Status.TheVariants.{Noted, Unfit}
+use Rattle.sixel_report.specs.Texts.{Text}
 
 abbrev pub note_text : Note → Text
 note_text OneColour = codes "sixel: all pixels have one colour; '--background' sets that of unpainted pixels"

@@ -6,9 +6,9 @@ use Rattle.sixel_io.specs.Devices.{Change, SourceState}
 use Rattle.sixel_program.specs.declared.folder.Unopened.{Unopened}
 use Rattle.sixel_program.specs.declared.folder.Unopened.TheVariants.{NotFound, PermissionDenied, IsFolder, NotText}
 use Rattle.sixel_program.specs.declared.folder.Unopened.TheVariants.{NotFolder, Links, LongName, Failed}
-use Rattle.sixel_run.specs.Texts.{Text}
-use Rattle.sixel_run.specs.declared.fault.RunFault.{RunFault}
-use Rattle.sixel_run.specs.declared.fault.RunFault.TheVariants.{Read}
+use Rattle.sixel_report.specs.Texts.{Text}
+use Rattle.sixel_report.specs.declared.fault.RunFault.{RunFault}
+use Rattle.sixel_report.specs.declared.fault.RunFault.TheVariants.{Read}
 
 -- the reason for an error of the system
 abbrev pub reason_of : ErrorKind → Unopened

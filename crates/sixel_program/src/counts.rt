@@ -4,13 +4,12 @@ ghost use Rattle.std.specs.Prelude.{◌≡◌, ◌+◌, ◌≤◌, ◌++◌, ◌
 ghost use Rattle.arrayvec.specs.ArrayVec.{array_vec_len};
 ghost use Rattle.sixel_io.specs.Devices.{change};
 ghost use Rattle.sixel_program.specs.Counts.{count_line, count_of, count_words, has_failed, is_counted};
-ghost use Rattle.sixel_program.specs.Exits.{IsPut};
+ghost use Rattle.sixel_report.specs.Exits.{IsPut};
 
-use crate::lines::Lines;
 use arrayvec::ArrayVec;
 use itoa::Buffer;
 use sixel_io::{Sink, put_all};
-use sixel_run::{RunFault, Status, Task};
+use sixel_report::{Lines, RunFault, Status, Task};
 
 /// Whether an input with this answer isn't portable: a rule is broken, or it is refused.
 fn has_failed(answer: &Result<Status, RunFault>) -> bool

@@ -4,12 +4,11 @@ ghost use Rattle.std.specs.Prelude.{◌≡◌, count_by, map};
 ghost use Rattle.std.specs.List.{list_any};
 ghost use Rattle.std.specs.String.{string_bytes};
 ghost use Rattle.sixel_io.specs.Devices.{change};
-ghost use Rattle.sixel_program.specs.Exits.{IsPut};
+ghost use Rattle.sixel_report.specs.Exits.{IsPut};
 ghost use Rattle.sixel_program.specs.Files.{is_dash, named_twice, names_input_twice, reads_input};
 
-use crate::request::Request;
 use sixel_io::{Sink, put_all};
-use sixel_run::Task;
+use sixel_report::{Request, Task};
 
 /// Whether one of the names is `-`.
 fn names_input(names: &[String]) -> bool

@@ -3,23 +3,22 @@
 ghost use Rattle.std.specs.Prelude.{◌≡◌, All, Contains, false, map, true};
 ghost use Rattle.std.specs.String.{string_bytes};
 ghost use Rattle.sixel_io.specs.Devices.{change};
-ghost use Rattle.sixel_program.specs.Exits.{IsPut};
+ghost use Rattle.sixel_report.specs.Exits.{IsPut};
 ghost use Rattle.sixel_program.specs.Files.{IsBrokenOver, IsDoneOver, IsJudgedOver, NoticedEnds, is_misasked};
-ghost use Rattle.sixel_program.specs.Files.{is_misdirected, mistake, names_input_twice, names_read, notice, reads_input};
-ghost use Rattle.sixel_program.specs.Files.{told_of};
-ghost use Rattle.sixel_program.specs.Lines.{shown_at};
+ghost use Rattle.sixel_program.specs.Files.{is_misdirected, mistake, names_input_twice, names_read, notice};
+ghost use Rattle.sixel_program.specs.Files.{reads_input, told_of};
+ghost use Rattle.sixel_program.specs.Shown.{shown_at};
 ghost use Rattle.sixel_program.specs.Openings.{bytes_of, folder_view};
-ghost use Rattle.sixel_run.specs.Outputs.{HasSides};
-ghost use Rattle.sixel_run.specs.Texts.{Text};
+ghost use Rattle.sixel_report.specs.Outputs.{HasSides};
+ghost use Rattle.sixel_report.specs.Texts.{Text};
 
 use crate::dashes::{names_input_twice, put_named_twice};
-use crate::exit::Exit;
 use crate::files::answer;
 use crate::folder::Folder;
 use crate::peeked::Peeked;
-use crate::request::Request;
 use crate::terminals::{Terminals, announce, is_misdirected, put_redirection};
 use sixel_io::{Sink, Source};
+use sixel_report::{Exit, Request};
 use std::alloc::Global;
 
 /// Carries out a request over `input` and the files of `folder`. Results go to `output`, messages to `errors`. A task

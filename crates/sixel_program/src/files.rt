@@ -5,20 +5,19 @@ ghost use Rattle.std.specs.String.{string_bytes};
 ghost use Rattle.sixel_io.specs.Devices.{change};
 ghost use Rattle.sixel_program.specs.Exits.{RunEnds};
 ghost use Rattle.sixel_program.specs.Files.{FileEnds, RequestEnds, is_dash, names_input_twice, reads_input};
-ghost use Rattle.sixel_program.specs.Lines.{shown_at};
+ghost use Rattle.sixel_program.specs.Shown.{shown_at};
 ghost use Rattle.sixel_program.specs.Openings.{folder_view};
-ghost use Rattle.sixel_run.specs.Outputs.{HasSides};
+ghost use Rattle.sixel_report.specs.Outputs.{HasSides};
 
 use crate::checks::check_files;
-use crate::exit::{Exit, exit_of};
 use crate::folder::{Folder, open_file};
-use crate::lines::{Lines, all_of, shown_at};
 use crate::peeked::Peeked;
-use crate::request::Request;
 use crate::saying::{put_said, put_unopened};
+use crate::shown::shown_at;
 use crate::terminals::Terminals;
 use sixel_io::{Sink, Source};
-use sixel_run::{Task, run};
+use sixel_report::{Exit, Lines, Request, Task, all_of, exit_of};
+use sixel_run::run;
 use std::alloc::Global;
 
 /// The lines of a comparison of terminals: all, and never objects of JSON.

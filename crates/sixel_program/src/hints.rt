@@ -5,18 +5,20 @@ ghost use Rattle.std.specs.List.{IsDistinct, IsDistinct-prop, list_any};
 ghost use Rattle.arrayvec.specs.ArrayVec.{array_vec_len};
 ghost use Rattle.sixel_io.specs.Devices.{change};
 ghost use Rattle.sixel_program.specs.Files.{ArePut};
-ghost use Rattle.sixel_run.specs.RuleSets.{rules_in};
+ghost use Rattle.sixel_report.specs.RuleSets.{rules_in};
 ghost use Rattle.sixel_program.specs.Hints.{cause_name, causes_in, hint_line, hinted, hints_of, is_same, option_hint};
 ghost use Rattle.sixel_program.specs.Hints.{with_cause, with_causes};
 ghost use Rattle.sixel_program.specs.declared.hints.Cause.TheVariants.{Rule as RuleCause};
 
-use crate::lines::{Lines, Shown, is_quiet};
+use crate::shown::Shown;
 use arrayvec::ArrayVec;
 use sixel_grammar::Reason;
 use sixel_io::{Sink, put_all};
 use sixel_model::{Profile, Rule};
 use sixel_named::{ALL_NAMED_RULES, NamedRule};
-use sixel_run::{RuleSet, RunFault, Status, Task, named_rule_name, reason_name};
+use sixel_report::{
+    Lines, RuleSet, RunFault, Status, Task, is_quiet, named_rule_name, reason_name,
+};
 
 /// What is wrong with an input.
 #[derive(Clone, Copy, Debug, PartialEq, Eq, Drop)]

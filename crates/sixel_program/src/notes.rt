@@ -2,11 +2,11 @@
 
 ghost use Rattle.std.specs.Prelude.{◌≡◌};
 ghost use Rattle.sixel_io.specs.Devices.{Writes, change};
-ghost use Rattle.sixel_program.specs.Exits.{IsPut};
+ghost use Rattle.sixel_report.specs.Exits.{IsPut};
 ghost use Rattle.sixel_program.specs.Notes.{has_wrapped, note_line, wrapped_line};
 
 use sixel_io::{DeviceFault, Sink, put_all};
-use sixel_run::{Note, RunFault, Status};
+use sixel_report::{Note, RunFault, Status};
 
 /// The line of a note.
 fn note_line(note: Note) -> &'static [u8]

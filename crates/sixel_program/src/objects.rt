@@ -7,9 +7,9 @@ ghost use Rattle.sixel_io.specs.Devices.{Writes};
 ghost use Rattle.sixel_program.specs.Json.{answer_members, asked_at, asked_entry_members, asked_members, broken_at};
 ghost use Rattle.sixel_program.specs.Json.{broken_members, entry_members, fault_members, file_member, finding_members};
 ghost use Rattle.sixel_program.specs.Json.{item_members, json_line, message_member, next_member, next_members};
-ghost use Rattle.sixel_program.specs.Json.{not_read_members, number_member, object_line, outcome_members, pixel_members};
-ghost use Rattle.sixel_program.specs.Json.{plain_refusal, refusal_members, refused_at, refused_members, size_members};
-ghost use Rattle.sixel_program.specs.Json.{string_members, text_member, unread_members};
+ghost use Rattle.sixel_program.specs.Json.{not_read_members, number_member, object_line, outcome_members};
+ghost use Rattle.sixel_program.specs.Json.{pixel_members, plain_refusal, refusal_members, refused_at, refused_members};
+ghost use Rattle.sixel_program.specs.Json.{size_members, string_members, text_member, unread_members};
 
 use crate::folder::{Unopened, reason_words};
 use crate::names::{is_plain, put_quoted, quoted_byte};
@@ -21,7 +21,7 @@ use sixel_explain::{Topic, summary, topic_name, topic_of};
 use sixel_grammar::Fault;
 use sixel_io::{DeviceFault, Sink};
 use sixel_named::NamedRule;
-use sixel_run::{Item, RunFault, named_rule_name, ppm_reason_name, reason_name};
+use sixel_report::{Item, RunFault, named_rule_name, ppm_reason_name, reason_name};
 use sixel_scan::{Answer, Scanned};
 use sixel_survey::Entry;
 

@@ -3,16 +3,15 @@
 ghost use Rattle.std.specs.Prelude.{◌≡◌, ◌≢◌, ◌∷◌, [], Err, IfErr, IfOk, None, Some, false, option_copied, true};
 ghost use Rattle.sixel_io.specs.Devices.{Writes, change};
 ghost use Rattle.sixel_program.specs.Files.{ArePut, name_of, refusal_text, said_of_file, written_for};
-ghost use Rattle.sixel_program.specs.Lines.{is_quiet};
-ghost use Rattle.sixel_run.specs.declared.fault.RunFault.TheVariants.{Read, Write};
+ghost use Rattle.sixel_report.specs.Lines.{is_quiet};
+ghost use Rattle.sixel_report.specs.declared.fault.RunFault.TheVariants.{Read, Write};
 
 use crate::folder::Unopened;
 use crate::formats::Format;
-use crate::lines::{Lines, is_json, is_portable_item};
 use crate::objects::{put_fault_object, put_item_object, put_unread_object};
 use crate::saying::{put_labelled, put_refusal, put_unopened};
 use sixel_io::{DeviceFault, Sink};
-use sixel_run::{Item, PutItem, RunFault, Status, item_line};
+use sixel_report::{Item, Lines, PutItem, RunFault, Status, is_json, is_portable_item, item_line};
 
 /// Writes what is found in the input with this label, or without one.
 #[derive(Clone, Copy)]

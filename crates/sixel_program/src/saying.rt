@@ -8,13 +8,14 @@ ghost use Rattle.sixel_program.specs.Names.{unopened_line};
 
 use crate::folder::{Unopened, reason_text};
 use crate::formats::{Format, ppm_advice, sixel_advice};
-use crate::lines::{Lines, is_quiet};
 use crate::names::put_named;
 use crate::notes::put_note;
 use sixel_grammar::{Fault, Reason};
 use sixel_io::{DeviceFault, Sink, put_all};
 use sixel_ppm::PpmReason;
-use sixel_run::{RunFault, Status, Task, fault_line, finding_line, write_fault};
+use sixel_report::{
+    Lines, RunFault, Status, Task, fault_line, finding_line, is_quiet, write_fault,
+};
 
 /// The length of `sixel:`, after which the line of a fault has the input's name.
 const MARK: usize = 6;

@@ -3,14 +3,12 @@
 ghost use Rattle.std.specs.Prelude.{◌≡◌, map};
 ghost use Rattle.std.specs.String.{string_bytes};
 ghost use Rattle.sixel_io.specs.Devices.{change};
-ghost use Rattle.sixel_program.specs.Exits.{IsPut};
+ghost use Rattle.sixel_report.specs.Exits.{IsPut};
 ghost use Rattle.sixel_program.specs.Files.{is_misdirected, notice, redirection, waiting_line};
 
 use crate::dashes::reads_input;
-use crate::lines::is_quiet;
-use crate::request::Request;
 use sixel_io::{Sink, put_all};
-use sixel_run::Task;
+use sixel_report::{Request, Task, is_quiet};
 
 /// Which of the standard streams are terminals.
 #[derive(Clone, Copy, Debug, PartialEq, Eq)]

@@ -1,14 +1,14 @@
 //! How the program ends over streams in memory.
 
-ghost use Rattle.sixel_run.specs.Outputs.{HasSides};
+ghost use Rattle.sixel_report.specs.Outputs.{HasSides};
 
 use crate::memory_folder::MemoryFolder;
 use sixel_asked::Terminals as NamedTerminals;
 use sixel_io::{FromRead, ToWrite};
 use sixel_model::{Colour, Profile};
 use sixel_models::Named;
-use sixel_program::{Exit, Lines, Peeked, Request, Terminals, execute};
-use sixel_run::{Area, Task};
+use sixel_program::{Peeked, Terminals, execute};
+use sixel_report::{Area, Exit, Lines, Request, Task};
 use std::alloc::Global;
 use std::io::{Read, Write};
 

@@ -1,7 +1,7 @@
 //! Files instead of standard input, worked out by hand.
 
 ghost use Rattle.std.specs.Prelude.{◌≡◌, IfOk};
-ghost use Rattle.sixel_run.specs.Outputs.{HasSides};
+ghost use Rattle.sixel_report.specs.Outputs.{HasSides};
 
 mod faults;
 mod named;
@@ -16,8 +16,8 @@ mod twice;
 use crate::ends::{CHECK, NO_TERMINALS};
 use crate::memory_folder::MemoryFolder;
 use sixel_io::{FromRead, ToWrite};
-use sixel_program::{Exit, Lines, Peeked, Request, Terminals, Unopened, execute};
-use sixel_run::Task;
+use sixel_program::{Peeked, Terminals, Unopened, execute};
+use sixel_report::{Exit, Lines, Request, Task};
 use sixel_test_devices::Narrow;
 use std::alloc::{AllocError, Global};
 use std::io;

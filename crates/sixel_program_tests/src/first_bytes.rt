@@ -1,10 +1,9 @@
 //! Inputs whose first bytes come slowly, or not at all.
 
-ghost use Rattle.sixel_run.specs.Outputs.{HasSides};
+ghost use Rattle.sixel_report.specs.Outputs.{HasSides};
 
 use crate::ends::{CHECK, ENCODE, NO_TERMINALS, exit_over};
-use sixel_program::Exit;
-use sixel_run::Task;
+use sixel_report::{Exit, Task};
 use std::alloc::Global;
 use std::io;
 use std::io::{Error, Read};

@@ -1,11 +1,10 @@
 //! How the program ends if a standard stream can't be written.
 
-ghost use Rattle.sixel_run.specs.Outputs.{HasSides};
+ghost use Rattle.sixel_report.specs.Outputs.{HasSides};
 
 use crate::ends::{CHECK, ENCODE, NO_TERMINALS, RENDER, SHOW, SHOW_BOX, exit_over, show_on};
 use sixel_models::Named;
-use sixel_program::Exit;
-use sixel_run::Task;
+use sixel_report::{Exit, Task};
 use sixel_test_devices::Narrow;
 use std::alloc::Global;
 

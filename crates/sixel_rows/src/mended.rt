@@ -6,7 +6,7 @@ use crate::words::task_of;
 use sixel_encode::encode;
 use sixel_mend::{MendFault, Mending, mend};
 use sixel_model::Picture;
-use sixel_run::{RunFault, Task, fault_line};
+use sixel_report::{RunFault, Task, fault_line};
 use std::alloc::Global;
 
 /// Whether this is the text of the picture.

@@ -1,12 +1,13 @@
 //! Runs a row, with its input cut in many ways.
 
 ghost use Rattle.std.specs.Prelude.{◌≡◌, true};
-ghost use Rattle.sixel_run.specs.Outputs.{HasSides};
+ghost use Rattle.sixel_report.specs.Outputs.{HasSides};
 
 use crate::devices::{CutSource, Cutting, KeepingSink};
 use crate::format::{Row, RowFault};
 use crate::words::task_of;
-use sixel_run::{Line, RunFault, Status, Task, fault_line, finding_line, run};
+use sixel_report::{Line, RunFault, Status, Task, fault_line, finding_line};
+use sixel_run::run;
 use std::alloc::Global;
 
 /// Inputs of at most this many bytes are run in pieces of each size, and cut in two at each offset.

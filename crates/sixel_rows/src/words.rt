@@ -2,13 +2,13 @@
 
 ghost use Rattle.std.specs.Prelude.{IfOk, IsTrue};
 ghost use Rattle.sixel_ppm.specs.Ppm.{is_file_side};
-ghost use Rattle.sixel_run.specs.Outputs.{HasSides, HasSidesIn};
+ghost use Rattle.sixel_report.specs.Outputs.{HasSides, HasSidesIn};
 
 use crate::format::RowFault;
 use sixel_asked::Terminals;
 use sixel_model::{Colour, Profile};
 use sixel_models::Named;
-use sixel_run::{Area, MOST_SCREEN_SIDE, Task};
+use sixel_report::{Area, MOST_SCREEN_SIDE, Task};
 
 /// The options of a row.
 #[derive(Clone, Copy, Default)]

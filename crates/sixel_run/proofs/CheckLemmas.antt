@@ -1,6 +1,5 @@
 -- What a run of `check` owes, and when one runs out of memory.
-use Rattle.std.proofs.Common.{◌≡◌, ◌∙◌, ◌∷◌, ℕ, List, [], Option}
-use Rattle.std.proofs.Common.{Some, None, refl, sym, ap, subst, inl, inr}
+use Rattle.std.proofs.Common.{◌≡◌, ◌∙◌, ◌∷◌, ℕ, List, [], Option, Some, None, refl, ap, subst, inl, inr}
 use Rattle.std.specs.Prelude.{Result, Ok, Err, IfSome}
 use Rattle.std.proofs.lemmas.List.{append-nil}
 use Rattle.sixel_grammar.specs.declared.command.Placed.{Placed}
@@ -8,28 +7,26 @@ use Rattle.sixel_grammar.specs.declared.fault.Fault.{Fault}
 use Rattle.sixel_grammar.specs.Faults.{IsFaultOf}
 use Rattle.sixel_grammar.specs.declared.fault.InputFault.{InputFault}
 use Rattle.sixel_grammar.specs.declared.fault.InputFault.TheVariants as input
-use Rattle.sixel_grammar.specs.Document.{Document, events_of}
+use Rattle.sixel_grammar.specs.Document.{Document}
 use Rattle.sixel_grammar.proofs.TotalLemmas.{judged}
 use Rattle.sixel_grammar.proofs.UniqueLemmas.{document_once, fault_no_document, fault_once}
 use Rattle.sixel_judge.specs.declared.verdict.Verdict.{Verdict}
-use Rattle.sixel_judge.specs.declared.verdict.Verdict.TheVariants as judged
 use Rattle.sixel_judge.specs.Verdicts.{IsVerdict}
 use Rattle.sixel_judge.proofs.VerdictLemmas.{verdict_once}
 use Rattle.sixel_asked.specs.declared.terminals.Terminals.{Terminals}
 use Rattle.sixel_named.specs.Answers.{AnswersOutcomeOn}
-use Rattle.sixel_named.specs.Laws.{named_verdict, none}
 use Rattle.sixel_named.specs.Verdicts.{IsVerdictOn, named_outcome_of}
 use Rattle.sixel_named.specs.declared.verdict.NamedOutcome.{NamedOutcome}
 use Rattle.sixel_named.specs.declared.verdict.NamedVerdict.{NamedVerdict}
 use Rattle.sixel_named.specs.declared.verdict.NamedVerdict.TheVariants.{Portable, Broken, Asked}
-use Rattle.sixel_run.specs.declared.fault.RunFault.{RunFault}
-use Rattle.sixel_run.specs.declared.fault.RunFault.TheVariants.{Grammar, OutOfMemory}
-use Rattle.sixel_run.specs.declared.task.Status.{Status}
-use Rattle.sixel_run.specs.Conversions.{of_input}
+use Rattle.sixel_report.specs.declared.fault.RunFault.{RunFault}
+use Rattle.sixel_report.specs.declared.fault.RunFault.TheVariants.{Grammar, OutOfMemory}
+use Rattle.sixel_report.specs.declared.task.Status.{Status}
+use Rattle.sixel_report.specs.Conversions.{of_input}
 use Rattle.sixel_run.specs.Outputs.{CheckGives, outcome_status, status_of}
-use Rattle.sixel_run.specs.Texts.{Text, item_line, item_of, items_text, named_verdict_line}
-use Rattle.sixel_named.proofs.NoneLemmas.{none_asked}
+use Rattle.sixel_report.specs.Texts.{Text, item_line, item_of, items_text, named_verdict_line}
 use Rattle.sixel_named.proofs.OneVerdictLemmas.{verdict_on_exists, verdict_on_once}
+use Rattle.sixel_report.proofs.OutputLemmas.{both_are}
 
 -- two verdicts on one document are the same
 pub same_verdict : (registers : ℕ) (bytes : List ℕ) (d e : List Placed) (v w : Verdict)
@@ -43,18 +40,6 @@ pub same_verdict_on : (registers : ℕ) (t : Terminals) (bytes : List ℕ) (d e 
 same_verdict_on registers t bytes d e v w p q a b =
     verdict_on_once _ t e v w
     (subst (λ (l : List Placed). IsVerdictOn registers t l v) (document_once bytes d e p q) a) b
-
--- a verdict for no terminal is a verdict
-pub verdict_alone : (registers : ℕ) (placed : List Placed) (v : NamedVerdict) → IsVerdictOn registers none placed v
-    → (w : Verdict) × IsVerdict registers placed w × (v ≡ named_verdict w)
-verdict_alone registers placed (Portable p) is = (judged.Portable p, (is.0, is.2), refl)
-verdict_alone registers placed (Broken f) is = (judged.Broken f, (is.0, (is.1).finding), refl)
-verdict_alone registers placed (Asked f) is = absurd ((none_asked (events_of placed)) f.rule (is.1).first.asked is.0 (is.1).first.broken)
-
--- two texts and answers are the same if both are these
-pub both_are : {t : Text} {c : Result Status RunFault} (first second : Text) (a b : Result Status RunFault)
-    → (first ≡ t) × (a ≡ c) → (second ≡ t) × (b ≡ c) → (first ≡ second) × (a ≡ b)
-both_are first second a b p q = (p.0 ∙ sym q.0, p.1 ∙ sym q.1)
 
 -- the line and the status of the verdict on a document
 of_document : (registers : ℕ) (t : Terminals) (bytes : List ℕ) (d : List Placed) (v : NamedVerdict)

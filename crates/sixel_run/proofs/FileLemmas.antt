@@ -3,19 +3,17 @@ use Rattle.std.proofs.Common.{◌≡◌, ◌∙◌, ℕ, List, [], take, drop, O
 use Rattle.std.specs.Prelude.{Result, Ok, Err, IfSome}
 use Rattle.std.specs.Io.KnownBytes.{Appends}
 use Rattle.std.proofs.lemmas.List.{take-append-drop}
-use Rattle.sixel_io.proofs.SinkLemmas.{Appends-none}
-use Rattle.sixel_ppm.specs.declared.ppm.PpmFault.{PpmFault}
 use Rattle.sixel_ppm.specs.declared.ppm.PpmFault.TheVariants as ppm
 use Rattle.sixel_model.specs.Pictures.{PictureValue}
 use Rattle.sixel_ppm.specs.PpmReading.{ReadsPpm, ppm_read}
 use Rattle.sixel_encode.specs.Canon.{canon_text}
-use Rattle.sixel_run.specs.declared.fault.RunFault.{RunFault}
-use Rattle.sixel_run.specs.declared.fault.RunFault.TheVariants.{Write}
-use Rattle.sixel_run.specs.declared.task.Status.{Status}
-use Rattle.sixel_run.specs.declared.task.Status.TheVariants.{Done}
-use Rattle.sixel_run.specs.Conversions.{of_ppm}
-use Rattle.sixel_run.specs.Outputs.{EncodeGives, WroteBy, WroteNothing, encode_output}
-use Rattle.sixel_run.specs.Texts.{Text}
+use Rattle.sixel_report.specs.declared.fault.RunFault.{RunFault}
+use Rattle.sixel_report.specs.declared.fault.RunFault.TheVariants.{Write}
+use Rattle.sixel_report.specs.declared.task.Status.{Status}
+use Rattle.sixel_report.specs.declared.task.Status.TheVariants.{Done}
+use Rattle.sixel_run.specs.Outputs.{EncodeGives, encode_output}
+use Rattle.sixel_report.specs.Outputs.{WroteBy, WroteNothing}
+use Rattle.sixel_report.specs.Texts.{Text}
 
 pub encode-once : (registers : ℕ) (bytes : List ℕ) (first second : Text) (a b : Result Status RunFault)
     → EncodeGives registers bytes first a → EncodeGives registers bytes second b → (first ≡ second) × (a ≡ b)
@@ -40,12 +38,3 @@ unencoded registers (Some bytes) p had has read put = (
       let same = (encode-once _ bytes text (canon_text p) answer (Ok Done) g (sym (ap encode_output read))).0 in
       (drop put.0 (canon_text p), same ∙ sym (take-append-drop put.0 (canon_text p))),
 )
-
-unread : (registers : ℕ) (bytes : List ℕ) (fault : PpmFault) (had : Option (List ℕ))
-    → ReadsPpm registers (Err fault) bytes
-    → WroteBy (EncodeGives registers bytes) WroteNothing (Err (of_ppm fault)) had had
-unread registers bytes (ppm.Format reason place) had read = ([], sym (ap encode_output read), Appends-none had)
-unread registers bytes ppm.OutOfMemory had read = Appends-none had
-unread registers bytes ppm.Read had read = Appends-none had
-unread registers bytes ppm.NotRgb had read = absurd read
-unread registers bytes ppm.Write had read = absurd read

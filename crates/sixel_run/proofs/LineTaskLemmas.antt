@@ -1,10 +1,9 @@
 -- How a check, a survey or a scan ends, by what it found.
-use Rattle.std.proofs.Common.{◌≡◌, ◌∙◌, ◌+◌, ◌<◌, ◌++◌, ◌∷◌, ℕ, true, false, List, [], ap, append_assoc, drop, take}
-use Rattle.std.proofs.Common.{Option, Some, None, flat_map, get_or, inl, inr, length, map, refl, subst, sym}
+use Rattle.std.proofs.Common.{◌≡◌, ◌∙◌, ◌+◌, ◌<◌, ◌++◌, ◌∷◌, ℕ, true, false, List, [], drop, take, Option, Some, None}
+use Rattle.std.proofs.Common.{flat_map, inl, inr, refl, subst, sym}
 use Rattle.std.specs.Prelude.{◌≢◌, Result, Ok, Err, IfSome, OnOk}
 use Rattle.std.specs.Io.KnownBytes.{Appends, IsAtEnd}
-use Rattle.std.proofs.lemmas.List.{append-nil, map-append, take-append-drop, take_more}
-use Rattle.std.proofs.lemmas.Grind.{flat_map-append}
+use Rattle.std.proofs.lemmas.List.{take-append-drop}
 use Rattle.sixel_io.specs.Devices.{Change, ReadsToEnd, SinkState, SourceState, Writes, change}
 use Rattle.sixel_io.specs.declared.device.DeviceFault.{DeviceFault}
 use Rattle.sixel_io.proofs.SinkLemmas.{Appends-none}
@@ -13,55 +12,19 @@ use Rattle.sixel_grammar.specs.declared.fault.InputFault.{InputFault}
 use Rattle.sixel_grammar.specs.declared.fault.InputFault.TheVariants as input
 use Rattle.sixel_grammar.specs.Faults.{IsFaultOf}
 use Rattle.sixel_grammar.specs.Reading.{Explains, NoFaultBefore, failures_after}
-use Rattle.sixel_run.specs.declared.fault.RunFault.{RunFault}
-use Rattle.sixel_run.specs.declared.fault.RunFault.TheVariants.{Grammar, OutOfMemory, Read, Write}
-use Rattle.sixel_run.specs.declared.item.Item.{Item}
-use Rattle.sixel_run.specs.declared.task.Status.{Status}
-use Rattle.sixel_run.specs.declared.task.Task.{Task}
-use Rattle.sixel_run.specs.declared.task.Task.TheVariants.{List as Listing, Scan}
-use Rattle.sixel_run.specs.Conversions.{of_input}
+use Rattle.sixel_report.specs.declared.fault.RunFault.{RunFault}
+use Rattle.sixel_report.specs.declared.fault.RunFault.TheVariants.{Grammar, OutOfMemory, Read, Write}
+use Rattle.sixel_report.specs.declared.item.Item.{Item}
+use Rattle.sixel_report.specs.declared.task.Status.{Status}
+use Rattle.sixel_report.specs.declared.task.Task.{Task}
+use Rattle.sixel_report.specs.declared.task.Task.TheVariants.{List as Listing, Scan}
+use Rattle.sixel_report.specs.Conversions.{of_input}
 use Rattle.sixel_run.specs.LineTasks.{EndsAs, IsOverFor, PutsText, ReadsOver, WritesItems, scans}
-use Rattle.sixel_run.specs.Outputs.{CountsWrites, FoundNoFault, Gives, TakesMemory, Wrote, WroteBefore, WroteBy}
-use Rattle.sixel_run.specs.Outputs.{WroteUnread, failures_by}
-use Rattle.sixel_run.specs.Texts.{BeginsWith, Text, item_line, items_text}
-use Rattle.sixel_run.proofs.PutLemmas.{begins-then}
+use Rattle.sixel_report.specs.Outputs.{CountsWrites, WroteBy, failures_by}
+use Rattle.sixel_run.specs.Outputs.{FoundNoFault, Gives, TakesMemory, Wrote, WroteBefore, WroteUnread}
+use Rattle.sixel_report.specs.Texts.{BeginsWith, Text, item_line, items_text}
+use Rattle.sixel_report.proofs.OutputLemmas.{begins-then}
 use Rattle.sixel_run.proofs.RunLemmas.{gives-once}
-
--- ---- some items
-
--- what is written for the first items and the next one
-pub written_more : (written : Item → Text) (items : List Item) (i : ℕ) (d : Item) → i < length items
-    → flat_map written (take i items) ++ written (get_or items i d) ≡ flat_map written (take (i + 1) items)
-written_more written items i d short =
-    sym (ap (flat_map written) (take_more items i d short) ∙ flat_map-append written (take i items) _
-    ∙ ap (λ (t : Text). flat_map written (take i items) ++ t) (append-nil (written (get_or items i d))))
-
--- and for those after it
-pub written_all : (written : Item → Text) (items : List Item) (i : ℕ) (d : Item) → i < length items
-    → flat_map written items
-    ≡ (flat_map written (take i items) ++ written (get_or items i d)) ++ flat_map written (drop (i + 1) items)
-written_all written items i d short =
-    let rest = drop (i + 1) items in
-    ap (flat_map written) (sym (take-append-drop (i + 1) items)) ∙ flat_map-append written (take (i + 1) items) rest
-    ∙ ap (λ (t : Text). t ++ flat_map written rest) (sym (written_more written items i d short))
-
--- the items of the first entries and the next one, behind some items
-pub entry_pushed : {A : Type 0} (f : A → Item) (entries : List A) (i : ℕ) (d : A) (start before after : List Item)
-    → i < length entries → before ≡ start ++ map f (take i entries) → after ≡ before ++ f (get_or entries i d) ∷ []
-    → after ≡ start ++ map f (take (i + 1) entries)
-entry_pushed f entries i d start before after short is more =
-    let next = get_or entries i d in
-    more ∙ ap (λ (items : List Item). items ++ f next ∷ []) is
-    ∙ append_assoc start (map f (take i entries)) (f next ∷ [])
-    ∙ ap (λ (items : List Item). start ++ items)
-    (sym (ap (map f) (take_more entries i d short) ∙ map-append f (take i entries) (next ∷ [])))
-
--- the lines of the first items and of the next one
-pub line_pushed : (items : List Item) (i : ℕ) (d : Item) (before after : Text) → i < length items
-    → before ≡ flat_map item_line (take i items) → after ≡ before ++ item_line (get_or items i d)
-    → after ≡ flat_map item_line (take (i + 1) items)
-line_pushed items i d before after short is more =
-    more ∙ ap (λ (t : Text). t ++ item_line (get_or items i d)) is ∙ written_more item_line items i d short
 
 -- ---- a check or a survey
 

@@ -1,6 +1,6 @@
 -- What a run of `mend` owes.
-use Rattle.std.proofs.Common.{◌≡◌, ◌∙◌, ℕ, Bool, true, false, List, [], take, drop, Option, Some, None, refl, sym}
-use Rattle.std.proofs.Common.{ap, ap₂, subst, inl, inr}
+use Rattle.std.proofs.Common.{◌≡◌, ◌∙◌, ℕ, Bool, true, false, List, [], take, drop, Option, Some, None, refl, sym, ap}
+use Rattle.std.proofs.Common.{ap₂, subst, inl, inr}
 use Rattle.std.specs.Prelude.{◌==◌, ◌&&◌, ◌||◌, ◌≢◌, IsTrue, Result, Ok, Err, IfSome, length, nat_lt, if◌then◌else◌}
 use Rattle.std.specs.Io.KnownBytes.{Appends}
 use Rattle.std.proofs.lemmas.List.{take-append-drop}
@@ -23,15 +23,17 @@ use Rattle.sixel_mend.specs.declared.mending.MendFault.TheVariants as mend
 use Rattle.sixel_mend.specs.declared.mending.Mending.{Mending}
 use Rattle.sixel_mend.specs.Mended.{Mends, MendsEvents, mended, mended_colours}
 use Rattle.sixel_mend.proofs.SizeLemmas.{one_size, some_size}
-use Rattle.sixel_run.specs.declared.fault.RunFault.{RunFault}
-use Rattle.sixel_run.specs.declared.fault.RunFault.TheVariants.{Grammar, Empty, TooLarge, TooManyColours, OutOfMemory}
-use Rattle.sixel_run.specs.declared.fault.RunFault.TheVariants.{Write}
-use Rattle.sixel_run.specs.declared.task.Status.{Status}
-use Rattle.sixel_run.specs.Conversions.{of_input, of_mend}
-use Rattle.sixel_run.specs.Outputs.{HasPictureSize, MendGives, WroteBy, WroteNothing, mend_output, mended_status}
+use Rattle.sixel_report.specs.declared.fault.RunFault.{RunFault}
+use Rattle.sixel_report.specs.declared.fault.RunFault.TheVariants.{Grammar, Empty, TooLarge, TooManyColours}
+use Rattle.sixel_report.specs.declared.fault.RunFault.TheVariants.{OutOfMemory, Write}
+use Rattle.sixel_report.specs.declared.task.Status.{Status}
+use Rattle.sixel_report.specs.Conversions.{of_input, of_mend}
+use Rattle.sixel_sheet.specs.Outputs.{HasPictureSize}
+use Rattle.sixel_run.specs.Outputs.{MendGives, mend_output, mended_status}
+use Rattle.sixel_report.specs.Outputs.{WroteBy, WroteNothing}
 use Rattle.sixel_mend.specs.Measuring.{HasMeasured, Measured}
 use Rattle.sixel_mend.specs.Sizes.{IsSize}
-use Rattle.sixel_run.specs.Texts.{Text}
+use Rattle.sixel_report.specs.Texts.{Text}
 
 -- ---- at most one output
 
@@ -199,11 +201,6 @@ pub mend_unread : (registers : ℕ) (m : Mending) (a : Option (List ℕ)) (fault
 mend_unread registers m None fault had is = tt
 mend_unread registers m (Some bytes) fault had is = unread registers m bytes fault had is
 
--- memory is no fault of the bytes
-pub explained : (a : Option (List ℕ)) → IfSome a (Explains input.OutOfMemory)
-explained None = tt
-explained (Some bytes) = tt
-
 -- ---- memory
 
 -- the document has a picture's size, if mending runs out of memory
@@ -247,8 +244,3 @@ pub measured_sized : (m : Mending) (measurer : Measured) (a : Option (List ℕ))
 measured_sized m measurer None w h has sides sized = tt
 measured_sized m measurer (Some told) w h has sides sized =
     let d = sized told has in (d.0, d.1, (w, h, d.2 m, sides))
-
-pub not_grown : (fault : InputFault) → (fault ≡ input.OutOfMemory → ⊥) → of_input fault ≡ OutOfMemory → ⊥
-not_grown (input.Grammar f) other is = cc
-not_grown input.OutOfMemory other is = other refl
-not_grown input.Read other is = cc

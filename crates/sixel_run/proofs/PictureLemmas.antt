@@ -8,7 +8,7 @@ use Rattle.sixel_grammar.specs.declared.fault.Fault.{Fault}
 use Rattle.sixel_grammar.specs.Document.{Document}
 use Rattle.sixel_grammar.specs.Faults.{IsFaultOf}
 use Rattle.sixel_io.specs.Devices.{SinkState}
-use Rattle.sixel_run.proofs.PutLemmas.{nothing-written}
+use Rattle.sixel_report.proofs.OutputLemmas.{nothing-written}
 use Rattle.sixel_io.proofs.SinkLemmas.{Appends-none}
 use Rattle.sixel_grammar.proofs.TotalLemmas.{judged}
 use Rattle.sixel_grammar.proofs.UniqueLemmas.{fault_no_document, fault_once}
@@ -22,14 +22,15 @@ use Rattle.sixel_judge.specs.declared.verdict.Verdict.TheVariants.{Portable, Bro
 use Rattle.sixel_check.specs.Answers.{Answers as CheckAnswers}
 use Rattle.sixel_judge.specs.Verdicts.{IsVerdict}
 use Rattle.sixel_judge.proofs.DecideLemmas.{verdict_exists}
-use Rattle.sixel_run.specs.declared.fault.RunFault.{RunFault}
-use Rattle.sixel_run.specs.declared.fault.RunFault.TheVariants.{Grammar, NotRgb}
-use Rattle.sixel_run.specs.declared.task.Status.{Status}
-use Rattle.sixel_run.specs.declared.task.Status.TheVariants as status
-use Rattle.sixel_run.specs.declared.task.Status.TheVariants.{Done}
-use Rattle.sixel_run.specs.Conversions.{of_ppm}
-use Rattle.sixel_run.specs.Outputs.{RenderGives, WroteBy, WroteNothing, render_output}
-use Rattle.sixel_run.specs.Texts.{Text}
+use Rattle.sixel_report.specs.declared.fault.RunFault.{RunFault}
+use Rattle.sixel_report.specs.declared.fault.RunFault.TheVariants.{Grammar, NotRgb}
+use Rattle.sixel_report.specs.declared.task.Status.{Status}
+use Rattle.sixel_report.specs.declared.task.Status.TheVariants as status
+use Rattle.sixel_report.specs.declared.task.Status.TheVariants.{Done}
+use Rattle.sixel_report.specs.Conversions.{of_ppm}
+use Rattle.sixel_run.specs.Outputs.{RenderGives, render_output}
+use Rattle.sixel_report.specs.Outputs.{WroteBy, WroteNothing}
+use Rattle.sixel_report.specs.Texts.{Text}
 use Rattle.sixel_run.proofs.CheckLemmas.{same_verdict}
 
 -- ---- at most one output

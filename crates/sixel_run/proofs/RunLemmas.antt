@@ -9,34 +9,34 @@ use Rattle.sixel_grammar.specs.Document.{Document}
 use Rattle.sixel_grammar.specs.Faults.{IsFaultOf}
 use Rattle.sixel_grammar.specs.Prefixes.{CompleteIn}
 use Rattle.sixel_grammar.proofs.UniqueLemmas.{complete_once, document_once, fault_no_document, fault_once}
-use Rattle.sixel_run.specs.declared.fault.RunFault.{RunFault}
-use Rattle.sixel_run.specs.declared.fault.RunFault.TheVariants.{Grammar, OutOfMemory, Read, Write}
+use Rattle.sixel_report.specs.declared.fault.RunFault.{RunFault}
+use Rattle.sixel_report.specs.declared.fault.RunFault.TheVariants.{Grammar, OutOfMemory, Read, Write}
 use Rattle.sixel_model.specs.Profiles.{count_of}
 use Rattle.sixel_model.specs.declared.profile.Profile.{Profile}
 use Rattle.sixel_scan.specs.declared.answer.Scanned.{Scanned}
-use Rattle.sixel_run.specs.declared.task.Status.{Status}
-use Rattle.sixel_run.specs.declared.task.Status.TheVariants.{Done}
-use Rattle.sixel_run.specs.declared.task.Task.{Task}
-use Rattle.sixel_run.specs.declared.task.Task.TheVariants.{List as Listing, Check, Survey, Render, Show, ShowBox}
-use Rattle.sixel_run.specs.declared.task.Task.TheVariants.{Encode}
-use Rattle.sixel_run.specs.declared.task.Task.TheVariants.{Differ, DifferSheet, Mend, Scan, ShowOn}
-use Rattle.sixel_run.specs.Differing.{differ_output, sheet_output}
-use Rattle.sixel_run.specs.Outputs.{FoundNoFault, Gives, ListGives, ListsUnread, Wrote, WroteBefore, WroteBy}
-use Rattle.sixel_run.specs.Outputs.{WroteNothing}
-use Rattle.sixel_run.specs.Outputs.{WroteUnread, mending}
+use Rattle.sixel_report.specs.declared.task.Status.{Status}
+use Rattle.sixel_report.specs.declared.task.Status.TheVariants.{Done}
+use Rattle.sixel_report.specs.declared.task.Task.{Task}
+use Rattle.sixel_report.specs.declared.task.Task.TheVariants.{List as Listing, Check, Survey, Render, Show, ShowBox}
+use Rattle.sixel_report.specs.declared.task.Task.TheVariants.{Encode, Differ, DifferSheet, Mend, Scan, ShowOn}
+use Rattle.sixel_sheet.specs.Outputs.{differ_output, sheet_output}
+use Rattle.sixel_run.specs.Outputs.{FoundNoFault, Gives, Wrote, WroteBefore, WroteUnread, mending}
+use Rattle.sixel_list.specs.Outputs.{ListGives, ListsUnread}
+use Rattle.sixel_report.specs.Outputs.{WroteBy, WroteNothing}
 use Rattle.sixel_grammar.specs.Reading.{NoFaultBefore}
 use Rattle.sixel_run.specs.Scanned.{AreOfFirst, scan_text}
-use Rattle.sixel_run.specs.Screens.{screen_terminal, show_choices, show_terminal}
-use Rattle.sixel_run.specs.Texts.{Text, BeginsWith, list_text}
-use Rattle.sixel_run.proofs.OutputLemmas.{gives-begins}
-use Rattle.sixel_run.proofs.BoxLemmas.{box-gives, box-once}
-use Rattle.sixel_run.proofs.CheckLemmas.{both_are, check-gives, check-once}
-use Rattle.sixel_run.proofs.DifferLemmas.{differ-gives, differ-once, differ_given, sheet_given}
+use Rattle.sixel_show.specs.Screens.{screen_terminal, show_choices, show_terminal}
+use Rattle.sixel_report.specs.Texts.{Text, BeginsWith, list_text}
+use Rattle.sixel_list.proofs.OutputLemmas.{gives-begins}
+use Rattle.sixel_show.proofs.BoxLemmas.{box-gives, box-once}
+use Rattle.sixel_report.proofs.OutputLemmas.{both_are}
+use Rattle.sixel_run.proofs.CheckLemmas.{check-gives, check-once}
+use Rattle.sixel_sheet.proofs.DifferLemmas.{differ-gives, differ-once, differ_given, sheet_given}
 use Rattle.sixel_run.proofs.FileLemmas.{encode-gives, encode-once}
 use Rattle.sixel_run.proofs.MendLemmas.{mend-gives, mend-once}
 use Rattle.sixel_run.proofs.PictureLemmas.{render-gives, render-once}
-use Rattle.sixel_run.proofs.ScreenLemmas.{show-gives, show-once}
-use Rattle.sixel_run.proofs.ShowOnLemmas.{on-gives, on-once}
+use Rattle.sixel_show.proofs.ScreenLemmas.{show-gives, show-once}
+use Rattle.sixel_show.proofs.ShowOnLemmas.{on-gives, on-once}
 use Rattle.sixel_run.proofs.StringLemmas.{before_first, given_first, scan-begins, scan-gives, scan-once}
 use Rattle.sixel_run.proofs.SurveyLemmas.{survey-gives, survey-once}
 use Rattle.sixel_io.proofs.SinkLemmas.{Appends-keeps}

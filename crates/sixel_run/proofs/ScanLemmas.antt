@@ -1,6 +1,6 @@
 -- What a run of `scan` owes.
-use Rattle.std.proofs.Common.{◌≡◌, ◌∙◌, ◌≤◌, ℕ, Bool, true, false, List, [], ◌∷◌, ◌++◌, length, map, take}
-use Rattle.std.proofs.Common.{Option, Some, None, ap, ap₂, append_assoc, arith, inl, inr, refl, subst, sym}
+use Rattle.std.proofs.Common.{◌≡◌, ◌∙◌, ◌≤◌, ℕ, Bool, true, false, List, [], ◌∷◌, ◌++◌, length, map, take, Option, Some}
+use Rattle.std.proofs.Common.{None, ap, ap₂, append_assoc, arith, inl, inr, refl, subst, sym}
 use Rattle.std.specs.List.{list_all, list_any}
 use Rattle.std.specs.Prelude.{◌&&◌, ◌||◌, Result, Ok, Err, IfSome, OnOk, flat_map}
 use Rattle.std.specs.Io.KnownBytes.{Appends, Consumes}
@@ -24,19 +24,20 @@ use Rattle.sixel_scan.specs.Wrapping.{AreMarked}
 use Rattle.sixel_scan.proofs.MarkLemmas.{marked_more}
 use Rattle.sixel_scan.proofs.StringLemmas.{some_strings}
 use Rattle.sixel_scan.proofs.TellLemmas.{stream_begins, stream_over, told_first}
-use Rattle.sixel_run.specs.declared.fault.RunFault.{RunFault}
-use Rattle.sixel_run.specs.declared.fault.RunFault.TheVariants.{NoString, OutOfMemory, Read, Write}
-use Rattle.sixel_run.specs.declared.item.Item.{Item}
-use Rattle.sixel_run.specs.declared.item.Item.TheVariants.{String}
-use Rattle.sixel_run.specs.declared.task.Status.{Status}
-use Rattle.sixel_run.specs.declared.task.Task.TheVariants as task
-use Rattle.sixel_run.specs.Conversions.{of_scan}
-use Rattle.sixel_run.specs.Outputs.{CountsWrites, ScanGives, ScansBefore, ScansUnread, Wrote, WroteWith, failures_by}
+use Rattle.sixel_report.specs.declared.fault.RunFault.{RunFault}
+use Rattle.sixel_report.specs.declared.fault.RunFault.TheVariants.{NoString, OutOfMemory, Read, Write}
+use Rattle.sixel_report.specs.declared.item.Item.{Item}
+use Rattle.sixel_report.specs.declared.item.Item.TheVariants.{String}
+use Rattle.sixel_report.specs.declared.task.Status.{Status}
+use Rattle.sixel_report.specs.declared.task.Task.TheVariants as task
+use Rattle.sixel_report.specs.Conversions.{of_scan}
+use Rattle.sixel_report.specs.Outputs.{CountsWrites, WroteWith, failures_by}
+use Rattle.sixel_run.specs.Outputs.{ScanGives, ScansBefore, ScansUnread, Wrote}
 use Rattle.sixel_run.specs.Scanned.{AreBeforeAllocation, AreOfFirst, AreOfGiven, AreOfStream, Finds, MayGrowInString}
 use Rattle.sixel_run.specs.Scanned.{answer_of_strings, answer_with, is_portable, is_wrapped, scan_text, status_where}
 use Rattle.sixel_run.specs.Scanned.{stream_of}
 use Rattle.sixel_run.specs.LineTasks.{PutsText, WritesItems}
-use Rattle.sixel_run.specs.Texts.{Text}
+use Rattle.sixel_report.specs.Texts.{Text}
 use Rattle.sixel_run.proofs.WrappingLemmas.{marks_kept, marks_next}
 use Rattle.sixel_run.proofs.StringLemmas.{reports_join, scan-begins, short_take, strings_more}
 

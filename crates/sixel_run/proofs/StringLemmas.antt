@@ -1,7 +1,7 @@
 -- The strings of a stream and their reports: a stream has one list of both.
-use Rattle.std.proofs.Common.{◌≡◌, ◌∙◌, ◌≤◌, ℕ, Bool, List, [], ◌∷◌, ◌++◌, length, take, Option, Some}
-use Rattle.std.proofs.Common.{None, ap, ap₂, append_assoc, arith, inl, inr, map, refl, subst, sym}
-use Rattle.std.specs.List.{AllByRecursion, concat}
+use Rattle.std.proofs.Common.{◌≡◌, ◌∙◌, ◌≤◌, ℕ, Bool, List, [], ◌∷◌, ◌++◌, length, take, Option, Some, None, ap, ap₂}
+use Rattle.std.proofs.Common.{append_assoc, arith, inl, inr, map, refl, subst, sym}
+use Rattle.std.specs.List.{AllByRecursion}
 use Rattle.std.specs.Prelude.{◌+◌, Result, Ok, Err, flat_map}
 use Rattle.std.proofs.lemmas.List.{append-nil, length-take, map-append}
 use Rattle.std.proofs.lemmas.Grind.{flat_map-append}
@@ -25,15 +25,15 @@ use Rattle.sixel_scan.proofs.GivenLemmas.{ended_of}
 use Rattle.sixel_scan.proofs.MarkLemmas.{marked_more}
 use Rattle.sixel_scan.proofs.StringLemmas.{none_in_nothing, one_list, some_strings}
 use Rattle.sixel_scan.proofs.TellLemmas.{stream_begins}
-use Rattle.sixel_run.specs.declared.fault.RunFault.{RunFault}
-use Rattle.sixel_run.specs.declared.fault.RunFault.TheVariants as run
-use Rattle.sixel_run.specs.declared.item.Item.{Item}
-use Rattle.sixel_run.specs.declared.item.Item.TheVariants.{String}
-use Rattle.sixel_run.specs.declared.task.Status.{Status}
+use Rattle.sixel_report.specs.declared.fault.RunFault.{RunFault}
+use Rattle.sixel_report.specs.declared.fault.RunFault.TheVariants as run
+use Rattle.sixel_report.specs.declared.item.Item.{Item}
+use Rattle.sixel_report.specs.declared.item.Item.TheVariants.{String}
+use Rattle.sixel_report.specs.declared.task.Status.{Status}
 use Rattle.sixel_run.specs.Outputs.{ScanGives}
-use Rattle.sixel_run.specs.Scanned.{AreBeforeAllocation, AreOfFirst, AreOfGiven, answer_of_strings}
-use Rattle.sixel_run.specs.Scanned.{scan_text, stream_of}
-use Rattle.sixel_run.specs.Texts.{Text, BeginsWith, item_line, items_text}
+use Rattle.sixel_run.specs.Scanned.{AreBeforeAllocation, AreOfFirst, AreOfGiven, answer_of_strings, scan_text}
+use Rattle.sixel_run.specs.Scanned.{stream_of}
+use Rattle.sixel_report.specs.Texts.{Text, BeginsWith, item_line, items_text}
 use Rattle.sixel_run.proofs.CheckLemmas.{same_verdict}
 use Rattle.sixel_run.proofs.WrappingLemmas.{mark_once, strings_within, wrapped_or_not}
 
@@ -251,8 +251,3 @@ strings_more written [] s = append-nil (written (String s))
 strings_more written (r ∷ reports) s =
     ap (λ (t : Text). written (String r) ++ t) (strings_more written reports s)
     ∙ sym (append_assoc (written (String r)) (flat_map written (map String reports)) (written (String s)))
-
--- lines that are written as they are
-pub plain_lines : (lines : List Text) → flat_map (λ line. line) lines ≡ concat lines
-plain_lines [] = refl
-plain_lines (line ∷ lines) = ap (λ (t : Text). line ++ t) (plain_lines lines)

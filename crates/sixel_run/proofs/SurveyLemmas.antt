@@ -21,17 +21,18 @@ use Rattle.sixel_named.specs.declared.verdict.NamedFinding.TheVariants as findin
 use Rattle.sixel_named.specs.declared.verdict.NamedVerdict.{NamedVerdict}
 use Rattle.sixel_named.specs.declared.verdict.NamedVerdict.TheVariants.{Portable}
 use Rattle.sixel_named.proofs.SurveyLawLemmas.{empty_if_none_on, first_is_verdict_on}
-use Rattle.sixel_run.specs.declared.fault.RunFault.{RunFault}
-use Rattle.sixel_run.specs.declared.fault.RunFault.TheVariants.{Grammar}
-use Rattle.sixel_run.specs.declared.task.Status.{Status}
-use Rattle.sixel_run.specs.declared.task.Status.TheVariants as status
-use Rattle.sixel_run.specs.declared.task.Status.TheVariants.{Done}
+use Rattle.sixel_report.specs.declared.fault.RunFault.{RunFault}
+use Rattle.sixel_report.specs.declared.fault.RunFault.TheVariants.{Grammar}
+use Rattle.sixel_report.specs.declared.task.Status.{Status}
+use Rattle.sixel_report.specs.declared.task.Status.TheVariants as status
+use Rattle.sixel_report.specs.declared.task.Status.TheVariants.{Done}
 use Rattle.sixel_run.specs.Outputs.{SurveyGives, survey_status}
 use Rattle.sixel_run.specs.LineTasks.{IsStatusOf}
-use Rattle.sixel_run.specs.RuleSets.{rules_of}
-use Rattle.sixel_run.specs.Texts.{Text, survey_text}
-use Rattle.sixel_run.specs.declared.rule_set.RuleSet.{RuleSet}
-use Rattle.sixel_run.proofs.CheckLemmas.{both_are, same_verdict_on}
+use Rattle.sixel_report.specs.RuleSets.{rules_of}
+use Rattle.sixel_report.specs.Texts.{Text, survey_text}
+use Rattle.sixel_report.specs.declared.rule_set.RuleSet.{RuleSet}
+use Rattle.sixel_report.proofs.OutputLemmas.{both_are}
+use Rattle.sixel_run.proofs.CheckLemmas.{same_verdict_on}
 use Rattle.sixel_named.proofs.OneSurveyLemmas.{survey_on_exists, survey_on_once}
 use Rattle.sixel_named.proofs.OneVerdictLemmas.{verdict_on_exists}
 

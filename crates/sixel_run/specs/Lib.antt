@@ -1,16 +1,3 @@
-pub mod Texts
-pub mod SixelLines
-pub mod Conversions
-pub mod RuleSets
-pub mod Firsts
-pub mod Screens
-pub mod Notes
 pub mod Scanned
-pub mod Differing
 pub mod Outputs
 pub mod LineTasks
-pub mod Watching
-pub mod Boxes
-pub mod Listings
-pub mod NamedScreens
-pub mod Laws

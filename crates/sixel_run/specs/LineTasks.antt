@@ -6,16 +6,17 @@ use Rattle.sixel_io.specs.Devices.{Change, SinkState, SourceState}
 use Rattle.sixel_scan.specs.Scans.{IsOver}
 use Rattle.sixel_named.specs.Laws.{IsFirstOf}
 use Rattle.sixel_named.specs.declared.surveying.NamedSurvey.{NamedSurvey}
-use Rattle.sixel_run.specs.declared.fault.RunFault.{RunFault}
-use Rattle.sixel_run.specs.declared.fault.RunFault.TheVariants.{OutOfMemory, Read, Write}
-use Rattle.sixel_run.specs.declared.item.Item.{Item}
-use Rattle.sixel_run.specs.declared.task.Status.{Status}
-use Rattle.sixel_run.specs.declared.task.Status.TheVariants.{Done, Asked, Broken, Differing, Noted, Surveyed, Unfit}
-use Rattle.sixel_run.specs.declared.task.Task.{Task}
-use Rattle.sixel_run.specs.declared.task.Task.TheVariants.{Check, Differ, Scan, Survey}
-use Rattle.sixel_run.specs.Outputs.{CountsWrites, TakesMemory, Wrote, failures_by}
-use Rattle.sixel_run.specs.RuleSets.{rules_of}
-use Rattle.sixel_run.specs.Texts.{Text, items_text}
+use Rattle.sixel_report.specs.declared.fault.RunFault.{RunFault}
+use Rattle.sixel_report.specs.declared.fault.RunFault.TheVariants.{OutOfMemory, Read, Write}
+use Rattle.sixel_report.specs.declared.item.Item.{Item}
+use Rattle.sixel_report.specs.declared.task.Status.{Status}
+use Rattle.sixel_report.specs.declared.task.Status.TheVariants.{Done, Asked, Broken, Differing, Noted, Surveyed, Unfit}
+use Rattle.sixel_report.specs.declared.task.Task.{Task}
+use Rattle.sixel_report.specs.declared.task.Task.TheVariants.{Check, Differ, Scan, Survey}
+use Rattle.sixel_report.specs.Outputs.{CountsWrites, failures_by}
+use Rattle.sixel_run.specs.Outputs.{TakesMemory, Wrote}
+use Rattle.sixel_report.specs.RuleSets.{rules_of}
+use Rattle.sixel_report.specs.Texts.{Text, items_text}
 
 -- whether the task is a check, a survey, a scan or a comparison
 abbrev pub has_lines : Task → Bool

@@ -1,30 +1,17 @@
 -- What a run writes and answers.
-use Rattle.std.specs.Prelude.{◌≡◌, ◌⊎◌, ◌==◌, ℕ, Bool, List, [], ◌≤◌, length, take, Option, Some, None, IfSome, IsTrue}
-use Rattle.std.specs.Prelude.{IsFalse}
-use Rattle.std.specs.Prelude.{Result, Ok, Err, if◌then◌else◌}
-use Rattle.std.specs.Io.KnownBytes.{Appends, Consumes}
+use Rattle.std.specs.Prelude.{◌≡◌, ◌⊎◌, ◌==◌, ℕ, Bool, List, [], ◌≤◌, Option, IfSome, Result, Ok, Err, if◌then◌else◌}
+use Rattle.std.specs.Io.KnownBytes.{Appends}
 use Rattle.std.specs.List.{list_all}
-use Rattle.sixel_grammar.specs.declared.command.Event.{Event}
 use Rattle.sixel_grammar.specs.declared.command.Placed.{Placed}
-use Rattle.sixel_io.specs.Devices.{one_more}
-use Rattle.sixel_grammar.specs.Document.{Document, IsDocument, events_of, most_bytes}
-use Rattle.sixel_grammar.specs.Prefixes.{CompleteIn}
+use Rattle.sixel_grammar.specs.Document.{Document, IsDocument, events_of}
 use Rattle.sixel_grammar.specs.Faults.{IsFaultOf}
 use Rattle.sixel_grammar.specs.Reading.{NoFaultBefore}
 use Rattle.sixel_ppm.specs.declared.ppm.PpmFault.{PpmFault}
 use Rattle.sixel_model.specs.Pictures.{PictureValue}
 use Rattle.sixel_model.specs.Profiles.{count_of}
 use Rattle.sixel_model.specs.declared.colour.Parts.{Parts}
-use Rattle.sixel_model.specs.declared.profile.Profile.{Profile}
-use Rattle.sixel_ppm.specs.Ppm.{are_rgb, colours_of, is_file_side, ppm_text}
+use Rattle.sixel_ppm.specs.Ppm.{are_rgb, colours_of, ppm_text}
 use Rattle.sixel_ppm.specs.PpmReading.{HasWholeHeader, NoPpmFaultBefore, ppm_read}
-use Rattle.sixel_terminal.specs.Displays.{Display}
-use Rattle.sixel_terminal.specs.Drawing.{screen_on}
-use Rattle.sixel_terminal.specs.Screens.{Shown}
-use Rattle.sixel_models.specs.declared.named.Named.{Named}
-use Rattle.sixel_models.specs.Modelled.{EndsAtPlace}
-use Rattle.sixel_models.specs.Named.{IsScreenOn, model_of}
-use Rattle.sixel_models.specs.Readings.{IsSaid}
 use Rattle.sixel_judge.specs.declared.verdict.Verdict.{Verdict}
 use Rattle.sixel_judge.specs.declared.verdict.Verdict.TheVariants.{Portable, Broken}
 use Rattle.sixel_judge.specs.Growth.{MayGrowIn}
@@ -42,50 +29,27 @@ use Rattle.sixel_named.specs.declared.verdict.NamedVerdict.{NamedVerdict}
 use Rattle.sixel_named.specs.declared.verdict.NamedVerdict.TheVariants as named
 use Rattle.sixel_mend.specs.declared.mending.MendFault.{MendFault}
 use Rattle.sixel_mend.specs.declared.mending.Mending.{Mending}
-use Rattle.sixel_mend.specs.Mended.{HasSides as HasMendedSides, MendsEvents}
+use Rattle.sixel_mend.specs.Mended.{MendsEvents}
 use Rattle.sixel_scan.specs.declared.answer.Scanned.{Scanned}
-use Rattle.sixel_run.specs.Conversions.{of_mend, of_ppm}
-use Rattle.sixel_run.specs.declared.fault.RunFault.{RunFault}
-use Rattle.sixel_run.specs.declared.fault.RunFault.TheVariants.{Grammar, NotRgb, NoBox, OutOfMemory, Read, Write}
-use Rattle.sixel_run.specs.declared.fault.RunFault.TheVariants.{Unmodelled}
-use Rattle.sixel_run.specs.declared.task.Area.{Area}
-use Rattle.sixel_run.specs.declared.task.Area.TheVariants.{Box, Sides}
-use Rattle.sixel_run.specs.declared.task.Status.{Status}
-use Rattle.sixel_run.specs.declared.task.Status.TheVariants as status
-use Rattle.sixel_run.specs.declared.task.Note.TheVariants.{OneColour}
-use Rattle.sixel_run.specs.declared.task.Status.TheVariants.{Done, Noted, Surveyed}
-use Rattle.sixel_run.specs.declared.task.Task.{Task}
-use Rattle.sixel_run.specs.declared.task.Task.TheVariants.{List as Listing, Check, Survey, Render, Show, ShowBox}
-use Rattle.sixel_run.specs.declared.task.Task.TheVariants.{Encode}
-use Rattle.sixel_run.specs.declared.task.Task.TheVariants.{Differ, DifferSheet, Mend, Scan, ShowOn}
+use Rattle.sixel_report.specs.Conversions.{of_mend, of_ppm}
+use Rattle.sixel_report.specs.declared.fault.RunFault.{RunFault}
+use Rattle.sixel_report.specs.declared.fault.RunFault.TheVariants.{Grammar, NotRgb}
+use Rattle.sixel_report.specs.declared.task.Status.{Status}
+use Rattle.sixel_report.specs.declared.task.Status.TheVariants as status
+use Rattle.sixel_report.specs.declared.task.Note.TheVariants.{OneColour}
+use Rattle.sixel_report.specs.declared.task.Status.TheVariants.{Done, Noted, Surveyed}
+use Rattle.sixel_report.specs.declared.task.Task.{Task}
+use Rattle.sixel_report.specs.declared.task.Task.TheVariants.{List as Listing, Check, Survey, Render, Show, ShowBox}
+use Rattle.sixel_report.specs.declared.task.Task.TheVariants.{Encode, Differ, DifferSheet, Mend, Scan, ShowOn}
 use Rattle.sixel_run.specs.Scanned.{AreBeforeAllocation, AreOfGiven, AreOfStream, MayGrowInString, answer_of_strings}
 use Rattle.sixel_run.specs.Scanned.{scan_text}
-use Rattle.sixel_run.specs.Differing.{DifferGives, differ_output, sheet_output}
-use Rattle.sixel_run.specs.Notes.{shown_status}
-use Rattle.sixel_run.specs.RuleSets.{rules_of}
-use Rattle.sixel_run.specs.Screens.{DeclareScreenIn, declared_screen, screen_terminal, screen_text, show_choices}
-use Rattle.sixel_run.specs.Screens.{show_terminal}
-use Rattle.sixel_run.specs.Texts.{Text, BeginsWith, list_text, named_verdict_line, survey_text}
-
--- ---- lists
-
--- the lines of the events that are complete in the bytes
-abbrev pub ListsPrefix : List ℕ → Text → Type 0
-ListsPrefix bytes text = (events : List Placed) × CompleteIn events bytes × (text ≡ list_text events)
-
--- for a document the lines of its events; for other bytes their fault, and the lines of the events complete before it
-abbrev pub ListGives : List ℕ → Text → Result Status RunFault → Type 0
-ListGives bytes text (Ok status) = (status ≡ Done)
-    × ((events : List Placed) × Document events bytes × (text ≡ list_text events))
-ListGives bytes text (Err (Grammar fault)) = IsFaultOf bytes fault × ListsPrefix (take fault.place bytes) text
-ListGives bytes text (Err fault) = ⊥
-
--- the lines of the events that are complete in the bytes given so far, those before `left`, were appended; these bytes
--- are viable and within the length limit
-abbrev pub ListsUnread : List ℕ → Option (List ℕ) → Option (List ℕ) → Option (List ℕ) → Type 0
-ListsUnread bytes left had has =
-    (given : List ℕ) × (text : Text) × Consumes (Some bytes) left given
-    × ((length given ≤ most_bytes) × ListsPrefix given text) × Appends had has text
+use Rattle.sixel_sheet.specs.Outputs.{DifferGives, differ_output, sheet_output, HasEachSize, HasPictureSize}
+use Rattle.sixel_report.specs.RuleSets.{rules_of}
+use Rattle.sixel_show.specs.Screens.{DeclareScreenIn, screen_terminal, show_choices, show_terminal}
+use Rattle.sixel_report.specs.Texts.{Text, named_verdict_line, survey_text}
+use Rattle.sixel_list.specs.Outputs.{ListGives, ListsUnread}
+use Rattle.sixel_show.specs.Outputs.{ShowBoxGives, ShowGives, ShowOnGives}
+use Rattle.sixel_report.specs.Outputs.{WroteNothing, WroteWith}
 
 -- ---- verdicts
 
@@ -203,71 +167,7 @@ MendGives registers m bytes text answer =
     × ((mended : Result PictureValue MendFault) × MendsEvents registers m (events_of events) mended
     × ((text, answer) ≡ mend_output mended))
 
--- ---- screens
-
--- for a document the PPM of the terminal's screen after it, and the status of its show in the profile, or NotRgb and no
--- text if some colour on the screen isn't RGB; for other bytes their fault, and no text
-abbrev pub ShowGives : Profile → Display → List ℕ → Text → Result Status RunFault → Type 0
-ShowGives profile t bytes text (Ok status) =
-    (events : List Placed) × Document events bytes × IsTrue (are_rgb (screen_on t (events_of events)))
-    × (text ≡ screen_text t (events_of events)) × (status ≡ shown_status profile (events_of events))
-ShowGives profile t bytes text (Err NotRgb) = (text ≡ [])
-    × ((events : List Placed) × Document events bytes × IsFalse (are_rgb (screen_on t (events_of events))))
-ShowGives profile t bytes text (Err (Grammar fault)) = (text ≡ []) × IsFaultOf bytes fault
-ShowGives profile t bytes text (Err fault) = ⊥
-
--- for a document what the terminal with a screen of the size of the declared box gives; NoBox and no text if no box is
--- declared, or no screen can have its size; for other bytes their fault, and no text
-abbrev pub ShowBoxGives : Profile → (ℕ × ℕ → Display) → List ℕ → Text → Result Status RunFault → Type 0
-ShowBoxGives profile terminal bytes text (Err NoBox) = (text ≡ [])
-    × ((events : List Placed) × Document events bytes × (declared_screen (events_of events) ≡ None))
-ShowBoxGives profile terminal bytes text (Err (Grammar fault)) = (text ≡ []) × IsFaultOf bytes fault
-ShowBoxGives profile terminal bytes text answer =
-    (events : List Placed) × Document events bytes
-    × ((sides : ℕ × ℕ) × (declared_screen (events_of events) ≡ Some sides)
-    × ShowGives profile (terminal sides) bytes text answer)
-
--- ---- screens of named terminals
-
--- the sides of the screen: those that are given, or those of the declared box if a screen can have them
-abbrev pub sides_in : Area → List Event → Option (ℕ × ℕ)
-sides_in Box events = declared_screen events
-sides_in (Sides width height) events = Some (width, height)
-
--- for a document the PPM of the named terminal's screen after it, or NotRgb and no text if some colour on the screen
--- isn't RGB; Unmodelled, the offset of the event at which the terminal's model ends, and no text; NoBox and no text if
--- the model says all, and no screen has the sides; for other bytes their fault, and no text
-abbrev pub ShowOnGives : Named → Parts → Area → List ℕ → Text → Result Status RunFault → Type 0
-ShowOnGives named background area bytes text (Ok status) =
-    (placed : List Placed) × Document placed bytes
-    × ((sides : ℕ × ℕ) × (sides_in area (events_of placed) ≡ Some sides)
-    × ((screen : Shown) × IsScreenOn named background sides (events_of placed) screen
-    × IsTrue (are_rgb screen.colours) × (text ≡ ppm_text sides.0 sides.1 screen.colours) × (status ≡ Done)))
-ShowOnGives named background area bytes text (Err NotRgb) = (text ≡ [])
-    × ((placed : List Placed) × Document placed bytes
-    × ((sides : ℕ × ℕ) × (sides_in area (events_of placed) ≡ Some sides)
-    × ((screen : Shown) × IsScreenOn named background sides (events_of placed) screen
-    × IsFalse (are_rgb screen.colours))))
-ShowOnGives named background area bytes text (Err (Unmodelled place)) = (text ≡ [])
-    × ((placed : List Placed) × Document placed bytes × EndsAtPlace (model_of named) placed place)
-ShowOnGives named background area bytes text (Err NoBox) = (text ≡ [])
-    × ((placed : List Placed) × Document placed bytes × IsSaid (model_of named) (events_of placed)
-    × (sides_in area (events_of placed) ≡ None))
-ShowOnGives named background area bytes text (Err (Grammar fault)) = (text ≡ []) × IsFaultOf bytes fault
-ShowOnGives named background area bytes text (Err fault) = ⊥
-
 -- ---- tasks
-
--- given sides of a screen are in range
-abbrev pub HasSidesIn : Area → Type 0
-HasSidesIn Box = Unit {0}
-HasSidesIn (Sides width height) = IsTrue (is_file_side width) × IsTrue (is_file_side height)
-
--- the sides of a screen to show are in range
-abbrev pub HasSides : Task → Type 0
-HasSides (Show profile showing fill selects width height) = IsTrue (is_file_side width) × IsTrue (is_file_side height)
-HasSides (ShowOn named background area) = HasSidesIn area
-HasSides t = Unit {0}
 
 -- what is asked of the terminal that shows a string to mend
 abbrev pub mending : Parts → Bool → Bool → Mending
@@ -291,10 +191,6 @@ Gives (ShowOn named background area) bytes text answer = ShowOnGives named backg
 Gives (Differ background) bytes text answer = DifferGives differ_output background bytes text answer
 Gives (DifferSheet background) bytes text answer = DifferGives sheet_output background bytes text answer
 
--- nothing was appended to what the sink `had`
-abbrev pub WroteNothing : Option (List ℕ) → Option (List ℕ) → Type 0
-WroteNothing had has = Appends had has []
-
 -- no fault is in the bytes given so far, those before `left`, and nothing was appended to what the sink `had`
 abbrev pub FoundNoFault : List ℕ → Option (List ℕ) → Option (List ℕ) → Option (List ℕ) → Type 0
 FoundNoFault bytes left had has = NoFaultBefore left bytes × WroteNothing had has
@@ -316,14 +212,6 @@ abbrev pub WroteBefore : Task → List ℕ → Option (List ℕ) → Option (Lis
 WroteBefore (Scan profile eight) bytes had has = ScansBefore eight (count_of profile) bytes had has
 WroteBefore t bytes had has = WroteNothing had has
 
--- the bytes are a document whose mended picture has a size that a picture may have
-abbrev pub HasPictureSize : Mending → List ℕ → Type 0
-HasPictureSize m bytes = (events : List Placed) × Document events bytes × HasMendedSides m (events_of events)
-
--- the same, whatever is chosen for mending
-abbrev pub HasEachSize : List ℕ → Type 0
-HasEachSize bytes = (m : Mending) → HasPictureSize m bytes
-
 -- a run of the task over these bytes, if they are known, may run out of memory: a check or a render only if a checker
 -- may allocate in them, a scan only if it may in one of the strings, a survey only if a box in range is declared in
 -- them, an encode only after a whole header, a mend or a comparison only for a document that has a picture's size,
@@ -343,41 +231,8 @@ TakesMemory (ShowOn named background area) told = IfSome told IsDocument
 TakesMemory (Differ background) told = IfSome told HasEachSize
 TakesMemory (DifferSheet background) told = IfSome told HasEachSize
 
--- what a run with this answer appended to what the sink `had`. OutOfMemory: what `before` says; Read: what `unread`
--- says; Write: a prefix of each text that `gives` allows; any other answer: a text that `gives` allows with that answer
-abbrev pub WroteWith : (Text → Result Status RunFault → Type 0) → (Option (List ℕ) → Option (List ℕ) → Type 0)
-    → (Option (List ℕ) → Option (List ℕ) → Type 0)
-    → Result Status RunFault → Option (List ℕ) → Option (List ℕ) → Type 0
-WroteWith gives unread before (Err OutOfMemory) had has = before had has
-WroteWith gives unread before (Err Read) had has = unread had has
-WroteWith gives unread before (Err Write) had has =
-    (part : Text) × Appends had has part
-    × ((text : Text) (answer : Result Status RunFault) → gives text answer → BeginsWith text part)
-WroteWith gives unread before answer had has = (text : Text) × gives text answer × Appends had has text
-
--- the same of a task that has written nothing when an allocation fails
-abbrev pub WroteBy : (Text → Result Status RunFault → Type 0) → (Option (List ℕ) → Option (List ℕ) → Type 0)
-    → Result Status RunFault → Option (List ℕ) → Option (List ℕ) → Type 0
-WroteBy gives unread answer had has = WroteWith gives unread WroteNothing answer had has
-
 -- what a run of the task over these bytes, with `left` unread, appended to what the sink `had`, for this answer
 abbrev pub Wrote : Task → List ℕ → Option (List ℕ)
     → Result Status RunFault → Option (List ℕ) → Option (List ℕ) → Type 0
 Wrote task bytes left answer had has =
     WroteWith (Gives task bytes) (WroteUnread task bytes left) (WroteBefore task bytes) answer had has
-
--- ---- failures of devices
-
--- the failures of a device: one more if the answer is its fault, else as many as before
-abbrev pub failures_by : {A : Type 0} → RunFault → Result A RunFault → ℕ → ℕ
-failures_by Read (Err Read) n = one_more n
-failures_by Write (Err Write) n = one_more n
-failures_by device answer n = n
-
--- the answer is Write exactly if the sink failed, and then it failed once
-abbrev pub CountsWrites : {A : Type 0} → Result A RunFault → ℕ → ℕ → Type 0
-CountsWrites answer old new = new ≡ failures_by Write answer old
-
--- the answer is Read exactly if the source failed, and then it failed once; or Write, if the flush failed after that
-abbrev pub CountsReads : {A : Type 0} → Result A RunFault → ℕ → ℕ → Type 0
-CountsReads answer old new = (new ≡ failures_by Read answer old) ⊎ ((answer ≡ Err Write) × (new ≡ one_more old))

@@ -1,23 +1,22 @@
 -- What a scan finds in a stream, and what it answers.
-use Rattle.std.specs.Prelude.{◌≡◌, ◌≤◌, ◌++◌, ℕ, Bool, true, false, List, [], ◌∷◌, length, map, take, Option, Some}
-use Rattle.std.specs.Prelude.{◌||◌, Result, Ok, Err, if◌then◌else◌}
+use Rattle.std.specs.Prelude.{◌≡◌, ◌≤◌, ◌++◌, ℕ, Bool, true, List, [], ◌∷◌, length, map, take, Option, Some, ◌||◌}
+use Rattle.std.specs.Prelude.{Result, Ok, Err, if◌then◌else◌}
 use Rattle.std.specs.Io.KnownBytes.{Consumes}
 use Rattle.std.specs.List.{list_all, list_any}
-use Rattle.sixel_scan.specs.declared.answer.Answer.{Answer}
-use Rattle.sixel_scan.specs.declared.answer.Answer.TheVariants.{Portable, Broken, Refused}
 use Rattle.sixel_scan.specs.declared.answer.Scanned.{Scanned}
 use Rattle.sixel_scan.specs.Prefixes.{AreGiven}
 use Rattle.sixel_scan.specs.Scans.{GrowsWithin, longest_stream}
 use Rattle.sixel_scan.specs.Standing.{AreReported}
 use Rattle.sixel_scan.specs.Strings.{AreStrings, StringAt}
 use Rattle.sixel_scan.specs.Wrapping.{AreMarked}
-use Rattle.sixel_run.specs.declared.fault.RunFault.{RunFault}
-use Rattle.sixel_run.specs.declared.fault.RunFault.TheVariants.{NoString, OutOfMemory, Read, Write}
-use Rattle.sixel_run.specs.declared.task.Status.{Status}
-use Rattle.sixel_run.specs.declared.task.Note.TheVariants.{Wrapped}
-use Rattle.sixel_run.specs.declared.task.Status.TheVariants.{Done, Noted, Unfit}
-use Rattle.sixel_run.specs.declared.item.Item.TheVariants.{String}
-use Rattle.sixel_run.specs.Texts.{Text, items_text}
+use Rattle.sixel_report.specs.declared.fault.RunFault.{RunFault}
+use Rattle.sixel_report.specs.declared.fault.RunFault.TheVariants.{NoString, OutOfMemory, Read, Write}
+use Rattle.sixel_report.specs.declared.task.Status.{Status}
+use Rattle.sixel_report.specs.declared.task.Note.TheVariants.{Wrapped}
+use Rattle.sixel_report.specs.declared.task.Status.TheVariants.{Done, Noted, Unfit}
+use Rattle.sixel_report.specs.declared.item.Item.TheVariants.{String}
+use Rattle.sixel_report.specs.Texts.{Text, items_text}
+use Rattle.sixel_report.specs.Lines.{is_portable_answer}
 
 -- the stream that a source with these bytes gives: of more than a stream has, the first
 abbrev pub stream_of : List ℕ → List ℕ
@@ -26,11 +25,6 @@ stream_of bytes = take longest_stream bytes
 -- a line for each string
 abbrev pub scan_text : List Scanned → Text
 scan_text reports = items_text (map String reports)
-
-abbrev pub is_portable_answer : Answer → Bool
-is_portable_answer (Portable width height) = true
-is_portable_answer (Broken finding) = false
-is_portable_answer (Refused fault) = false
 
 -- the string is portable
 abbrev pub is_portable : Scanned → Bool

@@ -3,35 +3,23 @@
 ghost use Rattle.std.specs.Prelude.{◌≡◌, ◌≢◌, Err, IfSome, true};
 ghost use Rattle.sixel_io.specs.Devices.{change};
 ghost use Rattle.sixel_run.specs.LineTasks.{WritesItems, has_lines};
-ghost use Rattle.sixel_run.specs.Outputs.{CountsReads, CountsWrites, HasSides, TakesMemory, Wrote, failures_by};
+ghost use Rattle.sixel_report.specs.Outputs.{CountsReads, CountsWrites, HasSides, failures_by};
+ghost use Rattle.sixel_run.specs.Outputs.{TakesMemory, Wrote};
 
-mod box_finder;
 mod check;
 mod differ;
-mod differ_sheet;
-mod draw;
 mod encode;
-mod kept;
-mod list;
-mod list_lines;
 mod mend;
-mod on_konsole;
 mod render;
 mod scan;
-mod screen;
-mod sheet;
-mod show;
-mod show_box;
-mod show_on;
 mod survey;
-mod viewed;
-mod watched;
 
-use crate::fault::RunFault;
-use crate::put_item::{Plain, PutItem};
-use crate::task::{Status, Task};
 use sixel_io::{PIECE, Sink, Source};
+use sixel_list::list;
 use sixel_mend::Mending;
+use sixel_report::{Plain, PutItem, RunFault, Status, Task};
+use sixel_sheet::differ_sheet;
+use sixel_show::{show, show_box, show_on};
 use std::alloc::Global;
 
 /// Runs a task: reads the input as far as the task needs it, writes the output, and flushes once at the end.

@@ -3,7 +3,7 @@
 use crate::runs::{ENCODE, Limits, agrees, run_counted};
 use sixel_model::Profile;
 use sixel_ppm::PpmReason;
-use sixel_run::{RunFault, Status, Task};
+use sixel_report::{RunFault, Status, Task};
 use sixel_test_devices::filled;
 use std::alloc::{AllocError, Global};
 use std::test::Fail;

@@ -1,6 +1,6 @@
 //! What calls return when no memory is left at all, and then when there is enough again.
 
-ghost use Rattle.sixel_run.specs.Outputs.{HasSides};
+ghost use Rattle.sixel_report.specs.Outputs.{HasSides};
 
 use crate::runs::mend_on_black;
 use sixel_asked::Terminals;
@@ -10,7 +10,8 @@ use sixel_io::{SliceSink, SliceSource};
 use sixel_model::{Colour, Picture, Profile};
 use sixel_plane::{BandPlane, BytePlane, Cover};
 use sixel_ppm::{PpmFault, read_ppm};
-use sixel_run::{Note, RunFault, Status, Task, run};
+use sixel_report::{Note, RunFault, Status, Task};
+use sixel_run::run;
 use std::alloc::{AllocError, Global};
 use std::test::Fail;
 

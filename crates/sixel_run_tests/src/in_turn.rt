@@ -1,6 +1,6 @@
 //! For each task, each call of a device fails in turn; and the calls of whole runs are counted.
 
-ghost use Rattle.sixel_run.specs.Outputs.{HasSides};
+ghost use Rattle.sixel_report.specs.Outputs.{HasSides};
 
 use crate::runs::{
     CHECK, ENCODE, Limits, RENDER, Ran, SHOW_BOX, WIDE_CHECK, WIDE_ENCODE, WIDE_RENDER, run_counted,
@@ -9,7 +9,7 @@ use sixel_check::{Finding, Rule};
 use sixel_grammar::{Fault, Reason};
 use sixel_model::Profile;
 use sixel_ppm::PpmReason;
-use sixel_run::{RunFault, Status, Task};
+use sixel_report::{RunFault, Status, Task};
 use std::alloc::Global;
 
 /// What a task reads, and what it writes and answers if no device fails.

@@ -4,7 +4,7 @@ use sixel_check::{Finding, Rule};
 use sixel_grammar::{Fault, Reason};
 use sixel_io::{DeviceFault, SliceSink};
 use sixel_ppm::PpmReason;
-use sixel_run::{RunFault, finding_line, write_fault};
+use sixel_report::{RunFault, finding_line, write_fault};
 use std::test::Fail;
 
 const GRAMMAR: RunFault = RunFault::Grammar(Fault {

@@ -1,12 +1,13 @@
 //! Pictures that are encoded, and then rendered or checked.
 
-ghost use Rattle.sixel_run.specs.Outputs.{HasSides};
+ghost use Rattle.sixel_report.specs.Outputs.{HasSides};
 
 use sixel_asked::Terminals;
 use sixel_check::{Verdict, check_bytes};
 use sixel_io::{SliceSink, SliceSource};
 use sixel_model::{Palette, Parts, Picture, Profile};
-use sixel_run::{Status, Task, run};
+use sixel_report::{Status, Task};
+use sixel_run::run;
 use std::alloc::{AllocError, Global};
 use std::test::Fail;
 

@@ -1,11 +1,12 @@
 //! The tasks, and runs of them over devices that count their calls and fail where they are told to.
 
-ghost use Rattle.sixel_run.specs.Outputs.{HasSides};
+ghost use Rattle.sixel_report.specs.Outputs.{HasSides};
 
 use sixel_asked::Terminals;
 use sixel_io::{SliceSink, SliceSource};
 use sixel_model::{Colour, Profile};
-use sixel_run::{RunFault, Status, Task, run};
+use sixel_report::{RunFault, Status, Task};
+use sixel_run::run;
 use sixel_test_devices::{Calls, CountingDevice};
 use std::alloc::Global;
 

@@ -2,7 +2,7 @@
 
 use crate::runs::{Limits, SCAN, agrees, run_counted};
 use sixel_check::{Finding, Rule};
-use sixel_run::{Note, RunFault, Status, string_line};
+use sixel_report::{Note, RunFault, Status, string_line};
 use sixel_scan::{Answer, Scanned};
 
 /// A portable string at offset 2, and a broken one at offset 30. They end at offsets 28 and 56.

@@ -1,7 +1,7 @@
 //! The greatest boxes that a screen can have.
 
 use crate::runs::{Limits, SHOW_BOX, run_counted};
-use sixel_run::Status;
+use sixel_report::Status;
 use std::alloc::{AllocError, Global};
 use std::test::Fail;
 

@@ -5,7 +5,7 @@ use crate::runs::{SURVEY, agrees, mend_on_black};
 use sixel_check::{Finding, Rule};
 use sixel_model::Profile;
 use sixel_named::{NamedFinding, NamedRule};
-use sixel_run::{Note, RuleSet, RunFault, Status, entry_line};
+use sixel_report::{Note, RuleSet, RunFault, Status, entry_line};
 use sixel_survey::Entry;
 use sixel_test_devices::filled;
 use std::alloc::Global;

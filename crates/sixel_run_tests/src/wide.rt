@@ -1,12 +1,13 @@
 //! Runs in the profile of 256 registers.
 
-ghost use Rattle.sixel_run.specs.Outputs.{HasSides};
+ghost use Rattle.sixel_report.specs.Outputs.{HasSides};
 
 use crate::round_trip::{comes_back, push_pixel, sends};
 use crate::runs::{WIDE_CHECK, WIDE_ENCODE};
 use sixel_io::{SliceSink, SliceSource};
 use sixel_model::{Parts, Profile};
-use sixel_run::{Status, Task, run};
+use sixel_report::{Status, Task};
+use sixel_run::run;
 use std::alloc::{AllocError, Global};
 use std::test::Fail;
 

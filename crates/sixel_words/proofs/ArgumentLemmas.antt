@@ -1,12 +1,12 @@
 -- Arguments as texts.
-use Rattle.std.proofs.Common.{◌≡◌, ◌∙◌, ◌+◌, ◌++◌, ◌∷◌, [], ℕ, zero, suc, List, None, Option, Some, ap, ap₂, arith}
-use Rattle.std.proofs.Common.{map, option_map, refl, slice_get, string_bytes, sym, take}
+use Rattle.std.proofs.Common.{◌≡◌, ◌∙◌, ◌+◌, ◌++◌, ◌∷◌, [], ℕ, zero, suc, List, None, Option, Some, ap, ap₂, arith, map}
+use Rattle.std.proofs.Common.{option_map, refl, slice_get, string_bytes, sym, take}
 use Rattle.std.specs.Prelude.{Err, IfSome, String}
 use Rattle.std.specs.Global.{Global}
 use Rattle.std.specs.Str.Lossy.{utf8_lossy}
 use Rattle.std.specs.declared.env.FillError.TheVariants.{NotPresent}
 use Rattle.std.proofs.lemmas.List.{map-append}
-use Rattle.sixel_run.specs.Texts.{Text}
+use Rattle.sixel_report.specs.Texts.{Text}
 use Rattle.sixel_words.specs.Arguments.{IsCopied}
 
 -- there is no argument with this index, so there is no text

@@ -4,9 +4,9 @@ use Rattle.std.specs.Prelude.{length, nat_lt}
 use Rattle.std.proofs.lemmas.Bool.{ltb-false, ltb-true}
 use Rattle.clap.specs.Walk.{Row, Text}
 use Rattle.sixel_model.specs.declared.colour.Parts.{Parts}
-use Rattle.sixel_run.specs.declared.task.Task.{Task}
-use Rattle.sixel_run.specs.declared.task.Task.TheVariants.{List as Listing, Check, Differ, DifferSheet, Encode, Mend}
-use Rattle.sixel_run.specs.declared.task.Task.TheVariants.{Render, Scan, Show, ShowBox, ShowOn, Survey}
+use Rattle.sixel_report.specs.declared.task.Task.{Task}
+use Rattle.sixel_report.specs.declared.task.Task.TheVariants.{List as Listing, Check, Differ, DifferSheet, Encode, Mend}
+use Rattle.sixel_report.specs.declared.task.Task.TheVariants.{Render, Scan, Show, ShowBox, ShowOn, Survey}
 use Rattle.sixel_words.specs.Words.{HasColour, IsTask, files_of, is_given}
 
 not_both : (b : Bool) → b ≡ true → b ≡ false → ⊥

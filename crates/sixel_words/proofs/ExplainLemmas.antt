@@ -6,7 +6,7 @@ use Rattle.clap.specs.Walk.{Row, all_of}
 use Rattle.sixel_words.specs.declared.words.WordsFault.{WordsFault}
 use Rattle.sixel_words.specs.declared.words.WordsFault.TheVariants as fault
 use Rattle.sixel_explain.specs.Explanations.{Asks, line_of, names_in}
-use Rattle.sixel_run.specs.Texts.{Text}
+use Rattle.sixel_report.specs.Texts.{Text}
 use Rattle.sixel_words.proofs.MatchLemmas.{same_parts}
 use Rattle.sixel_words.specs.Words.{AsksFor, IsAskedBy, IsAskedIn, IsNoHelp, IsRefusal, IsUnexplained, sixel_app}
 

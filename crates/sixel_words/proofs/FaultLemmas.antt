@@ -7,8 +7,8 @@ use Rattle.clap.specs.declared.error.kind.ErrorKind.{ErrorKind}
 use Rattle.clap.specs.declared.error.kind.ErrorKind.TheVariants as kind
 use Rattle.sixel_words.specs.declared.words.WordsFault.{WordsFault}
 use Rattle.sixel_words.specs.declared.words.WordsFault.TheVariants as fault
-use Rattle.sixel_run.specs.declared.task.Task.{Task}
-use Rattle.sixel_run.specs.Texts.{Text}
+use Rattle.sixel_report.specs.declared.task.Task.{Task}
+use Rattle.sixel_report.specs.Texts.{Text}
 use Rattle.sixel_words.specs.Words.{AsksFor, HoldsError, IsExplanationOf, IsFaultFor, IsFoundIn, IsNoHelp, IsTaskOf}
 use Rattle.sixel_words.specs.Words.{IsUnexplained, kinds_of}
 

@@ -1,6 +1,6 @@
 -- Checks with any of their flags, in any order and as often as one likes.
-use Rattle.std.proofs.Common.{◌≡◌, ◌∙◌, ◌∷◌, ◌++◌, ◌⊎◌, ◌&&◌, ◌||◌, zero, suc, [], Bool, List, None, Some}
-use Rattle.std.proofs.Common.{ap, append-nil, append_assoc, arith, codes, false, fold, inl, inr, refl, subst, sym, true}
+use Rattle.std.proofs.Common.{◌≡◌, ◌∙◌, ◌∷◌, ◌++◌, ◌⊎◌, ◌&&◌, ◌||◌, zero, suc, [], Bool, List, None, Some, ap}
+use Rattle.std.proofs.Common.{append-nil, append_assoc, arith, codes, false, fold, inl, inr, refl, subst, sym, true}
 use Rattle.std.specs.Prelude.{All, Contains, find, if◌then◌else◌, unwrap_or}
 use Rattle.std.specs.List.{list_all}
 use Rattle.std.specs.Str.{bytes_eq}
@@ -11,10 +11,10 @@ use Rattle.clap.specs.Simple.{App, Shape, built, entered, label_of, names_of, su
 use Rattle.clap.specs.Takes.{default_passes, is_valid, settle_passes, takes, turn_passes, walk_passes}
 use Rattle.clap.specs.Walk.{Row, Text, Walk, answers_to, finished, first_of, nothing_held, walk, walk_from, walked}
 use Rattle.sixel_model.specs.declared.profile.Profile.TheVariants.{Registers16, Registers256}
-use Rattle.sixel_run.specs.declared.task.Task.TheVariants.{Check}
+use Rattle.sixel_report.specs.declared.task.Task.TheVariants.{Check}
 use Rattle.sixel_words.specs.Words.{IsRequestOf, check_app, check_flags, files_of, is_among, is_given, lines_of}
 use Rattle.sixel_words.specs.Words.{no_terminals, profile_of, sixel_app}
-use Rattle.sixel_program.specs.declared.lines.Lines.TheVariants.{Nothing, Plain}
+use Rattle.sixel_report.specs.declared.wanted_lines.Lines.TheVariants.{Nothing, Plain}
 
 abbrev whole : App
 whole = built sixel_app

@@ -1,6 +1,6 @@
 -- What the getters of clap's matches return.
-use Rattle.std.proofs.Common.{◌≡◌, ◌≢◌, ◌∙◌, ◌≤◌, ◌⊎◌, ℕ, Bool, true, false, List, [], Option, Some, None, arith}
-use Rattle.std.proofs.Common.{codes, refl, slice_index, subst, sym, ap, ap₂, inl, inr}
+use Rattle.std.proofs.Common.{◌≡◌, ◌≢◌, ◌∙◌, ◌≤◌, ◌⊎◌, ℕ, Bool, true, false, List, [], Option, Some, None, arith, codes}
+use Rattle.std.proofs.Common.{refl, slice_index, subst, sym, ap, ap₂, inl, inr}
 use Rattle.std.specs.Prelude.{find, option_and_then, option_map, map, string_bytes, Box as Boxed, IfSome, IfOk, Result}
 use Rattle.std.specs.Prelude.{Ok, Err}
 use Rattle.std.specs.Str.{bytes_eq}
@@ -18,12 +18,12 @@ use Rattle.clap.proofs.WalkLemmas.{find_row}
 use Rattle.clap.specs.declared.parser.matches.SubCommand.{SubCommand}
 use Rattle.clap.specs.declared.parser.matches.ArgMatches.TheViews.{out-SubCommand}
 use Rattle.sixel_models.specs.declared.named.Named.{Named}
-use Rattle.sixel_run.specs.declared.task.Area.{Area}
-use Rattle.sixel_run.specs.declared.task.Area.TheVariants.{Box, Sides}
-use Rattle.sixel_run.specs.declared.task.Task.{Task}
-use Rattle.sixel_run.specs.declared.task.Task.TheVariants.{List as Listing, Check, Survey, Render, Show, ShowBox, ShowOn}
-use Rattle.sixel_run.specs.declared.task.Task.TheVariants.{Differ, DifferSheet, Mend, Encode, Scan}
-use Rattle.sixel_program.specs.declared.request.Request.{Request}
+use Rattle.sixel_report.specs.declared.task.Area.{Area}
+use Rattle.sixel_report.specs.declared.task.Area.TheVariants.{Box, Sides}
+use Rattle.sixel_report.specs.declared.task.Task.{Task}
+use Rattle.sixel_report.specs.declared.task.Task.TheVariants.{List as Listing, Check, Survey, Render, Show, ShowBox}
+use Rattle.sixel_report.specs.declared.task.Task.TheVariants.{ShowOn, Differ, DifferSheet, Mend, Encode, Scan}
+use Rattle.sixel_report.specs.declared.request.Request.{Request}
 use Rattle.sixel_model.specs.declared.colour.Parts.{Parts}
 use Rattle.sixel_words.specs.Words.{HasArea, HasColour, HasSide, IsSideText, IsTask, describes, files_of, is_given}
 use Rattle.sixel_words.specs.Words.{is_named, is_of_words, lines_of, terminal_name}

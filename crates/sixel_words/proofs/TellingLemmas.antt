@@ -1,6 +1,6 @@
 -- Explanations that are put one after another.
-use Rattle.std.proofs.Common.{◌≡◌, ◌∙◌, ◌∷◌, ◌++◌, ℕ, [], List, Option, Some, ap, append-nil, append_assoc}
-use Rattle.std.proofs.Common.{◌+◌, ◌<◌, drop, get_or, length, refl, subst, sym, take, take-append-drop}
+use Rattle.std.proofs.Common.{◌≡◌, ◌∙◌, ◌∷◌, ◌++◌, ℕ, [], List, Option, Some, ap, append-nil, append_assoc, ◌+◌, ◌<◌}
+use Rattle.std.proofs.Common.{drop, get_or, length, refl, subst, sym, take, take-append-drop}
 use Rattle.std.proofs.Math.Seq.{take-length}
 use Rattle.std.proofs.lemmas.List.{take_more}
 use Rattle.std.specs.Prelude.{Err, Result}
@@ -9,7 +9,7 @@ use Rattle.sixel_io.specs.Devices.{Puts}
 use Rattle.sixel_io.proofs.SinkLemmas.{puts-longer, puts-then}
 use Rattle.sixel_explain.specs.declared.explanations.Topic.{Topic}
 use Rattle.sixel_explain.specs.Explanations.{AreExplanations, AreFurther, IsExplanation, first_line}
-use Rattle.sixel_run.specs.Texts.{Text}
+use Rattle.sixel_report.specs.Texts.{Text}
 
 -- some text begins as the explanation of a topic does
 pub any_explanation : (t : Topic) → (text : Text) × IsExplanation (Some t) text

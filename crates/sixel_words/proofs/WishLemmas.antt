@@ -1,6 +1,6 @@
 -- Arguments that ask for a name to be explained.
-use Rattle.std.proofs.Common.{◌≡◌, ◌∙◌, ◌∷◌, List, [], None, Option, Some, ap, codes, false, is_some}
-use Rattle.std.proofs.Common.{refl, subst, sym, true}
+use Rattle.std.proofs.Common.{◌≡◌, ◌∙◌, ◌∷◌, List, [], None, Option, Some, ap, codes, false, is_some, refl, subst, sym}
+use Rattle.std.proofs.Common.{true}
 use Rattle.std.specs.Option.{option_and_then}
 use Rattle.std.proofs.lemmas.List.Elements.{All-contains}
 use Rattle.clap.specs.Simple.{subcommand_of}
@@ -8,7 +8,7 @@ use Rattle.clap.specs.Takes.{takes, walk_passes}
 use Rattle.clap.specs.Walk.{Row, all_of, walked}
 use Rattle.sixel_explain.specs.declared.explanations.Topic.{Topic}
 use Rattle.sixel_explain.specs.Explanations.{Asks, line_of, listed_names, names_in, topic_name}
-use Rattle.sixel_run.specs.Texts.{Text}
+use Rattle.sixel_report.specs.Texts.{Text}
 use Rattle.sixel_words.proofs.MatchLemmas.{rows_in}
 use Rattle.sixel_explain.proofs.NameLemmas.{each, name_listed}
 use Rattle.sixel_words.specs.Words.{AsksFor, sixel_app}

@@ -4,12 +4,12 @@ ghost use Rattle.std.specs.Prelude.{◌≡◌, ◌≤◌, IfErr, IfOk, IfSome, I
 ghost use Rattle.std.specs.Prelude.{option_map, slice_get, ℕ};
 ghost use Rattle.std.specs.Str.Lossy.{utf8_lossy};
 ghost use Rattle.std.specs.String.{string_bytes};
-ghost use Rattle.sixel_run.specs.Outputs.{HasSides};
+ghost use Rattle.sixel_report.specs.Outputs.{HasSides};
 ghost use Rattle.sixel_words.specs.Arguments.{IsCopied};
 ghost use Rattle.sixel_words.specs.Words.{IsFaultFor, IsRequestOf, IsTaskOf, kinds_of};
 
 use crate::words::{WordsFault, parse_request};
-use sixel_program::Request;
+use sixel_report::Request;
 use std::alloc::{AllocError, Global};
 use std::env::{Env, FillError};
 

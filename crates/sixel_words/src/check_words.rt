@@ -5,15 +5,15 @@ ghost use Rattle.std.specs.List.{list_all};
 ghost use Rattle.clap.specs.Walk.{rows_of};
 ghost use Rattle.clap.specs.Matches.{found_of};
 ghost use Rattle.sixel_asked.specs.declared.terminals.Terminals.{Terminals as ATerminals};
-ghost use Rattle.sixel_run.specs.declared.task.Task.{Task as ATask};
-ghost use Rattle.sixel_run.specs.Outputs.{HasSides};
+ghost use Rattle.sixel_report.specs.declared.task.Task.{Task as ATask};
+ghost use Rattle.sixel_report.specs.Outputs.{HasSides};
 ghost use Rattle.sixel_words.specs.Words.{HasTerminals, IsTask, NamesTerminals, is_among, parts_of, terminal_names};
 
 use crate::options::profile_of;
 use crate::show_words::terminal_named;
 use clap::ArgMatches;
 use sixel_asked::Terminals;
-use sixel_run::Task;
+use sixel_report::Task;
 
 /// The task of `check` with these options; none if the value of `--on` names no terminals.
 pub fn check_task(matches: &ArgMatches<'_>) -> Option<Task>

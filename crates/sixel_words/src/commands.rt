@@ -11,7 +11,7 @@ ghost use Rattle.sixel_words.specs.Words.{survey_app};
 mod help;
 
 use clap::{Arg, ArgAction, Command};
-use sixel_run::MOST_SCREEN_SIDE;
+use sixel_report::MOST_SCREEN_SIDE;
 use std::alloc::{AllocError, Global};
 
 /// The program's name, as `--version` prints it.

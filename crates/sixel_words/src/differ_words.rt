@@ -4,15 +4,15 @@ ghost use Rattle.std.specs.Prelude.{◌≡◌, IfOk, IfSome, IsNone, codes, leng
 ghost use Rattle.clap.specs.Values.{kind_of};
 ghost use Rattle.clap.specs.Walk.{rows_of};
 ghost use Rattle.clap.specs.Matches.{found_of};
-ghost use Rattle.sixel_run.specs.declared.task.Task.{Task as ATask};
-ghost use Rattle.sixel_run.specs.Outputs.{HasSides};
+ghost use Rattle.sixel_report.specs.declared.task.Task.{Task as ATask};
+ghost use Rattle.sixel_report.specs.Outputs.{HasSides};
 ghost use Rattle.sixel_words.specs.Words.{IsSortedOut, IsTask, files_of};
 ghost use Rattle.sixel_words.specs.declared.words.WordsFault.TheVariants.{Usage};
 
 use crate::options::{colour_in, flag_of};
 use crate::usage_errors::{sheet_error, undiffered_error};
 use clap::{ArgMatches, Error};
-use sixel_run::Task;
+use sixel_report::Task;
 use std::alloc::{AllocError, Global};
 
 /// The task of `differ` with these options; none if the value of `--background` is no colour, or for a sheet of several

@@ -1,7 +1,6 @@
 //! Laws about the definitions. Each function's contract is the law.
 
-ghost use Rattle.std.specs.Prelude.{◌≡◌, ◌∷◌, ◌||◌, [], All, Contains, List};
-ghost use Rattle.std.specs.Prelude.{codes, false, if◌then◌else◌, map, true};
+ghost use Rattle.std.specs.Prelude.{◌≡◌, ◌∷◌, ◌||◌, [], All, Contains, List, codes, false, if◌then◌else◌, map, true};
 ghost use Rattle.sixel_model.specs.declared.colour.Parts.TheVariants.{Rgb};
 ghost use Rattle.sixel_model.specs.declared.profile.Profile.TheVariants.{Registers16, Registers256};
 ghost use Rattle.clap.specs.Takes.{takes};
@@ -9,15 +8,15 @@ ghost use Rattle.clap.specs.declared.error.kind.ErrorKind.TheVariants.{DisplayHe
 ghost use Rattle.clap.specs.declared.error.kind.ErrorKind.TheVariants.{UnknownArgument, ValueValidation};
 ghost use Rattle.sixel_explain.specs.declared.explanations.Topic.{Topic};
 ghost use Rattle.sixel_models.specs.declared.named.Named.TheVariants.{Konsole, XTerm};
-ghost use Rattle.sixel_run.specs.declared.task.Area.TheVariants.{Box, Sides};
-ghost use Rattle.sixel_run.specs.declared.task.Task.{Task};
-ghost use Rattle.sixel_run.specs.declared.task.Task.TheVariants.{Check, List as Listing, Mend, Scan, Show, ShowBox};
-ghost use Rattle.sixel_run.specs.declared.task.Task.TheVariants.{Differ, DifferSheet, ShowOn, Survey};
+ghost use Rattle.sixel_report.specs.declared.task.Area.TheVariants.{Box, Sides};
+ghost use Rattle.sixel_report.specs.declared.task.Task.{Task};
+ghost use Rattle.sixel_report.specs.declared.task.Task.TheVariants.{Check, List as Listing, Mend, Scan, Show, ShowBox};
+ghost use Rattle.sixel_report.specs.declared.task.Task.TheVariants.{Differ, DifferSheet, ShowOn, Survey};
 ghost use Rattle.sixel_explain.specs.Explanations.{topic_name};
-ghost use Rattle.sixel_run.specs.Texts.{Text};
-ghost use Rattle.sixel_program.specs.declared.lines.Lines.TheVariants.{Json, Nothing, Plain};
-ghost use Rattle.sixel_words.specs.Words.{AsksFor, IsRequestOf, IsTaskOf, all_terminals, check_flags};
-ghost use Rattle.sixel_words.specs.Words.{is_among, kinds_of, no_terminals, sixel_app, subcommands};
+ghost use Rattle.sixel_report.specs.Texts.{Text};
+ghost use Rattle.sixel_report.specs.declared.wanted_lines.Lines.TheVariants.{Json, Nothing, Plain};
+ghost use Rattle.sixel_words.specs.Words.{AsksFor, IsRequestOf, IsTaskOf, all_terminals, check_flags, is_among};
+ghost use Rattle.sixel_words.specs.Words.{kinds_of, no_terminals, sixel_app, subcommands};
 
 /// The command line `sixel list` is accepted, and asks for the task `List`.
 pub fn the_word_list_gives_a_list()

@@ -11,7 +11,7 @@ use crate::colours::colour_of;
 use clap::ArgMatches;
 use clap::parser::ValueSource;
 use sixel_model::{Colour, Profile};
-use sixel_run::MOST_SCREEN_SIDE;
+use sixel_report::MOST_SCREEN_SIDE;
 
 /// The profile that the options select.
 pub(crate) fn profile_of(matches: &ArgMatches<'_>) -> Profile

@@ -4,15 +4,15 @@ ghost use Rattle.std.specs.Prelude.{◌≡◌, IfSome, IsNone, None, Some, codes
 ghost use Rattle.clap.specs.Walk.{first_of, rows_of};
 ghost use Rattle.clap.specs.Matches.{found_of};
 ghost use Rattle.sixel_models.specs.declared.named.Named.{Named as ANamed};
-ghost use Rattle.sixel_run.specs.declared.task.Area.{Area as AnArea};
-ghost use Rattle.sixel_run.specs.declared.task.Task.{Task as ATask};
-ghost use Rattle.sixel_run.specs.Outputs.{HasSides};
+ghost use Rattle.sixel_report.specs.declared.task.Area.{Area as AnArea};
+ghost use Rattle.sixel_report.specs.declared.task.Task.{Task as ATask};
+ghost use Rattle.sixel_report.specs.Outputs.{HasSides};
 ghost use Rattle.sixel_words.specs.Words.{HasArea, IsTask, describes, is_given, terminal_name};
 
 use crate::options::{colour_in, flag_of, is_named, profile_of, side_of};
 use clap::ArgMatches;
 use sixel_models::Named;
-use sixel_run::{Area, Task};
+use sixel_report::{Area, Task};
 
 /// The task of `show` with these options: of a terminal that they describe, or of one that `--on` names.
 pub fn show_task(matches: &ArgMatches<'_>) -> Option<Task>

@@ -5,15 +5,14 @@ ghost use Rattle.std.specs.Io.{StartsWith};
 ghost use Rattle.std.specs.String.{string_bytes};
 ghost use Rattle.sixel_io.specs.Devices.{CountsFailure, Puts, change};
 ghost use Rattle.sixel_explain.specs.Explanations.{AreExplanations, AreFurther, IsExplanation};
-ghost use Rattle.sixel_run.specs.Texts.{Text};
+ghost use Rattle.sixel_report.specs.Texts.{Text};
 ghost use Rattle.sixel_words.specs.Telling.{ExplanationEnds, IsShown, IsUsageSaid, WordsEnd};
 
 use crate::words::WordsFault;
 use clap::Error;
 use sixel_explain::{Topic, explanation};
 use sixel_io::{DeviceFault, Sink, put_all};
-use sixel_program::Exit;
-use sixel_run::{RunFault, write_fault};
+use sixel_report::{Exit, RunFault, write_fault};
 use std::alloc::{AllocError, Global};
 
 /// Ends a program whose arguments name no task: it shows the help or the explanations that were asked for, or

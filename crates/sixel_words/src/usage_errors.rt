@@ -11,7 +11,7 @@ use crate::commands::{
 use clap::error::ErrorKind;
 use clap::{Command, Error};
 use sixel_explain::{nearest, topics_asked};
-use sixel_run::MOST_SCREEN_SIDE;
+use sixel_report::MOST_SCREEN_SIDE;
 use std::alloc::{AllocError, Global};
 
 /// What clap's text of a usage error begins with.

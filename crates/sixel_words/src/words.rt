@@ -5,12 +5,11 @@ ghost use Rattle.clap.specs.Walk.{all_of, rows_of};
 ghost use Rattle.clap.specs.Values.{kind_of};
 ghost use Rattle.clap.specs.Matches.{found_of};
 ghost use Rattle.std.specs.String.{string_bytes};
-ghost use Rattle.sixel_run.specs.declared.task.Task.{Task as ATask};
-ghost use Rattle.sixel_run.specs.Outputs.{HasSides};
-ghost use Rattle.sixel_words.specs.Words.{HoldsError, IsExplanationOf, IsAskedIn, IsFaultFor};
-ghost use Rattle.sixel_words.specs.Words.{IsRefusal, IsRequestOf, IsNoHelp, IsSortedOut, IsTask, IsTaskOf};
-ghost use Rattle.sixel_words.specs.Words.{IsUnexplained};
-ghost use Rattle.sixel_words.specs.Words.{files_of, is_given, kinds_of, lines_of};
+ghost use Rattle.sixel_report.specs.declared.task.Task.{Task as ATask};
+ghost use Rattle.sixel_report.specs.Outputs.{HasSides};
+ghost use Rattle.sixel_words.specs.Words.{HoldsError, IsExplanationOf, IsAskedIn, IsFaultFor, IsRefusal, IsRequestOf};
+ghost use Rattle.sixel_words.specs.Words.{IsNoHelp, IsSortedOut, IsTask, IsTaskOf, IsUnexplained, files_of, is_given};
+ghost use Rattle.sixel_words.specs.Words.{kinds_of, lines_of};
 ghost use Rattle.sixel_explain.specs.Explanations.{Asks};
 
 use crate::check_words::{check_task, survey_task};
@@ -25,8 +24,7 @@ use crate::usage_errors::{
 use clap::error::ErrorKind;
 use clap::{ArgMatches, Error};
 use sixel_explain::{Topic, topics_asked};
-use sixel_program::{Lines, Request};
-use sixel_run::Task;
+use sixel_report::{Lines, Request, Task};
 use std::alloc::{AllocError, Global};
 
 /// Why the arguments give no task. `Usage` and `Help` hold the text to print, which ends with a newline.

@@ -3,7 +3,7 @@
 use sixel_explain::{Topic, explanation, summary};
 use sixel_io::ToWrite;
 use sixel_ppm::PpmReason;
-use sixel_program::Exit;
+use sixel_report::Exit;
 use sixel_test_devices::Narrow;
 use sixel_words::{WordsFault, parse_words, task_in, tell};
 use std::alloc::{AllocError, Global};

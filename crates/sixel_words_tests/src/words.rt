@@ -1,7 +1,7 @@
 //! Command lines, and what they ask for.
 
 use crate::checking::{CHECK, CHECK_WIDE, SURVEY, SURVEY_WIDE};
-use sixel_program::Request;
+use sixel_report::Request;
 use sixel_words::{WordsFault, parse_request, parse_words, task_in};
 use std::alloc::{AllocError, Global};
 use std::test::Fail;

@@ -7,7 +7,8 @@ use super::{
 use crate::ends::{NO_TERMINALS, SURVEY, differ};
 use crate::memory_folder::Watched;
 use sixel_io::{FromRead, ToWrite};
-use sixel_program::{Exit, Lines, Peeked, execute};
+use sixel_program::{Peeked, execute};
+use sixel_report::{Exit, Lines};
 use sixel_test_devices::Narrow;
 use std::alloc::{AllocError, Global};
 use std::cell::Cell;

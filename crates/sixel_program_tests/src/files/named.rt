@@ -1,13 +1,13 @@
 //! Names of files, and the lines that they are in.
 
-ghost use Rattle.sixel_run.specs.Outputs.{HasSides};
+ghost use Rattle.sixel_report.specs.Outputs.{HasSides};
 
 use super::{PIXEL, check_of, checks, ends_unread, request_of};
 use crate::ends::{ENCODE, NO_FILES, NO_TERMINALS, RENDER};
 use crate::memory_folder::MemoryFolder;
 use sixel_io::{FromRead, ToWrite};
-use sixel_program::{Exit, Peeked, execute};
-use sixel_run::Task;
+use sixel_program::{Peeked, execute};
+use sixel_report::{Exit, Task};
 use std::alloc::{AllocError, Global};
 use std::io;
 use std::io::Write;

@@ -1,13 +1,13 @@
 //! What is said if standard input is a terminal.
 
-ghost use Rattle.sixel_run.specs.Outputs.{HasSides};
+ghost use Rattle.sixel_report.specs.Outputs.{HasSides};
 
 use super::{
     Asked, Ended, PIXEL, RATIO, RED, STREAMS, Streams, after_input, asked_of, check_of, ends_over,
 };
 use crate::ends::{ENCODE, NO_TERMINALS, RENDER, SHOW, SHOW_BOX, SURVEY, exit_over};
-use sixel_program::{Exit, Terminals};
-use sixel_run::Task;
+use sixel_program::Terminals;
+use sixel_report::{Exit, Task};
 use std::alloc::{AllocError, Global};
 use std::cell::Cell;
 use std::io;

@@ -1,14 +1,14 @@
 //! What is said if standard output is a terminal.
 
-ghost use Rattle.sixel_run.specs.Outputs.{HasSides};
+ghost use Rattle.sixel_report.specs.Outputs.{HasSides};
 
 use super::{
     INTERACTIVE, PIXEL, RED, STREAMS, Streams, after_input, asked_of, check_of, ends_over, unread,
 };
 use crate::ends::{ENCODE, NO_TERMINALS, RENDER, SHOW, SHOW_BOX, sheet, show_on};
 use sixel_models::Named;
-use sixel_program::{Exit, Terminals};
-use sixel_run::Task;
+use sixel_program::Terminals;
+use sixel_report::{Exit, Task};
 use std::alloc::{AllocError, Global};
 use std::test::Fail;
 

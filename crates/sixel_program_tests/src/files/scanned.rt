@@ -5,7 +5,8 @@ use super::{
 };
 use crate::ends::{NO_TERMINALS, SCAN};
 use sixel_io::{FromRead, ToWrite};
-use sixel_program::{Exit, Peeked, execute};
+use sixel_program::{Peeked, execute};
+use sixel_report::Exit;
 use sixel_test_devices::Narrow;
 use std::alloc::{AllocError, Global};
 use std::io;

@@ -3,7 +3,8 @@
 use super::{check_of, request_of};
 use crate::ends::NO_TERMINALS;
 use sixel_io::{FromRead, ToWrite};
-use sixel_program::{Exit, Peeked, System, execute};
+use sixel_program::{Peeked, System, execute};
+use sixel_report::Exit;
 use std::test::Fail;
 
 /// An empty file; a folder, which the system opens like a file; a file as if it were a folder; names without a file,

@@ -1,11 +1,10 @@
 //! Tasks on one file.
 
-ghost use Rattle.sixel_run.specs.Outputs.{HasSides};
+ghost use Rattle.sixel_report.specs.Outputs.{HasSides};
 
 use super::{PIXEL, PNG, STREAMS, Streams, asked_of, ends_over, ends_unread, unread};
 use crate::ends::{ENCODE, RENDER};
-use sixel_program::Exit;
-use sixel_run::Task;
+use sixel_report::{Exit, Task};
 use std::alloc::{AllocError, Global};
 use std::test::Fail;
 

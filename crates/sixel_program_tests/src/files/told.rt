@@ -7,14 +7,15 @@ ghost use Rattle.sixel_named.specs.Laws.{none};
 ghost use Rattle.sixel_program.specs.Files.{is_dash};
 ghost use Rattle.sixel_program.specs.declared.folder.Unopened.TheVariants.{NotFound};
 ghost use Rattle.sixel_run.specs.Outputs.{Gives};
-ghost use Rattle.sixel_run.specs.Texts.{Text};
-ghost use Rattle.sixel_run.specs.declared.task.Status.TheVariants.{Done};
-ghost use Rattle.sixel_run.specs.declared.task.Task.TheVariants.{Check};
+ghost use Rattle.sixel_report.specs.Texts.{Text};
+ghost use Rattle.sixel_report.specs.declared.task.Status.TheVariants.{Done};
+ghost use Rattle.sixel_report.specs.declared.task.Task.TheVariants.{Check};
 
 use super::{PIXEL, RATIO};
 use crate::ends::{CHECK, NO_TERMINALS};
 use sixel_io::{SliceSink, SliceSource};
-use sixel_program::{Exit, Folder, Lines, Peeked, Request, Unopened, execute};
+use sixel_program::{Folder, Peeked, Unopened, execute};
+use sixel_report::{Exit, Lines, Request};
 use std::alloc::{AllocError, Global};
 use std::test::Fail;
 

@@ -4,7 +4,7 @@ use super::{
     Ended, INTERACTIVE, PIXEL, STREAMS, Streams, after_input, asked_of, check_of, ends_over, unread,
 };
 use crate::ends::RENDER;
-use sixel_program::Exit;
+use sixel_report::Exit;
 use std::test::Fail;
 
 const SAID: &[u8] =

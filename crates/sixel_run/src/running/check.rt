@@ -2,18 +2,15 @@
 
 ghost use Rattle.std.specs.Prelude.{◌≡◌};
 ghost use Rattle.sixel_io.specs.Devices.{change};
-ghost use Rattle.sixel_run.specs.declared.task.Task.TheVariants.{Check};
+ghost use Rattle.sixel_report.specs.declared.task.Task.TheVariants.{Check};
 ghost use Rattle.sixel_run.specs.LineTasks.{WritesItems};
 ghost use Rattle.sixel_run.specs.Outputs.{outcome_status};
 
-use crate::fault::RunFault;
-use crate::item::item_of;
-use crate::put_item::PutItem;
-use crate::task::Status;
 use sixel_asked::Terminals;
 use sixel_io::{PIECE, Sink, Source};
 use sixel_model::Profile;
 use sixel_named::{NamedOutcome, outcome_on};
+use sixel_report::{PutItem, RunFault, Status, item_of};
 use std::alloc::Global;
 
 /// Reads the whole input, and puts the outcome. It doesn't flush.

@@ -1,16 +1,13 @@
 //! Compares what the named terminals show of a sixel string, and writes a line for each group of equal screens.
 
 ghost use Rattle.sixel_io.specs.Devices.{change};
-ghost use Rattle.sixel_run.specs.declared.task.Task.TheVariants.{Differ};
+ghost use Rattle.sixel_report.specs.declared.task.Task.TheVariants.{Differ};
 ghost use Rattle.sixel_run.specs.LineTasks.{WritesItems};
 
-use super::viewed::read_views;
-use crate::differences::{differ_items, differ_status};
-use crate::fault::RunFault;
-use crate::put_item::PutItem;
-use crate::task::Status;
 use sixel_io::{PIECE, Sink, Source};
 use sixel_model::Colour;
+use sixel_report::{PutItem, RunFault, Status, differ_items, differ_status};
+use sixel_sheet::read_views;
 use std::alloc::Global;
 
 /// Reads the whole input, and puts the items of the comparison. It doesn't flush.

@@ -3,14 +3,14 @@
 ghost use Rattle.std.specs.Prelude.{◌≡◌, Err, IfSome};
 ghost use Rattle.sixel_ppm.specs.PpmReading.{HasWholeHeader, NoPpmFaultBefore, ppm_read};
 ghost use Rattle.sixel_model.specs.Profiles.{count_of};
-ghost use Rattle.sixel_run.specs.declared.fault.RunFault.TheVariants.{Read};
-ghost use Rattle.sixel_run.specs.Outputs.{CountsWrites, EncodeGives, WroteBy, WroteNothing, failures_by};
+ghost use Rattle.sixel_report.specs.declared.fault.RunFault.TheVariants.{Read};
+ghost use Rattle.sixel_report.specs.Outputs.{CountsWrites, WroteBy, WroteNothing, failures_by};
+ghost use Rattle.sixel_run.specs.Outputs.{EncodeGives};
 
-use crate::fault::RunFault;
-use crate::task::Status;
 use sixel_io::{Sink, Source};
 use sixel_model::Profile;
 use sixel_ppm::read_ppm;
+use sixel_report::{RunFault, Status};
 use std::alloc::Global;
 
 /// Reads a whole PPM, and writes the canonical sixel text of its picture. It doesn't flush.

@@ -6,17 +6,16 @@ ghost use Rattle.sixel_grammar.specs.Reading.{Explains, NoFaultBefore, failures_
 ghost use Rattle.sixel_io.specs.Devices.{ReadsToEnd};
 ghost use Rattle.sixel_mend.specs.Measuring.{HasMeasured};
 ghost use Rattle.sixel_model.specs.Profiles.{count_of};
-ghost use Rattle.sixel_run.specs.declared.fault.RunFault.TheVariants.{Read};
-ghost use Rattle.sixel_run.specs.Outputs.{CountsWrites, HasPictureSize, MendGives, WroteBy, WroteNothing, failures_by};
-ghost use Rattle.sixel_run.specs.Outputs.{has_one_colour, mended_status};
+ghost use Rattle.sixel_report.specs.declared.fault.RunFault.TheVariants.{Read};
+ghost use Rattle.sixel_report.specs.Outputs.{CountsWrites, WroteBy, WroteNothing, failures_by};
+ghost use Rattle.sixel_sheet.specs.Outputs.{HasPictureSize};
+ghost use Rattle.sixel_run.specs.Outputs.{MendGives, has_one_colour, mended_status};
 
-use super::kept::kept_with;
-use crate::fault::RunFault;
-use crate::task::{Note, Status};
-use sixel_grammar::InputFault;
 use sixel_io::{PIECE, Sink, Source};
-use sixel_mend::{Measurer, Mending, mend_measured, size_of};
+use sixel_mend::{Mending, mend_measured, size_of};
 use sixel_model::{Picture, Profile};
+use sixel_report::{Note, RunFault, Status};
+use sixel_sheet::read_document;
 use std::alloc::Global;
 
 /// Reads the whole input, and writes the canonical sixel text of its mended picture. It doesn't flush.
@@ -75,35 +74,4 @@ fn has_one_colour(picture: &Picture) -> bool
         }
     }
     true
-}
-
-/// Reads the source to its end. Returns the bytes of the document, if there is memory for them, and what they measure. It
-/// reads no piece after an invalid byte.
-pub fn read_document<S: Source>(
-    alloc: Global,
-    input: &mut S,
-    piece: &mut [u8; PIECE],
-) -> Result<(Option<Vec<u8>>, Measurer), InputFault>
-    ensures read { IfOk result (λ document. IfSome document.0 (λ kept.
-        IfSome (S.state input.old).remaining (λ told. told ≡ kept.items))) }
-    ensures measured { IfOk result (λ document. IfSome document.0 (λ kept. HasMeasured document.1 kept.items)) }
-    ensures told { IfOk result (λ document. IfSome (S.state input.old).remaining (HasMeasured document.1)) }
-    ensures refused { IfErr result (λ fault. IfSome (S.state input.old).remaining (Explains fault)) }
-    ensures left { ReadsToEnd result (S.state input.old).remaining (S.state input.new).remaining }
-    ensures memory { result ≢ Err InputFault.OutOfMemory }
-    ensures failures { (S.state input.new).failures ≡ failures_after result (S.state input.old).failures }
-    ensures unread { result ≡ Err ReadFault →
-        IfSome (S.state input.old).remaining (NoFaultBefore (S.state input.new).remaining) }
-{
-    let mut kept = Some(Vec::new(alloc));
-    let mut measurer = Measurer::new();
-    loop {
-        let count = input.fill(piece)?;
-        if count == 0 {
-            measurer.finish()?;
-            return Ok((kept, measurer));
-        }
-        measurer.feed(&piece[..count])?;
-        kept = kept_with(kept, &piece[..count]);
-    }
 }

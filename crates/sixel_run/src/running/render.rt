@@ -4,15 +4,15 @@ ghost use Rattle.std.specs.Prelude.{◌≡◌, Err, IfSome};
 ghost use Rattle.sixel_grammar.specs.Reading.{NoFaultBefore};
 ghost use Rattle.sixel_model.specs.Profiles.{count_of};
 ghost use Rattle.sixel_judge.specs.Growth.{MayGrowIn};
-ghost use Rattle.sixel_run.specs.declared.fault.RunFault.TheVariants.{Read};
-ghost use Rattle.sixel_run.specs.Outputs.{CountsWrites, RenderGives, WroteBy, WroteNothing, failures_by};
+ghost use Rattle.sixel_report.specs.declared.fault.RunFault.TheVariants.{Read};
+ghost use Rattle.sixel_report.specs.Outputs.{CountsWrites, WroteBy, WroteNothing, failures_by};
+ghost use Rattle.sixel_run.specs.Outputs.{RenderGives};
 
-use crate::fault::RunFault;
-use crate::task::Status;
 use sixel_check::{Verdict, check_with};
 use sixel_io::{PIECE, Sink, Source};
 use sixel_model::Profile;
 use sixel_ppm::write_ppm;
+use sixel_report::{RunFault, Status};
 use std::alloc::Global;
 
 /// Reads the whole input, and writes the picture as a PPM if it is portable; if not, it writes nothing. It doesn't

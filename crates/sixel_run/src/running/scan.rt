@@ -2,16 +2,13 @@
 
 ghost use Rattle.std.specs.Prelude.{◌≡◌};
 ghost use Rattle.sixel_io.specs.Devices.{change};
-ghost use Rattle.sixel_run.specs.declared.task.Task.TheVariants.{Scan as Scanning};
+ghost use Rattle.sixel_report.specs.declared.task.Task.TheVariants.{Scan as Scanning};
 ghost use Rattle.sixel_run.specs.LineTasks.{WritesItems};
 ghost use Rattle.sixel_run.specs.Scanned.{answer_with, is_portable, status_where};
 
-use crate::fault::RunFault;
-use crate::item::Item;
-use crate::put_item::PutItem;
-use crate::task::{Note, Status};
 use sixel_io::{Sink, Source};
 use sixel_model::Profile;
+use sixel_report::{Item, Note, PutItem, RunFault, Status};
 use sixel_scan::{Answer, Scan, Scanned};
 use std::alloc::Global;
 

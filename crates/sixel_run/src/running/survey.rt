@@ -1,19 +1,14 @@
 //! Surveys a sixel picture, and writes a line for each broken rule.
 
 ghost use Rattle.sixel_io.specs.Devices.{change};
-ghost use Rattle.sixel_run.specs.declared.task.Task.TheVariants.{Survey as Surveying};
+ghost use Rattle.sixel_report.specs.declared.task.Task.TheVariants.{Survey as Surveying};
 ghost use Rattle.sixel_run.specs.LineTasks.{IsStatusOf, WritesItems};
 
-use crate::fault::RunFault;
-use crate::first_finding::first_of;
-use crate::item::survey_items;
-use crate::put_item::PutItem;
-use crate::rule_set::rules_of;
-use crate::task::Status;
 use sixel_asked::Terminals;
 use sixel_io::{PIECE, Sink, Source};
 use sixel_model::Profile;
 use sixel_named::{NamedSurvey, survey_on};
+use sixel_report::{PutItem, RunFault, Status, first_of, rules_of, survey_items};
 use std::alloc::Global;
 
 /// Reads the whole input, and puts the items of its survey. It doesn't flush.

@@ -2,7 +2,7 @@ use Rattle.std.proofs.Common.{◌≡◌, ◌∙◌, [], None, Some, ap, false, i
 use Rattle.std.proofs.lemmas.Result.{err_from_is_err_and}
 use Rattle.std.specs.Prelude.{Err, option_copied}
 use Rattle.sixel_io.specs.Devices.{SourceState}
-use Rattle.sixel_run.specs.declared.fault.RunFault.TheVariants.{Read}
+use Rattle.sixel_report.specs.declared.fault.RunFault.TheVariants.{Read}
 use Rattle.sixel_program.specs.Files.{is_dash, name_of}
 use Rattle.sixel_program.specs.Openings.{bytes_of, folder_view}
 use Rattle.sixel_program.proofs.FilesLemmas.{fails_with, unopened}

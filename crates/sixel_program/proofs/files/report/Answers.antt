@@ -1,5 +1,5 @@
 use Rattle.sixel_program.proofs.FilesLemmas.{memory_kept, wrote_kept}
-use Rattle.sixel_program.proofs.PutLemmas.{is_put}
+use Rattle.sixel_report.proofs.PutLemmas.{is_put}
 use Rattle.sixel_program.proofs.files.report.Goals as goal
 
 pub returns : goal.returns

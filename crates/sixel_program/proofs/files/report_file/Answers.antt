@@ -2,7 +2,7 @@ use Rattle.std.proofs.Common.{◌∙◌, ap, sym}
 use Rattle.sixel_io.specs.Devices.{SourceState}
 use Rattle.sixel_program.proofs.OneFileLemmas.{dash_ends, file_ends, unopened_ends}
 use Rattle.sixel_program.proofs.PeekedLemmas.{source_failed}
-use Rattle.sixel_program.proofs.PutLemmas.{is_put}
+use Rattle.sixel_report.proofs.PutLemmas.{is_put}
 use Rattle.sixel_program.proofs.files.report_file.Goals as goal
 
 pub returns-then-eq-clause-ends : goal.returns-then-eq-clause-ends

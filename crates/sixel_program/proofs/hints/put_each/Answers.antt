@@ -1,7 +1,7 @@
 use Rattle.sixel_program.specs.Hints.{hint_line}
 use Rattle.sixel_program.proofs.FilesLemmas.{none_put}
 use Rattle.sixel_program.proofs.CauseLemmas.{puts_more}
-use Rattle.sixel_program.proofs.PutLemmas.{is_put}
+use Rattle.sixel_report.proofs.PutLemmas.{is_put}
 use Rattle.sixel_program.proofs.hints.put_each.Goals as goal
 
 pub loop-cause-init : goal.loop-cause-init

@@ -4,16 +4,16 @@ use Rattle.std.specs.Char.{to_ascii_lowercase}
 use Rattle.sixel_grammar.specs.declared.fault.Fault.{Fault}
 use Rattle.sixel_grammar.specs.declared.fault.Reason.TheVariants.{Truncated}
 use Rattle.sixel_judge.specs.declared.verdict.Finding.{Finding}
-use Rattle.sixel_run.specs.declared.fault.RunFault.{RunFault}
-use Rattle.sixel_run.specs.declared.fault.RunFault.TheVariants as fault
+use Rattle.sixel_report.specs.declared.fault.RunFault.{RunFault}
+use Rattle.sixel_report.specs.declared.fault.RunFault.TheVariants as fault
 use Rattle.sixel_asked.specs.Names.{name_of}
 use Rattle.sixel_asked.specs.declared.asking.AskedFinding.{AskedFinding}
 use Rattle.sixel_asked.specs.declared.tally.AskedEntry.{AskedEntry}
 use Rattle.sixel_survey.specs.declared.entry.Entry.{Entry}
 use Rattle.sixel_scan.specs.declared.answer.Scanned.{Scanned}
 use Rattle.sixel_scan.specs.declared.answer.Answer.TheVariants.{Broken, Refused}
-use Rattle.sixel_run.specs.Texts.{Text, asked_entry_line, asked_line, entry_line, finding_line, line, reason_name}
-use Rattle.sixel_run.specs.Texts.{rule_name, string_line}
+use Rattle.sixel_report.specs.Texts.{Text, asked_entry_line, asked_line, entry_line, finding_line, line, reason_name}
+use Rattle.sixel_report.specs.Texts.{rule_name, string_line}
 use Rattle.sixel_explain.specs.declared.explanations.Topic.TheVariants.{Grammar, Read}
 use Rattle.sixel_explain.specs.Explanations.{ArePasted, line_of, names_in, topic_name, topic_of, topic_of_end}
 use Rattle.sixel_explain.proofs.PastedLemmas.{EndsInColon, asked_pasted, ending_pasted, fault_pasted, finding_pasted}
@@ -23,8 +23,8 @@ use Rattle.sixel_program.proofs.EntryLemmas.{asked_entry_pasted, asked_entry_pas
 use Rattle.sixel_program.proofs.EntryLemmas.{entry_pasted_after}
 use Rattle.sixel_program.proofs.StringLineLemmas.{string_finding_pasted, string_refusal_pasted}
 use Rattle.sixel_program.specs.declared.folder.Unopened.{Unopened}
-use Rattle.sixel_program.specs.declared.folder.Unopened.TheVariants.{Failed, IsFolder, NotFound, NotText}
-use Rattle.sixel_program.specs.declared.folder.Unopened.TheVariants.{Links, LongName, NotFolder, PermissionDenied}
+use Rattle.sixel_program.specs.declared.folder.Unopened.TheVariants.{Failed, IsFolder, NotFound, NotText, Links}
+use Rattle.sixel_program.specs.declared.folder.Unopened.TheVariants.{LongName, NotFolder, PermissionDenied}
 use Rattle.sixel_program.specs.Exits.{fault_said, labelled}
 use Rattle.sixel_program.specs.Names.{printed, unopened_line}
 use Rattle.sixel_program.specs.Openings.{reason_text}

@@ -5,7 +5,7 @@ use Rattle.std.proofs.lemmas.Result.{err_from_is_err_and}
 use Rattle.sixel_io.proofs.SinkLemmas.{writes-done, writes-next, writes-stopped}
 use Rattle.sixel_program.specs.Json.{spelled, spelled_byte}
 use Rattle.sixel_program.specs.declared.names.Spelling.{Spelling}
-use Rattle.sixel_run.specs.Texts.{Text}
+use Rattle.sixel_report.specs.Texts.{Text}
 use Rattle.sixel_program.proofs.names.put_name.Goals as goal
 
 -- the name is what was written, the next part, and the rest

@@ -1,5 +1,5 @@
 use Rattle.std.proofs.Common.{◌∙◌, ◌++◌, ap, append_assoc, sym}
-use Rattle.sixel_run.specs.Texts.{Text}
+use Rattle.sixel_report.specs.Texts.{Text}
 use Rattle.sixel_program.proofs.JsonLemmas.{next_text}
 use Rattle.sixel_program.proofs.objects.push_text.Goals as goal
 

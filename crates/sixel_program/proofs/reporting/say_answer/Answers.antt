@@ -1,6 +1,6 @@
 use Rattle.std.proofs.Common.{◌∙◌, sym}
 use Rattle.sixel_program.proofs.FilesLemmas.{none_put, one_put}
-use Rattle.sixel_program.proofs.PutLemmas.{is_put}
+use Rattle.sixel_report.proofs.PutLemmas.{is_put}
 use Rattle.sixel_program.proofs.ReportLemmas.{in_json, in_lines, no_message}
 use Rattle.sixel_program.proofs.reporting.say_answer.Goals as goal
 

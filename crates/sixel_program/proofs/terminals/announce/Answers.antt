@@ -1,4 +1,4 @@
-use Rattle.sixel_program.proofs.PutLemmas.{is_put}
+use Rattle.sixel_report.proofs.PutLemmas.{is_put}
 use Rattle.sixel_program.proofs.terminals.announce.Goals as goal
 
 pub returns : goal.returns

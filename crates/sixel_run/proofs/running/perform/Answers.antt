@@ -1,8 +1,9 @@
 use Rattle.sixel_model.specs.Profiles.{count_of}
 use Rattle.sixel_ppm.specs.PpmReading.{NoPpmFaultBefore, ppm_read}
-use Rattle.sixel_run.specs.Differing.{DifferGives, sheet_output}
-use Rattle.sixel_run.specs.Outputs.{EncodeGives, MendGives, RenderGives, ShowBoxGives, ShowGives, mending}
-use Rattle.sixel_run.specs.Screens.{screen_terminal, show_choices, show_terminal}
+use Rattle.sixel_sheet.specs.Outputs.{DifferGives, sheet_output}
+use Rattle.sixel_run.specs.Outputs.{EncodeGives, MendGives, RenderGives, mending}
+use Rattle.sixel_show.specs.Outputs.{ShowBoxGives, ShowGives}
+use Rattle.sixel_show.specs.Screens.{screen_terminal, show_choices, show_terminal}
 use Rattle.sixel_run.proofs.LineTaskLemmas.{plain_wrote}
 use Rattle.sixel_run.proofs.RunLemmas.{unread, unread_by}
 use Rattle.sixel_run.proofs.running.perform.Goals as goal

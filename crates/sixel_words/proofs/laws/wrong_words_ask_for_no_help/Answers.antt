@@ -1,8 +1,8 @@
 use Rattle.std.proofs.Common.{◌∷◌, [], codes, refl}
 use Rattle.clap.proofs.OnLiterals.{clap_on_literals}
 use Rattle.clap.specs.Walk.{walked}
-use Rattle.sixel_run.specs.Texts.{Text}
-use Rattle.sixel_run.specs.declared.task.Task.TheVariants.{List as Listing}
+use Rattle.sixel_report.specs.Texts.{Text}
+use Rattle.sixel_report.specs.declared.task.Task.TheVariants.{List as Listing}
 use Rattle.sixel_words.specs.Words.{IsTaskOf}
 use Rattle.sixel_words.proofs.laws.wrong_words_ask_for_no_help.Goals as goal
 

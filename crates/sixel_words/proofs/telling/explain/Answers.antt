@@ -1,5 +1,5 @@
 use Rattle.std.proofs.Common.{inr, refl}
-use Rattle.sixel_program.proofs.PutLemmas.{is_put}
+use Rattle.sixel_report.proofs.PutLemmas.{is_put}
 use Rattle.sixel_words.proofs.telling.explain.Goals as goal
 
 pub returns-in-Err : goal.returns-in-Err

@@ -1,7 +1,7 @@
 use Rattle.std.proofs.Common.{◌≡◌, take}
 use Rattle.std.specs.Io.KnownBytes.{Appends}
 use Rattle.sixel_explain.specs.Explanations.{AreFurther}
-use Rattle.sixel_run.specs.Texts.{Text}
+use Rattle.sixel_report.specs.Texts.{Text}
 use Rattle.sixel_words.proofs.telling.put_further.Given as goal
 
 abbrev pub invariant-loop-topic : goal.invariant-loop-topic

@@ -1,4 +1,4 @@
-use Rattle.sixel_program.proofs.PutLemmas.{stays_put}
+use Rattle.sixel_report.proofs.PutLemmas.{stays_put}
 use Rattle.sixel_words.proofs.telling.write_explanations.Goals as goal
 
 pub returns-clause-bytes : goal.returns-clause-bytes

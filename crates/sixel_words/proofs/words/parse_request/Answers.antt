@@ -7,8 +7,8 @@ use Rattle.clap.specs.Takes.{takes}
 use Rattle.clap.specs.Faults.{fault_of, is_simple_and_free}
 use Rattle.clap.specs.Kinds.{HasKind, Kinds}
 use Rattle.clap.specs.Simple.{App, is_simple, subcommand_of, subcommand_rows_of}
-use Rattle.sixel_run.specs.declared.task.Task.{Task}
-use Rattle.sixel_run.specs.Texts.{Text}
+use Rattle.sixel_report.specs.declared.task.Task.{Task}
+use Rattle.sixel_report.specs.Texts.{Text}
 use Rattle.sixel_words.specs.Words.{AsksFor, IsExplanationOf, IsTaskOf, kinds_of, sixel_app}
 use Rattle.sixel_words.proofs.FaultLemmas.{found_by_clap, found_in_taken, memory_is_wanted}
 use Rattle.sixel_words.proofs.ExplainLemmas.{asked_by, refused_unasked, refused_unhelped, same_wish, unasked}

@@ -1,6 +1,6 @@
 use Rattle.std.proofs.Common.{◌∙◌, sym}
 use Rattle.sixel_named.specs.Rules.{all_named_rules}
-use Rattle.sixel_run.specs.RuleSets.{has_rule}
+use Rattle.sixel_report.specs.RuleSets.{has_rule}
 use Rattle.sixel_program.proofs.CauseLemmas.{kept_next, passed_over}
 use Rattle.sixel_program.proofs.hints.Causes.add_each.Goals as goal
 use Rattle.sixel_program.proofs.hints.Causes.add_each.Goals.{else-has, then-has}

@@ -1,6 +1,6 @@
 use Rattle.std.proofs.Common.{◌≡◌, filter, map, take}
 use Rattle.sixel_named.specs.Rules.{all_named_rules}
-use Rattle.sixel_run.specs.RuleSets.{has_rule}
+use Rattle.sixel_report.specs.RuleSets.{has_rule}
 use Rattle.sixel_program.specs.declared.hints.Cause.TheVariants.{Rule}
 use Rattle.sixel_program.specs.Hints.{with_causes}
 use Rattle.sixel_program.proofs.hints.Causes.add_each.Given as goal

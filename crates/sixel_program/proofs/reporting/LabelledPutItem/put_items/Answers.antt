@@ -1,7 +1,7 @@
 use Rattle.std.proofs.lemmas.Result.{err_from_is_err_and}
 use Rattle.std.specs.Prelude.{option_copied}
 use Rattle.sixel_io.proofs.SinkLemmas.{writes-done, writes-next, writes-stopped}
-use Rattle.sixel_run.proofs.LineTaskLemmas.{written_all, written_more}
+use Rattle.sixel_report.proofs.ItemLemmas.{written_all, written_more}
 use Rattle.sixel_program.specs.Files.{written_for}
 use Rattle.sixel_program.proofs.reporting.LabelledPutItem.put_items.Goals as goal
 

@@ -1,5 +1,5 @@
-use Rattle.std.proofs.Common.{◌≡◌, ◌∙◌, ℕ, Bool, false, if◌then◌else◌, List, [], ◌∷◌, ◌++◌, Option, Some, Ok, Err}
-use Rattle.std.proofs.Common.{ap, refl, subst}
+use Rattle.std.proofs.Common.{◌≡◌, ◌∙◌, ℕ, Bool, false, if◌then◌else◌, List, [], ◌∷◌, ◌++◌, Option, Some, Ok, Err, ap}
+use Rattle.std.proofs.Common.{refl, subst}
 use Rattle.std.specs.Prelude.{map}
 use Rattle.std.specs.List.{All}
 use Rattle.std.specs.Str.{bytes_eq}
@@ -11,15 +11,15 @@ use Rattle.sixel_program.specs.Files.{IsDoneOver, is_dash, names_read, told_of}
 use Rattle.sixel_program.specs.Openings.{Told, bytes_told}
 use Rattle.sixel_program.specs.declared.folder.Unopened.TheVariants.{NotFound}
 use Rattle.sixel_run.specs.Outputs.{Gives}
-use Rattle.sixel_run.specs.Texts.{Text}
+use Rattle.sixel_report.specs.Texts.{Text}
 use Rattle.sixel_named.specs.Laws.{none}
 use Rattle.sixel_named.specs.declared.verdict.NamedVerdict.TheVariants as verdict
-use Rattle.sixel_program.specs.Exits.{exit_for_answer}
-use Rattle.sixel_program.specs.declared.exit.Exit.TheVariants as exit
-use Rattle.sixel_run.specs.declared.task.Status.{Status}
-use Rattle.sixel_run.specs.declared.task.Status.TheVariants.{Done, Noted, Asked, Broken, Surveyed, Unfit, Differing}
-use Rattle.sixel_run.specs.declared.task.Task.{Task}
-use Rattle.sixel_run.specs.declared.task.Task.TheVariants.{Check}
+use Rattle.sixel_report.specs.Exits.{exit_for_answer}
+use Rattle.sixel_report.specs.declared.exit.Exit.TheVariants as exit
+use Rattle.sixel_report.specs.declared.task.Status.{Status}
+use Rattle.sixel_report.specs.declared.task.Status.TheVariants.{Done, Noted, Asked, Broken, Surveyed, Unfit, Differing}
+use Rattle.sixel_report.specs.declared.task.Task.{Task}
+use Rattle.sixel_report.specs.declared.task.Task.TheVariants.{Check}
 use Rattle.sixel_program_tests.proofs.files.told.checked.Goals as goal
 
 abbrev check : Task

@@ -3,9 +3,9 @@ use Rattle.std.proofs.lemmas.List.{append-nil}
 use Rattle.std.proofs.lemmas.Result.{err_from_is_err_and}
 use Rattle.sixel_io.proofs.SinkLemmas.{writes-as}
 use Rattle.sixel_model.specs.Profiles.{count_of}
-use Rattle.sixel_run.specs.declared.task.Task.TheVariants.{Check}
+use Rattle.sixel_report.specs.declared.task.Task.TheVariants.{Check}
 use Rattle.sixel_run.specs.Outputs.{CheckGives, outcome_status}
-use Rattle.sixel_run.specs.Texts.{item_of}
+use Rattle.sixel_report.specs.Texts.{item_of}
 use Rattle.sixel_run.proofs.CheckLemmas.{checked, grown}
 use Rattle.sixel_run.proofs.LineTaskLemmas.{lines_cut, lines_put, lines_refused, refused_if}
 use Rattle.sixel_run.proofs.running.check.check.Goals as goal

@@ -1,8 +1,8 @@
 use Rattle.std.proofs.Common.{refl}
 use Rattle.std.proofs.lemmas.Result.{err_from_is_err_and}
 use Rattle.sixel_differ.specs.declared.view.Views.{Views}
-use Rattle.sixel_run.specs.Differing.{differ_items, differ_status}
-use Rattle.sixel_run.specs.declared.task.Task.TheVariants.{Differ}
+use Rattle.sixel_report.specs.Differing.{differ_items, differ_status}
+use Rattle.sixel_report.specs.declared.task.Task.TheVariants.{Differ}
 use Rattle.sixel_run.proofs.DifferLinesLemmas.{differ_gives, differ_refused, reads_on}
 use Rattle.sixel_run.proofs.LineTaskLemmas.{lines_cut, lines_put}
 use Rattle.sixel_run.proofs.running.differ.differ.Goals as goal

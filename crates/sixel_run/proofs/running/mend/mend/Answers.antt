@@ -1,5 +1,6 @@
 use Rattle.std.proofs.lemmas.Result.{err_from_is_err_and}
-use Rattle.sixel_run.proofs.MendLemmas.{measured_grown, measured_refused, measured_sized, mend_grown, mend_refused, mend_unread, mend_unwritten, mend_written}
+use Rattle.sixel_run.proofs.MendLemmas.{measured_grown, measured_refused, measured_sized, mend_grown, mend_refused}
+use Rattle.sixel_run.proofs.MendLemmas.{mend_unread, mend_unwritten, mend_written}
 use Rattle.sixel_run.proofs.running.mend.mend.Goals as goal
 
 pub returns-in_err-kept-clause-wrote : goal.returns-in_err-kept-clause-wrote

@@ -1,7 +1,7 @@
 use Rattle.std.proofs.Common.{refl}
 use Rattle.std.proofs.lemmas.Result.{err_from_is_err_and}
 use Rattle.sixel_model.specs.Profiles.{count_of}
-use Rattle.sixel_run.specs.declared.task.Task.TheVariants.{Survey}
+use Rattle.sixel_report.specs.declared.task.Task.TheVariants.{Survey}
 use Rattle.sixel_run.specs.Outputs.{SurveyGives}
 use Rattle.sixel_run.proofs.CheckLemmas.{grown}
 use Rattle.sixel_run.proofs.LineTaskLemmas.{lines_cut, lines_put, lines_refused, refused_if}

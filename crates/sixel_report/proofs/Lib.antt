@@ -1,0 +1,6 @@
+pub mod OutputLemmas
+pub mod PutLemmas
+pub mod ItemLemmas
+pub mod RuleSetLemmas
+pub mod FirstAskedLemmas
+pub mod DigitLemmas

@@ -1,5 +1,0 @@
-use Rattle.sixel_run.proofs.RunLemmas.{gives}
-use Rattle.sixel_run.proofs.laws.tasks_give_an_output.Goals as goal
-
-pub returns : goal.returns
-returns c = gives

@@ -1,5 +1,0 @@
-use Rattle.sixel_run.proofs.StageLemmas.{box-of-one}
-use Rattle.sixel_run.proofs.running.box_finder.BoxFinder.look_at.Goals as goal
-
-pub returns : goal.returns
-returns c = cc (c.or-self.ensures, c.box_in_raster.ensures, box-of-one c.args.event.now)

@@ -1,8 +1,0 @@
-use Rattle.sixel_grammar.specs.Document.{IsDocument}
-use Rattle.sixel_grammar.proofs.FollowSourceLemmas.{told_known}
-use Rattle.sixel_run.proofs.running.draw.read_whole.Goals as goal
-
-pub returns-clause-read : goal.returns-clause-read
-returns-clause-read g c =
-    let f = c.in_ok-follow_source.ensures.followed tt tt in
-    told_known (g.S.Source.state c.args.input.now).remaining f.bytes IsDocument f.known_are (f.events, f.document)

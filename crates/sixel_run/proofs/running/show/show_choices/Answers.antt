@@ -1,5 +1,0 @@
-use Rattle.std.proofs.Common.{refl}
-use Rattle.sixel_run.proofs.running.show.show_choices.Goals as goal
-
-pub returns-then-fill : goal.returns-then-fill
-returns-then-fill c = rw c.if-fill.true refl

@@ -1,5 +1,0 @@
-use Rattle.sixel_run.proofs.StageLemmas.{no-screen}
-use Rattle.sixel_run.proofs.running.show_box.Stage.shown.Goals as goal
-
-pub returns : goal.returns
-returns c = λ terminal events bytes h. no-screen terminal c.args.self events bytes c.in_default.not-Drawn h

@@ -1,7 +1,0 @@
-use Rattle.sixel_run.proofs.WatchLemmas.{watches_one}
-use Rattle.sixel_run.proofs.running.watched.WatchedFollower.take.Goals as goal
-
-pub returns-clause-taken : goal.returns-clause-taken
-returns-clause-taken c =
-    watches_one c.args.self.now c.push.new.self c.args.placed.now c.push.ensures.terminal
-    c.push.ensures.watched

@@ -1,9 +1,0 @@
-use Rattle.sixel_grammar.specs.Following.{command_at}
-use Rattle.sixel_grammar.specs.declared.command.Command.TheVariants.{Repeat}
-use Rattle.sixel_run.proofs.WatchLemmas.{watches_one}
-use Rattle.sixel_run.proofs.running.watched.WatchedFollower.take_repeat.Goals as goal
-
-pub returns-clause-taken : goal.returns-clause-taken
-returns-clause-taken c =
-    watches_one c.args.self.now c.push.new.self (command_at c.args._place (Repeat c.args.count c.args.bits))
-    c.push.ensures.terminal c.push.ensures.watched

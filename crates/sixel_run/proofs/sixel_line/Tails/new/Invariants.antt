@@ -1,9 +1,0 @@
-use Rattle.std.proofs.Common.{◌≡◌, ◌<◌, ℕ, length}
-use Rattle.sixel_run.specs.Texts.{HasTail}
-use Rattle.sixel_run.proofs.sixel_line.Tails.new.Given as goal
-
-abbrev pub invariant-loop-bits : goal.invariant-loop-bits
-invariant-loop-bits l = record {
-  long : length l.text ≡ 1040;
-  tails : (k : ℕ) → k < l.bits → HasTail l.text k;
-}

@@ -1,0 +1,3 @@
+pub mod BoxLemmas
+pub mod OneStringLemmas
+pub mod RoundTripLemmas

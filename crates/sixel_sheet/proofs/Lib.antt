@@ -1,0 +1,4 @@
+pub mod ComparingLemmas
+pub mod DifferLemmas
+pub mod SheetLemmas
+pub mod ViewedLemmas

@@ -1,0 +1,449 @@
+-- Lemmas for a run of `show --on`.
+use Rattle.std.proofs.Common.{◌≡◌, ◌∙◌, ◌<◌, ℕ, zero, suc, Bool, true, false, List, [], ◌∷◌, length, take, drop, Option}
+use Rattle.std.proofs.Common.{Some, None, arith, refl, sym, ap, ap₂, subst, inl, inr}
+use Rattle.std.specs.Prelude.{Result, Ok, Err, IfSome, IsTrue, if◌then◌else◌}
+use Rattle.std.proofs.lemmas.List.{take-append-drop}
+use Rattle.sixel_io.specs.Devices.{SinkState}
+use Rattle.sixel_io.proofs.SinkLemmas.{Appends-none}
+use Rattle.sixel_grammar.specs.declared.command.Event.{Event}
+use Rattle.sixel_grammar.specs.declared.command.Placed.{Placed}
+use Rattle.sixel_grammar.specs.declared.fault.Fault.{Fault}
+use Rattle.sixel_grammar.specs.declared.fault.InputFault.{InputFault}
+use Rattle.sixel_grammar.specs.declared.fault.InputFault.TheVariants as input
+use Rattle.sixel_grammar.specs.Document.{Document, events_of}
+use Rattle.sixel_grammar.specs.Faults.{IsFaultOf}
+use Rattle.sixel_grammar.specs.Reading.{Explains}
+use Rattle.sixel_grammar.proofs.TotalLemmas.{judged}
+use Rattle.sixel_grammar.proofs.UniqueLemmas.{document_once, fault_no_document, fault_once}
+use Rattle.sixel_model.specs.declared.colour.Parts.{Parts}
+use Rattle.sixel_ppm.specs.declared.ppm.PpmFault.{PpmFault}
+use Rattle.sixel_ppm.specs.declared.ppm.PpmFault.TheVariants as ppm
+use Rattle.sixel_ppm.specs.Ppm.{WritesPpm, are_rgb, ppm_text}
+use Rattle.sixel_terminal.specs.Screens.{Shown}
+use Rattle.sixel_models.specs.declared.named.Named.{Named}
+use Rattle.sixel_models.specs.declared.named.Named.TheVariants.{XTerm, MlTerm, Foot, Konsole}
+use Rattle.sixel_models.specs.declared.showing.ShowFault.{ShowFault}
+use Rattle.sixel_models.specs.declared.showing.ShowFault.TheVariants as show
+use Rattle.sixel_models.specs.Modelled.{EndsAtPlace, HasPlace}
+use Rattle.sixel_models.specs.Named.{GivesScreen, IsScreenOn, ShowsDocument, ShowsOn, model_of, terminal_on}
+use Rattle.sixel_models.specs.Readings.{EndsAt, IsSaid, Model}
+use Rattle.sixel_models.proofs.NamedLemmas.{end_once, said_does_not_end, said_or_ends, screen_once, shows_or_ends}
+use Rattle.sixel_report.specs.declared.fault.RunFault.{RunFault}
+use Rattle.sixel_report.specs.declared.fault.RunFault.TheVariants.{Grammar, NotRgb, NoBox, OutOfMemory, Unmodelled}
+use Rattle.sixel_report.specs.declared.task.Area.{Area}
+use Rattle.sixel_report.specs.declared.task.Status.{Status}
+use Rattle.sixel_report.specs.declared.task.Status.TheVariants.{Done}
+use Rattle.sixel_report.specs.Conversions.{of_input, of_ppm, of_show}
+use Rattle.sixel_show.specs.NamedScreens.{ShowsIn}
+use Rattle.sixel_show.specs.Outputs.{ShowOnGives, sides_in}
+use Rattle.sixel_report.specs.Outputs.{WroteBy, WroteNothing}
+use Rattle.sixel_report.specs.Texts.{Text, BeginsWith}
+use Rattle.sixel_report.proofs.OutputLemmas.{both_are, nothing-written}
+use Rattle.sixel_show.proofs.ScreenLemmas.{not-both}
+use Rattle.sixel_report.specs.declared.task.Area.TheVariants as area
+
+abbrev Sides : Type 0
+Sides = ℕ × ℕ
+
+-- ---- the event at which a model ends
+
+-- each event has an offset
+some_place : (placed : List Placed) (i : ℕ) → i < length (events_of placed) → (place : ℕ) × HasPlace placed i place
+some_place [] i lt = absurd (omega (arith, lt))
+some_place (p ∷ ps) zero lt = (p.place, refl)
+some_place (p ∷ ps) (suc i) lt = some_place ps i (omega (arith, lt))
+
+same_place : (placed : List Placed) (i a b : ℕ) → HasPlace placed i a → HasPlace placed i b → a ≡ b
+same_place placed i a b p q = let whole : Some a ≡ Some b = sym p ∙ q in cc
+
+pub ends_somewhere : (m : Model) (placed : List Placed) (i : ℕ) → EndsAt m (events_of placed) i
+    → (place : ℕ) × EndsAtPlace m placed place
+ends_somewhere m placed i ends =
+    let p = some_place placed i ends.within in (p.0, record { at = i; ends = ends; has_place = p.1 })
+
+pub one_end : (m : Model) (placed : List Placed) (a b : ℕ) → EndsAtPlace m placed a → EndsAtPlace m placed b → a ≡ b
+one_end m placed a b p q =
+    let same : p.at ≡ q.at = end_once m (events_of placed) p.at q.at p.ends q.ends in
+    same_place placed q.at a b (subst (λ (i : ℕ). HasPlace placed i a) same p.has_place) q.has_place
+
+-- ---- the document, read in another way
+
+moved_end : (m : Model) (bytes : List ℕ) (d e : List Placed) (place : ℕ) → Document d bytes → Document e bytes
+    → EndsAtPlace m e place → EndsAtPlace m d place
+moved_end m bytes d e place p q is =
+    subst (λ (l : List Placed). EndsAtPlace m l place) (document_once bytes e d q p) is
+
+moved_said : (m : Model) (bytes : List ℕ) (d e : List Placed) → Document d bytes → Document e bytes
+    → IsSaid m (events_of e) → IsSaid m (events_of d)
+moved_said m bytes d e p q is =
+    subst (λ (l : List Placed). IsSaid m (events_of l)) (document_once bytes e d q p) is
+
+said_and_ends : (m : Model) (bytes : List ℕ) (d e : List Placed) (place : ℕ) → Document d bytes → Document e bytes
+    → EndsAtPlace m d place → IsSaid m (events_of e) → ⊥
+said_and_ends m bytes d e place p q ends said =
+    said_does_not_end m (events_of d) ends.at (moved_said m bytes d e p q said) ends.ends
+
+moved_sides : (area : Area) (bytes : List ℕ) (d e : List Placed) (o : Option Sides) → Document d bytes
+    → Document e bytes → sides_in area (events_of e) ≡ o → sides_in area (events_of d) ≡ o
+moved_sides area bytes d e o p q is =
+    subst (λ (l : List Placed). sides_in area (events_of l) ≡ o) (document_once bytes e d q p) is
+
+sides_or_none : (area : Area) (bytes : List ℕ) (d e : List Placed) (sides : Sides) → Document d bytes
+    → Document e bytes → sides_in area (events_of d) ≡ None → sides_in area (events_of e) ≡ Some sides → ⊥
+sides_or_none area bytes d e sides p q none is =
+    let whole : None ≡ Some sides = sym none ∙ moved_sides area bytes d e (Some sides) p q is in cc
+
+one_screen : (named : Named) (background : Parts) (area : Area) (bytes : List ℕ) (d e : List Placed) (a b : Sides)
+    (screen other : Shown) → Document d bytes → Document e bytes → sides_in area (events_of d) ≡ Some a
+    → sides_in area (events_of e) ≡ Some b → IsScreenOn named background a (events_of d) screen
+    → IsScreenOn named background b (events_of e) other → (b ≡ a) × (other ≡ screen)
+one_screen named background area bytes d e a b screen other p q is are on there =
+    let whole : Some b ≡ Some a = sym (moved_sides area bytes d e (Some b) p q are) ∙ is in
+    let same : b ≡ a = cc in
+    let here : IsScreenOn named background b (events_of d) other =
+    subst (λ (l : List Placed). IsScreenOn named background b (events_of l) other) (document_once bytes e d q p) there in
+    let now : IsScreenOn named background a (events_of d) other =
+    subst (λ (s : Sides). IsScreenOn named background s (events_of d) other) same here in
+    (same, screen_once named background a (events_of d) other screen now on)
+
+-- ---- at most one output
+
+-- the output of a document at which the model ends
+of_ended : (named : Named) (background : Parts) (area : Area) (bytes : List ℕ) (d : List Placed) (place : ℕ)
+    → Document d bytes → EndsAtPlace (model_of named) d place → (text : Text) (a : Result Status RunFault)
+    → ShowOnGives named background area bytes text a → (text ≡ []) × (a ≡ Err (Unmodelled place))
+of_ended named background area bytes d place doc is text (Ok s) g =
+    absurd (said_and_ends (model_of named) bytes d g.0 place doc g.1 is g.2.2.1.said)
+of_ended named background area bytes d place doc is text (Err NotRgb) g =
+    absurd (said_and_ends (model_of named) bytes d g.1.0 place doc g.1.1 is g.1.2.2.1.said)
+of_ended named background area bytes d place doc is text (Err (Unmodelled p)) g = (
+  g.0,
+  ap (λ (k : ℕ). Err (Unmodelled k)) (one_end (model_of named) d p place
+      (moved_end (model_of named) bytes d g.1.0 p doc g.1.1 g.1.2) is),
+)
+of_ended named background area bytes d place doc is text (Err NoBox) g =
+    absurd (said_and_ends (model_of named) bytes d g.1.0 place doc g.1.1 is g.1.2)
+of_ended named background area bytes d place doc is text (Err (Grammar f)) g =
+    absurd (fault_no_document bytes f g.1 (d, doc))
+of_ended named background area bytes d place doc is text (Err other) g = absurd g
+
+-- the output of a document of which the model says all, if no screen has the sides
+of_unsized : (named : Named) (background : Parts) (area : Area) (bytes : List ℕ) (d : List Placed) → Document d bytes
+    → IsSaid (model_of named) (events_of d) → sides_in area (events_of d) ≡ None → (text : Text)
+    (a : Result Status RunFault) → ShowOnGives named background area bytes text a → (text ≡ []) × (a ≡ Err NoBox)
+of_unsized named background area bytes d doc said none text (Ok s) g =
+    absurd (sides_or_none area bytes d g.0 g.2.0 doc g.1 none g.2.1)
+of_unsized named background area bytes d doc said none text (Err NotRgb) g =
+    absurd (sides_or_none area bytes d g.1.0 g.1.2.0 doc g.1.1 none g.1.2.1)
+of_unsized named background area bytes d doc said none text (Err (Unmodelled p)) g =
+    absurd (said_and_ends (model_of named) bytes g.1.0 d p g.1.1 doc g.1.2 said)
+of_unsized named background area bytes d doc said none text (Err NoBox) g = (g.0, refl)
+of_unsized named background area bytes d doc said none text (Err (Grammar f)) g =
+    absurd (fault_no_document bytes f g.1 (d, doc))
+of_unsized named background area bytes d doc said none text (Err other) g = absurd g
+
+-- the output of a document with a screen
+of_screen : (named : Named) (background : Parts) (area : Area) (bytes : List ℕ) (d : List Placed) (sides : Sides)
+    (screen : Shown) → Document d bytes → sides_in area (events_of d) ≡ Some sides
+    → IsScreenOn named background sides (events_of d) screen → (rgb : Bool) → are_rgb screen.colours ≡ rgb
+    → (text : Text) (a : Result Status RunFault) → ShowOnGives named background area bytes text a
+    → (text ≡ if rgb then ppm_text sides.0 sides.1 screen.colours else [])
+    × (a ≡ if rgb then Ok Done else Err NotRgb)
+of_screen named background area bytes d sides screen doc is on true e text (Ok s) g =
+    let same = one_screen named background area bytes d g.0 sides g.2.0 screen g.2.2.0 doc g.1 is g.2.1 on g.2.2.1 in (
+      g.2.2.3 ∙ ap₂ (λ (s : Sides) (w : Shown). ppm_text s.0 s.1 w.colours) same.0 same.1,
+      ap (λ (s : Status). Ok s) g.2.2.4,
+    )
+of_screen named background area bytes d sides screen doc is on false e text (Ok s) g =
+    let same = one_screen named background area bytes d g.0 sides g.2.0 screen g.2.2.0 doc g.1 is g.2.1 on g.2.2.1 in
+    absurd (not-both _ _ (ap (λ (w : Shown). are_rgb w.colours) same.1) g.2.2.2 e)
+of_screen named background area bytes d sides screen doc is on true e text (Err NotRgb) g =
+    let same = one_screen named background area bytes d g.1.0 sides g.1.2.0 screen g.1.2.2.0 doc g.1.1 is g.1.2.1 on
+    g.1.2.2.1 in
+    absurd (not-both _ _ (ap (λ (w : Shown). are_rgb w.colours) (sym same.1)) e g.1.2.2.2)
+of_screen named background area bytes d sides screen doc is on false e text (Err NotRgb) g = (g.0, refl)
+of_screen named background area bytes d sides screen doc is on rgb e text (Err (Unmodelled p)) g =
+    absurd (said_and_ends (model_of named) bytes g.1.0 d p g.1.1 doc g.1.2 on.said)
+of_screen named background area bytes d sides screen doc is on rgb e text (Err NoBox) g =
+    absurd (sides_or_none area bytes g.1.0 d sides g.1.1 doc g.1.3 is)
+of_screen named background area bytes d sides screen doc is on rgb e text (Err (Grammar f)) g =
+    absurd (fault_no_document bytes f g.1 (d, doc))
+of_screen named background area bytes d sides screen doc is on rgb e text (Err other) g = absurd g
+
+-- the output of bytes that are no document
+of_fault : (named : Named) (background : Parts) (area : Area) (bytes : List ℕ) (f : Fault) → IsFaultOf bytes f
+    → (text : Text) (a : Result Status RunFault) → ShowOnGives named background area bytes text a
+    → (text ≡ []) × (a ≡ Err (Grammar f))
+of_fault named background area bytes f is text (Ok s) g = absurd (fault_no_document bytes f is (g.0, g.1))
+of_fault named background area bytes f is text (Err NotRgb) g = absurd (fault_no_document bytes f is (g.1.0, g.1.1))
+of_fault named background area bytes f is text (Err (Unmodelled p)) g =
+    absurd (fault_no_document bytes f is (g.1.0, g.1.1))
+of_fault named background area bytes f is text (Err NoBox) g = absurd (fault_no_document bytes f is (g.1.0, g.1.1))
+of_fault named background area bytes f is text (Err (Grammar e)) g =
+    (g.0, ap (λ (k : Fault). Err (Grammar k)) (fault_once bytes e f g.1 is))
+of_fault named background area bytes f is text (Err other) g = absurd g
+
+-- an output, which is the only one
+pub record IsOnly (named : Named) (background : Parts) (area : Area) (bytes : List ℕ) (text : Text)
+    (answer : Result Status RunFault) : Type 0 where
+  pub given : ShowOnGives named background area bytes text answer
+  pub once : (other : Text) (a : Result Status RunFault) → ShowOnGives named background area bytes other a
+      → (other ≡ text) × (a ≡ answer)
+
+abbrev HasOnly : Named → Parts → Area → List ℕ → Type 0
+HasOnly named background area bytes =
+    (text : Text) × (answer : Result Status RunFault) × IsOnly named background area bytes text answer
+
+only_ended : (named : Named) (background : Parts) (area : Area) (bytes : List ℕ) (d : List Placed) (i : ℕ)
+    → Document d bytes → EndsAt (model_of named) (events_of d) i → HasOnly named background area bytes
+only_ended named background area bytes d i doc ends =
+    let p = ends_somewhere (model_of named) d i ends in (
+      [],
+      Err (Unmodelled p.0),
+      record { given = (refl, (d, doc, p.1)); once = of_ended named background area bytes d p.0 doc p.1 },
+    )
+
+only_screen : (named : Named) (background : Parts) (area : Area) (bytes : List ℕ) (d : List Placed) (sides : Sides)
+    (screen : Shown) → Document d bytes → sides_in area (events_of d) ≡ Some sides
+    → IsScreenOn named background sides (events_of d) screen → (rgb : Bool) → are_rgb screen.colours ≡ rgb
+    → HasOnly named background area bytes
+only_screen named background area bytes d sides screen doc is on true e = (
+  ppm_text sides.0 sides.1 screen.colours,
+  Ok Done,
+  record {
+    given = (d, doc, (sides, is, (screen, on, e, refl, refl)));
+    once = of_screen named background area bytes d sides screen doc is on true e;
+  },
+)
+only_screen named background area bytes d sides screen doc is on false e = (
+  [],
+  Err NotRgb,
+  record {
+    given = (refl, (d, doc, (sides, is, (screen, on, e))));
+    once = of_screen named background area bytes d sides screen doc is on false e;
+  },
+)
+
+only_sized : (named : Named) (background : Parts) (area : Area) (bytes : List ℕ) (d : List Placed) (o : Option Sides)
+    → Document d bytes → sides_in area (events_of d) ≡ o → HasOnly named background area bytes
+only_sized named background area bytes d (Some sides) doc is =
+    elim (shows_or_ends named background sides (events_of d)) [
+      | inl e ↦ only_ended named background area bytes d e.0 doc e.1
+      | inr s ↦ only_screen named background area bytes d sides s.0 doc is s.1 (are_rgb s.0.colours) refl
+    ]
+only_sized named background area bytes d None doc is =
+    elim (said_or_ends (model_of named) (events_of d)) [
+      | inl e ↦ only_ended named background area bytes d e.0 doc e.1
+      | inr s ↦ (
+        [],
+        Err NoBox,
+        record {
+          given = (refl, (d, doc, s.0, is));
+          once = of_unsized named background area bytes d doc s.0 is;
+        },
+      )
+    ]
+
+-- any bytes have one output
+only : (named : Named) (background : Parts) (area : Area) (bytes : List ℕ) → HasOnly named background area bytes
+only named background area bytes =
+    elim (judged bytes) [
+      | inl d ↦ only_sized named background area bytes d.0 (sides_in area (events_of d.0)) d.1 refl
+      | inr f ↦ (
+        [],
+        Err (Grammar f.0),
+        record { given = (refl, f.1); once = of_fault named background area bytes f.0 f.1 },
+      )
+    ]
+
+pub on-once : (named : Named) (background : Parts) (area : Area) (bytes : List ℕ) (first second : Text)
+    (a b : Result Status RunFault) → ShowOnGives named background area bytes first a
+    → ShowOnGives named background area bytes second b → (first ≡ second) × (a ≡ b)
+on-once named background area bytes first second a b g h =
+    let o = only named background area bytes in
+    both_are first second a b (o.2.once first a g) (o.2.once second b h)
+
+pub on-gives : (named : Named) (background : Parts) (area : Area) (bytes : List ℕ)
+    → (text : Text) × (answer : Result Status RunFault) × ShowOnGives named background area bytes text answer
+on-gives named background area bytes = let o = only named background area bytes in (o.0, o.1, o.2.given)
+
+-- ---- the screen
+
+-- what a named terminal shows, for what was measured of the document
+pub shown_in : (named : Named) (background : Parts) (area : Area) (bytes : List ℕ) (d : List Placed) (sides : Sides)
+    (opening : List Event) (screen : Shown) → Document d bytes → opening ≡ (model_of named).opening (events_of d)
+    → sides_in area (events_of d) ≡ Some sides → ShowsOn named background sides opening bytes (Ok screen)
+    → ShowsIn named background area bytes (Ok screen)
+shown_in named background area bytes d sides opening screen doc first is g =
+    let same : d ≡ g.0 = document_once bytes d g.0 doc g.1 in (
+      g.0,
+      g.1,
+      (
+        sides,
+        subst (λ (l : List Placed). sides_in area (events_of l) ≡ Some sides) same is,
+        g.2 (first ∙ ap (λ (l : List Placed). (model_of named).opening (events_of l)) same),
+      ),
+    )
+
+pub boxless_in : (named : Named) (background : Parts) (area : Area) (bytes : List ℕ) (d : List Placed) (sides : Sides)
+    (opening : List Event) (screen : Shown) → Document d bytes → opening ≡ (model_of named).opening (events_of d)
+    → sides_in area (events_of d) ≡ None → ShowsOn named background sides opening bytes (Ok screen)
+    → ShowsIn named background area bytes (Err NoBox)
+boxless_in named background area bytes d sides opening screen doc first none g =
+    let same : d ≡ g.0 = document_once bytes d g.0 doc g.1 in
+    let on = g.2 (first ∙ ap (λ (l : List Placed). (model_of named).opening (events_of l)) same) in
+    (g.0, g.1, on.said, subst (λ (l : List Placed). sides_in area (events_of l) ≡ None) same none)
+
+pub document_fault : (named : Named) (background : Parts) (width height : ℕ) (bytes : List ℕ) (fault : ShowFault)
+    → ShowsDocument named background (width, height) bytes (Err fault)
+    → ShowsIn named background (area.Sides width height) bytes (Err (of_show fault))
+document_fault named background width height bytes (show.Grammar f) g = absurd g
+document_fault named background width height bytes (show.Unmodelled place) g = g
+document_fault named background width height bytes show.OutOfMemory g = tt
+
+-- it has the sides
+on_sides : (named : Named) (background : Parts) (opening : List Event) (sides : Sides)
+    → ((terminal_on named background opening sides).choices.screen_width ≡ sides.0)
+    × ((terminal_on named background opening sides).choices.screen_height ≡ sides.1)
+on_sides XTerm background opening sides = (refl, refl)
+on_sides MlTerm background opening sides = (refl, refl)
+on_sides Foot background opening sides = (refl, refl)
+on_sides Konsole background opening sides = (refl, refl)
+
+screen_sides : (named : Named) (background : Parts) (sides : Sides) (events : List Event) (screen : Shown)
+    → IsScreenOn named background sides events screen → (screen.width ≡ sides.0) × (screen.height ≡ sides.1)
+screen_sides named background sides events screen on =
+    let s = on_sides named background ((model_of named).opening events) sides in
+    (on.after.width ∙ s.0, on.after.height ∙ s.1)
+
+-- ---- the text written
+
+sized : {A : Type 0} (r : Result A PpmFault) (had has : SinkState) (a b c d : ℕ) (colours : List Parts) → a ≡ c
+    → b ≡ d → WritesPpm r had has a b colours → WritesPpm r had has c d colours
+sized r had has a b c d colours e f put =
+    subst (λ (n : ℕ). WritesPpm r had has n d colours) e (subst (λ (n : ℕ). WritesPpm r had has a n colours) f put)
+
+written : {A : Type 0} (named : Named) (background : Parts) (area : Area) (bytes : List ℕ) (screen : Shown) (x : A)
+    (had has : SinkState) → ShowsIn named background area bytes (Ok screen)
+    → WritesPpm {A = A} (Ok x) had has screen.width screen.height screen.colours
+    → WroteBy (ShowOnGives named background area bytes) WroteNothing (Ok Done) had.taken has.taken
+written {A} named background area bytes screen x had has g put =
+    let sides = g.2.0 in
+    let s = screen_sides named background sides (events_of g.0) screen g.2.2 in
+    let wrote : WritesPpm {A = A} (Ok x) had has sides.0 sides.1 screen.colours =
+    sized (Ok x) had has screen.width screen.height sides.0 sides.1 screen.colours s.0 s.1 put in (
+      ppm_text sides.0 sides.1 screen.colours,
+      (g.0, g.1, (sides, g.2.1, (screen, g.2.2, wrote.0, refl, refl))),
+      wrote.1.taken,
+    )
+
+-- a prefix of the text, if the sink failed
+cut_short : (named : Named) (background : Parts) (area : Area) (bytes : List ℕ) (screen : Shown) (n : ℕ)
+    (g : ShowsIn named background area bytes (Ok screen)) → IsTrue (are_rgb screen.colours)
+    → (text : Text) (answer : Result Status RunFault) → ShowOnGives named background area bytes text answer
+    → BeginsWith text (take n (ppm_text g.2.0.0 g.2.0.1 screen.colours))
+cut_short named background area bytes screen n g rgb text answer h =
+    let all = ppm_text g.2.0.0 g.2.0.1 screen.colours in
+    let same = (on-once named background area bytes text all answer (Ok Done) h
+    (g.0, g.1, (g.2.0, g.2.1, (screen, g.2.2, rgb, refl, refl)))).0 in
+    (drop n all, same ∙ sym (take-append-drop n all))
+
+unwritten_of : (A : Type 0) (named : Named) (background : Parts) (area : Area) (bytes : List ℕ) (screen : Shown)
+    (fault : PpmFault) (had has : SinkState) (g : ShowsIn named background area bytes (Ok screen))
+    → WritesPpm {A = A} (Err fault) had has g.2.0.0 g.2.0.1 screen.colours
+    → WroteBy (ShowOnGives named background area bytes) WroteNothing (Err (of_ppm fault)) had.taken has.taken
+unwritten_of A named background area bytes screen ppm.Write had has g put = (
+  take put.1.taken.0 (ppm_text g.2.0.0 g.2.0.1 screen.colours),
+  put.1.taken.1,
+  cut_short named background area bytes screen put.1.taken.0 g put.0,
+)
+unwritten_of A named background area bytes screen ppm.NotRgb had has g put =
+    ([], (refl, (g.0, g.1, (g.2.0, g.2.1, (screen, g.2.2, put.0)))), nothing-written had has put.1)
+unwritten_of A named background area bytes screen _ had has g put = absurd put
+
+unwritten : (A : Type 0) (named : Named) (background : Parts) (area : Area) (bytes : List ℕ) (screen : Shown)
+    (fault : PpmFault) (had has : SinkState) → ShowsIn named background area bytes (Ok screen)
+    → WritesPpm {A = A} (Err fault) had has screen.width screen.height screen.colours
+    → WroteBy (ShowOnGives named background area bytes) WroteNothing (Err (of_ppm fault)) had.taken has.taken
+unwritten A named background area bytes screen fault had has g put =
+    let s = screen_sides named background g.2.0 (events_of g.0) screen g.2.2 in
+    unwritten_of A named background area bytes screen fault had has g
+    (sized {A = A} (Err fault) had has screen.width screen.height g.2.0.0 g.2.0.1 screen.colours s.0 s.1 put)
+
+-- ---- a refusal
+
+refused : (named : Named) (background : Parts) (area : Area) (bytes : List ℕ) (fault : RunFault) (had : Option (List ℕ))
+    → ShowsIn named background area bytes (Err fault)
+    → WroteBy (ShowOnGives named background area bytes) WroteNothing (Err fault) had had
+refused named background area bytes (Grammar f) had g = ([], (refl, g), Appends-none had)
+refused named background area bytes (Unmodelled place) had g = ([], (refl, g), Appends-none had)
+refused named background area bytes NoBox had g = ([], (refl, g), Appends-none had)
+refused named background area bytes OutOfMemory had g = Appends-none had
+refused named background area bytes other had g = absurd g
+
+unread : (named : Named) (background : Parts) (area : Area) (bytes : List ℕ) (fault : InputFault)
+    (had : Option (List ℕ)) → Explains fault bytes
+    → WroteBy (ShowOnGives named background area bytes) WroteNothing (Err (of_input fault)) had had
+unread named background area bytes (input.Grammar f) had is = ([], (refl, is), Appends-none had)
+unread named background area bytes input.OutOfMemory had is = Appends-none had
+unread named background area bytes input.Read had is = Appends-none had
+
+-- ---- the same of bytes that are known
+
+-- what holds of bytes holds of those that are told, if they are the same
+pub told_same : (P : List ℕ → Type 0) (a : Option (List ℕ)) (bytes : List ℕ) → IfSome a (λ told. told ≡ bytes)
+    → P bytes → IfSome a P
+told_same P None bytes same p = tt
+told_same P (Some told) bytes same p = subst P (sym same) p
+
+pub on_written : {A : Type 0} (named : Named) (background : Parts) (area : Area) (a : Option (List ℕ))
+    (bytes : List ℕ) (screen : Shown) (x : A) (had has : SinkState) → IfSome a (λ told. told ≡ bytes)
+    → ShowsIn named background area bytes (Ok screen)
+    → WritesPpm {A = A} (Ok x) had has screen.width screen.height screen.colours
+    → IfSome a (λ told. WroteBy (ShowOnGives named background area told) WroteNothing (Ok Done) had.taken has.taken)
+on_written named background area a bytes screen x had has same g put =
+    told_same (λ told. WroteBy (ShowOnGives named background area told) WroteNothing (Ok Done) had.taken has.taken) a
+    bytes same (written named background area bytes screen x had has g put)
+
+pub on_unwritten : (A : Type 0) (named : Named) (background : Parts) (area : Area) (a : Option (List ℕ))
+    (bytes : List ℕ) (screen : Shown) (fault : PpmFault) (had has : SinkState) → IfSome a (λ told. told ≡ bytes)
+    → ShowsIn named background area bytes (Ok screen)
+    → WritesPpm {A = A} (Err fault) had has screen.width screen.height screen.colours
+    → IfSome a (λ told.
+    WroteBy (ShowOnGives named background area told) WroteNothing (Err (of_ppm fault)) had.taken has.taken)
+on_unwritten A named background area a bytes screen fault had has same g put =
+    told_same (λ told.
+    WroteBy (ShowOnGives named background area told) WroteNothing (Err (of_ppm fault)) had.taken has.taken) a bytes
+    same (unwritten A named background area bytes screen fault had has g put)
+
+pub on_refused : (named : Named) (background : Parts) (area : Area) (a : Option (List ℕ)) (bytes : List ℕ)
+    (fault : RunFault) (had : Option (List ℕ)) → IfSome a (λ told. told ≡ bytes)
+    → ShowsIn named background area bytes (Err fault)
+    → IfSome a (λ told. WroteBy (ShowOnGives named background area told) WroteNothing (Err fault) had had)
+on_refused named background area a bytes fault had same g =
+    told_same (λ told. WroteBy (ShowOnGives named background area told) WroteNothing (Err fault) had had) a bytes same
+    (refused named background area bytes fault had g)
+
+pub on_unread : (named : Named) (background : Parts) (area : Area) (a : Option (List ℕ)) (fault : InputFault)
+    (had : Option (List ℕ)) → IfSome a (Explains fault)
+    → IfSome a (λ told. WroteBy (ShowOnGives named background area told) WroteNothing (Err (of_input fault)) had had)
+on_unread named background area None fault had is = tt
+on_unread named background area (Some told) fault had is = unread named background area told fault had is
+
+-- ---- while the source is read
+
+pub at_once_in : (named : Named) (background : Parts) (width height : ℕ) (bytes : List ℕ) (screen : Shown)
+    → GivesScreen named background (width, height) bytes (Ok screen)
+    → ShowsIn named background (area.Sides width height) bytes (Ok screen)
+at_once_in named background width height bytes screen g = (g.0, g.1, ((width, height), refl, g.2))
+
+pub at_once_unwritten : (A : Type 0) (named : Named) (background : Parts) (width height : ℕ) (a : Option (List ℕ))
+    (screen : Shown) (fault : PpmFault) (had has : SinkState)
+    → IfSome a (λ bytes. GivesScreen named background (width, height) bytes (Ok screen))
+    → WritesPpm {A = A} (Err fault) had has screen.width screen.height screen.colours
+    → IfSome a (λ bytes.
+    WroteBy (ShowOnGives named background (area.Sides width height) bytes) WroteNothing (Err (of_ppm fault)) had.taken has.taken)
+at_once_unwritten A named background width height None screen fault had has g put = tt
+at_once_unwritten A named background width height (Some bytes) screen fault had has g put =
+    unwritten A named background (area.Sides width height) bytes screen fault had has
+    (at_once_in named background width height bytes screen g) put

@@ -1,0 +1,14 @@
+use Rattle.std.proofs.Common.{[], refl, sym}
+use Rattle.sixel_show.proofs.ShowFirstLemmas.{sides-after}
+use Rattle.sixel_show.proofs.StageLemmas.{box-of-none, finds-box, looks-on, nothing_found}
+use Rattle.sixel_show.proofs.show_on.box_at_first.Goals as goal
+
+pub follow-requires : goal.follow-requires
+follow-requires c = (nothing_found, [], looks-on c.new-reader.result [] [] c.new-reader.ensures (sym box-of-none))
+
+pub returns-in-Ok-clause-known : goal.returns-in-Ok-clause-known
+returns-in-Ok-clause-known c =
+    sides-after c.follow.new.reader c.follow.new.follower.found c.args.first.now c.sides_of.result
+    (finds-box c.new-reader.result c.follow.new.reader c.follow.new.follower c.follow.new.follower.found [] []
+    c.args.first.now c.new-reader.ensures (sym box-of-none) c.in-Ok.ensures.followed refl)
+    c.sides_of.ensures.value

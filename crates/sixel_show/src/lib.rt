@@ -1,0 +1,15 @@
+//! Shows a sixel picture: the screen of a terminal after it, as a PPM.
+#![tactic(auto)]
+
+mod box_finder;
+mod draw;
+mod kept;
+mod on_konsole;
+mod screen;
+pub mod show;
+pub mod show_box;
+pub mod show_on;
+mod watched;
+
+pub use kept::kept_with;
+pub use screen::{ScreenPixels, is_rgb_alone};

@@ -1,0 +1,141 @@
+//! Draws a document on konsole while it is read. Its bytes are kept as long as they may be needed once more.
+
+ghost use Rattle.std.specs.Prelude.{◌≡◌, ◌≢◌, ◌&&◌, ◌++◌, [], ℕ, Err, IfErr, IfOk, IfSome, IsTrue, List, OnOk};
+ghost use Rattle.sixel_grammar.specs.declared.command.Event.{Event as AnEvent};
+ghost use Rattle.sixel_grammar.specs.declared.fault.InputFault.TheVariants.{Read as ReadFault};
+ghost use Rattle.sixel_grammar.specs.Reading.{Explains, NoFaultBefore, failures_after};
+ghost use Rattle.sixel_terminal.specs.Limits.{is_screen_side};
+ghost use Rattle.sixel_models.specs.FirstPiece.{IsFirst, with_first};
+ghost use Rattle.sixel_models.specs.Konsole.{konsole_model};
+ghost use Rattle.sixel_models.specs.KonsoleSeen.{HasSeenKonsole};
+ghost use Rattle.sixel_models.specs.Measuring.{HasTakenAll};
+ghost use Rattle.sixel_models.specs.Modelled.{HasFollowed};
+ghost use Rattle.sixel_models.specs.Settings.{konsole_display};
+ghost use Rattle.sixel_report.specs.declared.task.Area.{Area as AnArea};
+ghost use Rattle.sixel_show.specs.NamedScreens.{IsDrawnOf, ShowsIn, Suffices};
+
+use crate::kept::kept_with;
+use crate::show_box::follow;
+use sixel_grammar::{InputFault, Reader};
+use sixel_io::{PIECE, Source};
+use sixel_model::Colour;
+use sixel_models::{
+    Both, Konsole, Measuring, Modelled, Named, as_konsole_at_once, konsole_screen,
+    konsole_terminal, low_konsole_screen,
+};
+use sixel_report::RunFault;
+use sixel_terminal::{Drawing, Screen};
+use std::alloc::{AllocError, Global};
+
+/// A drawing as konsole reads events, and a measure of its rectangle.
+pub type OnKonsole = Both<Modelled<Konsole>, Measuring>;
+
+/// What is kept of the bytes of a document.
+#[derive(Debug, Drop)]
+pub enum Kept {
+    /// All of them.
+    Bytes(Vec<u8>),
+    /// None. They aren't needed, as sixel pixels are one pixel high.
+    Needless,
+    /// None, as there was no memory for all.
+    Lost,
+}
+
+/// A drawing on a screen of this width and height, before any event.
+pub fn begin_konsole(
+    alloc: Global,
+    background: Colour,
+    width: u32,
+    height: u32,
+) -> Result<OnKonsole, AllocError>
+    requires { IsTrue (is_screen_side width && is_screen_side height) }
+    ensures terminal { IfOk result (λ konsole. konsole.one.progress.drawing.terminal
+        ≡ konsole_display background 1 width height) }
+    ensures followed { IfOk result (λ konsole. HasFollowed konsole_model HasSeenKonsole konsole.one [] []) }
+    ensures measured { IfOk result (λ konsole. HasTakenAll konsole.other []) }
+{
+    let terminal = konsole_terminal(alloc, background, 1, width, height)?;
+    Ok(as_konsole_at_once(Drawing::new(alloc, terminal)?))
+}
+
+/// What is kept after these bytes more. `konsole` has taken their events too.
+fn kept_after(kept: Kept, konsole: &OnKonsole, more: &[u8]) -> Kept
+    ensures { (bytes : List ℕ) (before later : List AnEvent) → Suffices kept bytes before
+        → HasTakenAll konsole.now.other (before ++ later) → Suffices result (bytes ++ more.now) (before ++ later) }
+{
+    if konsole.other.stays_low() {
+        return Kept::Needless;
+    }
+    match kept {
+        Kept::Bytes(bytes) => match kept_with(Some(bytes), more) {
+            Some(longer) => Kept::Bytes(longer),
+            None => Kept::Lost,
+        },
+        Kept::Needless => Kept::Needless,
+        Kept::Lost => Kept::Lost,
+    }
+}
+
+/// Reads the source, whose first bytes are the first `read` of `piece`, to its end, and draws its document on konsole.
+/// Returns what is kept of the bytes. It reads no piece after an invalid byte.
+pub fn follow_on_konsole<S: Source>(
+    alloc: Global,
+    input: &mut S,
+    piece: &mut [u8; PIECE],
+    read: usize,
+    konsole: &mut OnKonsole,
+) -> Result<Kept, InputFault>
+    requires first { IsFirst piece.old read (S.state input.old).remaining }
+    requires followed { HasFollowed konsole_model HasSeenKonsole konsole.old.one [] [] }
+    requires measured { HasTakenAll konsole.old.other [] }
+    ensures terminal { OnOk result (konsole.new.one.progress.drawing.terminal
+        ≡ konsole.old.one.progress.drawing.terminal) }
+    ensures drawn { IfOk result (λ kept. (bytes : List ℕ) × IsDrawnOf konsole.new kept bytes
+        × IfSome (with_first piece.old read (S.state input.old).remaining) (λ told. told ≡ bytes)) }
+    ensures refused { IfErr result (λ fault.
+        IfSome (with_first piece.old read (S.state input.old).remaining) (Explains fault)) }
+    ensures memory { result ≢ Err InputFault.OutOfMemory }
+    ensures failures { (S.state input.new).failures ≡ failures_after result (S.state input.old).failures }
+    ensures unread { result ≡ Err ReadFault →
+        IfSome (with_first piece.old read (S.state input.old).remaining)
+        (NoFaultBefore (S.state input.new).remaining) }
+{
+    let mut kept = Kept::Bytes(Vec::new(alloc));
+    let mut reader = Reader::new();
+    let mut count = read;
+    while count > 0 {
+        follow(&mut reader, konsole, &piece[..count])?;
+        kept = kept_after(kept, konsole, &piece[..count]);
+        count = input.fill(piece)?;
+    }
+    reader.finish()?;
+    Ok(kept)
+}
+
+/// The screen of konsole after the document that it has drawn. If its sixel pixels are higher than one pixel, the kept
+/// bytes are read once more.
+pub fn screen_by(
+    alloc: Global,
+    background: Colour,
+    width: u32,
+    height: u32,
+    konsole: OnKonsole,
+    kept: Kept,
+) -> Result<Screen, RunFault>
+    requires sides { IsTrue (is_screen_side width && is_screen_side height) }
+    requires terminal { konsole.one.progress.drawing.terminal ≡ konsole_display background 1 width height }
+    requires drawn { (bytes : List ℕ) × IsDrawnOf konsole kept bytes }
+    ensures { (bytes : List ℕ) → IsDrawnOf konsole kept bytes
+        → ShowsIn Named.Konsole background (AnArea.Sides width height) bytes result }
+{
+    match kept {
+        Kept::Bytes(bytes) => Ok(konsole_screen(
+            alloc, background, width, height, konsole, &bytes,
+        )?),
+        Kept::Needless => match low_konsole_screen(konsole) {
+            Ok(screen) => Ok(screen),
+            Err(place) => Err(RunFault::Unmodelled { place }),
+        },
+        Kept::Lost => Err(RunFault::OutOfMemory),
+    }
+}

@@ -1,0 +1,452 @@
+//! Shows a sixel picture as a named terminal does, as a PPM.
+
+ghost use Rattle.std.specs.Prelude.{◌≡◌, ◌≢◌, ◌<◌, ◌≤◌, ◌&&◌, [], ℕ, Err, IfErr, IfOk, IfSome, IsTrue, List, None};
+ghost use Rattle.std.specs.Prelude.{Option, false, length, take, true};
+ghost use Rattle.std.specs.Io.KnownBytes.{Consumes};
+ghost use Rattle.sixel_io.specs.Devices.{CountsFailure};
+ghost use Rattle.sixel_grammar.specs.declared.command.Event.{Event as AnEvent};
+ghost use Rattle.sixel_grammar.specs.declared.command.Placed.{Placed as Place};
+ghost use Rattle.sixel_grammar.specs.Document.{Document, IsDocument, events_of};
+ghost use Rattle.sixel_grammar.specs.declared.fault.InputFault.TheVariants.{Read as ReadFault};
+ghost use Rattle.sixel_grammar.specs.Reading.{Explains, NoFaultBefore, failures_after};
+ghost use Rattle.sixel_terminal.specs.Limits.{is_screen_side};
+ghost use Rattle.sixel_models.specs.FirstPiece.{IsFirst, with_first};
+ghost use Rattle.sixel_report.specs.declared.fault.RunFault.TheVariants.{Read};
+ghost use Rattle.sixel_report.specs.declared.task.Area.{Area as AnArea};
+ghost use Rattle.sixel_show.specs.Boxes.{box_in};
+ghost use Rattle.sixel_show.specs.NamedScreens.{AreMeasuresOf, HaveNoFault, HasSidesAfter, ShowsIn};
+ghost use Rattle.sixel_report.specs.Outputs.{CountsWrites, HasSidesIn, WroteBy, WroteNothing, failures_by};
+ghost use Rattle.sixel_show.specs.Outputs.{ShowOnGives, sides_in};
+
+use crate::box_finder::BoxFinder;
+use crate::draw::read_rest;
+use crate::kept::follow_kept;
+use crate::on_konsole::{begin_konsole, follow_on_konsole, screen_by};
+use crate::screen::write_ppm_screen;
+use crate::show_box::{follow, sides_of_box};
+use sixel_grammar::{Command, InputFault, Reader};
+use sixel_io::{DeviceFault, PIECE, Sink, Source};
+use sixel_model::Colour;
+use sixel_models::{Both, Measuring, Named};
+use sixel_report::{Area, RunFault, Status};
+use sixel_terminal::Screen;
+use std::alloc::Global;
+
+/// Reads the whole input, and writes the screen that the named terminal shows then. It doesn't flush.
+///
+/// On a screen whose sides are given, or declared in the first bytes, it draws while it reads. Otherwise the sides of
+/// the declared box are known at the end only, so it keeps the bytes. Without memory for them they are still read, so
+/// that a string that is no document gets its own fault.
+pub fn show_on<S: Source, K: Sink>(
+    alloc: Global,
+    named: Named,
+    background: Colour,
+    area: Area,
+    input: &mut S,
+    piece: &mut [u8; PIECE],
+    output: &mut K,
+) -> Result<Status, RunFault>
+    requires { HasSidesIn area }
+    ensures wrote { IfSome (S.state input.old).remaining (λ bytes.
+        WroteBy (ShowOnGives named background area bytes) WroteNothing result
+        (K.state output.old).taken (K.state output.new).taken) }
+    ensures memory { result ≡ Err RunFault.OutOfMemory → IfSome (S.state input.old).remaining IsDocument }
+    ensures reads { (S.state input.new).failures ≡ failures_by Read result (S.state input.old).failures }
+    ensures unread { result ≡ Err Read →
+        IfSome (S.state input.old).remaining (NoFaultBefore (S.state input.new).remaining) }
+    ensures writes { CountsWrites result (K.state output.old).failures (K.state output.new).failures }
+{
+    match read_first(area, input, piece) {
+        Ok(read) => show_rest(alloc, named, background, area, input, piece, read, output),
+        Err(_) => Err(RunFault::Read),
+    }
+}
+
+/// Reads the first bytes of a document. Returns how many they are, 0 only at the end. If the sides of the screen are
+/// those of a box that isn't declared in them, it reads once more: the program gives the bytes by which it told a
+/// format as a piece of their own.
+fn read_first<S: Source>(
+    area: Area,
+    input: &mut S,
+    piece: &mut [u8; PIECE],
+) -> Result<usize, DeviceFault>
+    ensures first { IfOk result (λ read. IsFirst piece.new read (S.state input.new).remaining) }
+    ensures read { IfOk result (λ read.
+        Consumes (S.state input.old).remaining (S.state input.new).remaining (take read piece.new)) }
+    ensures unread { IfErr result (λ fault.
+        IfSome (S.state input.old).remaining (NoFaultBefore (S.state input.new).remaining)) }
+    ensures failures { CountsFailure result (S.state input.old).failures (S.state input.new).failures }
+{
+    let read = input.fill(piece)?;
+    if wants_more(area, &piece[..read]) {
+        read_behind(input, piece, read)
+    } else {
+        Ok(read)
+    }
+}
+
+/// Whether the sides of the screen may be known by more bytes of a document than these.
+fn wants_more(area: Area, first: &[u8]) -> bool
+    ensures some { result ≡ true → 0 < length first.now }
+    ensures room { result ≡ true → length first.now < 65536 }
+    ensures stands { result ≡ true → HaveNoFault first.now }
+{
+    match area {
+        Area::Sides { .. } => false,
+        Area::Box => !first.is_empty() && first.len() < PIECE && declares_none(first),
+    }
+}
+
+/// Whether these first bytes of a document have no fault, and declare no box.
+fn declares_none(first: &[u8]) -> bool
+    ensures { result ≡ true → HaveNoFault first.now }
+{
+    let mut reader = Reader::new();
+    let mut finder = BoxFinder { found: None };
+    match follow(&mut reader, &mut finder, first) {
+        Ok(()) => finder.found.is_none(),
+        Err(_) => false,
+    }
+}
+
+/// Reads once more, behind the first `read` bytes of the piece, which have no fault. Returns how many bytes it has
+/// then.
+fn read_behind<S: Source>(
+    input: &mut S,
+    piece: &mut [u8; PIECE],
+    read: usize,
+) -> Result<usize, DeviceFault>
+    requires some { 0 < read }
+    requires room { read < 65536 }
+    requires stands { HaveNoFault (take read piece.old) }
+    ensures more { IfOk result (λ all. (read ≤ all) × (all ≤ length piece.new)) }
+    ensures read { (a : Option (List ℕ)) → Consumes a (S.state input.old).remaining (take read piece.old)
+        → IfOk result (λ all. Consumes a (S.state input.new).remaining (take all piece.new)) }
+    ensures unread { (a : Option (List ℕ)) → Consumes a (S.state input.old).remaining (take read piece.old)
+        → IfErr result (λ fault. IfSome a (NoFaultBefore (S.state input.new).remaining)) }
+    ensures failures { CountsFailure result (S.state input.old).failures (S.state input.new).failures }
+{
+    let more = input.fill(&mut piece[read..])?;
+    Ok(read + more)
+}
+
+/// The same of a source whose first bytes are the first `read` of `piece`.
+fn show_rest<S: Source, K: Sink>(
+    alloc: Global,
+    named: Named,
+    background: Colour,
+    area: Area,
+    input: &mut S,
+    piece: &mut [u8; PIECE],
+    read: usize,
+    output: &mut K,
+) -> Result<Status, RunFault>
+    requires first { IsFirst piece.old read (S.state input.old).remaining }
+    requires sides { HasSidesIn area }
+    ensures wrote { IfSome (with_first piece.old read (S.state input.old).remaining) (λ bytes.
+        WroteBy (ShowOnGives named background area bytes) WroteNothing result
+        (K.state output.old).taken (K.state output.new).taken) }
+    ensures memory { result ≡ Err RunFault.OutOfMemory →
+        IfSome (with_first piece.old read (S.state input.old).remaining) IsDocument }
+    ensures reads { (S.state input.new).failures ≡ failures_by Read result (S.state input.old).failures }
+    ensures unread { result ≡ Err Read →
+        IfSome (with_first piece.old read (S.state input.old).remaining)
+        (NoFaultBefore (S.state input.new).remaining) }
+    ensures writes { CountsWrites result (K.state output.old).failures (K.state output.new).failures }
+{
+    match sides_at_first(area, &piece[..read]) {
+        Some((width, height)) if opens_with_nothing(named) => show_at_once(
+            alloc, named, background, width, height, input, piece, read, output,
+        ),
+        Some((width, height)) => show_konsole(
+            alloc, background, width, height, input, piece, read, output,
+        ),
+        None => show_in_box(alloc, named, background, input, piece, read, output),
+    }
+}
+
+/// The sides of the screen, if they are given, or if these first bytes of the document declare a box whose sides a
+/// screen can have.
+fn sides_at_first(area: Area, first: &[u8]) -> Option<(u32, u32)>
+    requires { HasSidesIn area }
+    ensures known { IfSome result (HasSidesAfter area first.now) }
+    ensures sides { IfSome result (λ sides. IsTrue (is_screen_side sides.0 && is_screen_side sides.1)) }
+    ensures none { result ≡ None → area ≡ AnArea.Box }
+{
+    match area {
+        Area::Sides { width, height } => Some((width, height)),
+        Area::Box => box_at_first(first),
+    }
+}
+
+/// The sides of the box that these first bytes of a document declare, if they do, and if a screen can have them.
+fn box_at_first(first: &[u8]) -> Option<(u32, u32)>
+    ensures known { IfSome result (HasSidesAfter AnArea.Box first.now) }
+    ensures sides { IfSome result (λ sides. IsTrue (is_screen_side sides.0 && is_screen_side sides.1)) }
+{
+    let mut reader = Reader::new();
+    let mut finder = BoxFinder { found: None };
+    match follow(&mut reader, &mut finder, first) {
+        Ok(()) => sides_of(finder.found),
+        Err(_) => None,
+    }
+}
+
+/// Whether the terminal's model draws nothing before the first event.
+fn opens_with_nothing(named: Named) -> bool
+    ensures others { result ≡ true → named ≢ Named.Konsole }
+    ensures konsole { result ≡ false → named ≡ Named.Konsole }
+{
+    match named {
+        Named::XTerm | Named::MlTerm | Named::Foot => true,
+        Named::Konsole => false,
+    }
+}
+
+/// The same for a screen of this width and height, and a model that draws nothing before the first event.
+fn show_at_once<S: Source, K: Sink>(
+    alloc: Global,
+    named: Named,
+    background: Colour,
+    width: u32,
+    height: u32,
+    input: &mut S,
+    piece: &mut [u8; PIECE],
+    read: usize,
+    output: &mut K,
+) -> Result<Status, RunFault>
+    requires first { IsFirst piece.old read (S.state input.old).remaining }
+    requires sides { IsTrue (is_screen_side width && is_screen_side height) }
+    requires opening { named ≢ Named.Konsole }
+    ensures wrote { IfSome (with_first piece.old read (S.state input.old).remaining) (λ bytes.
+        WroteBy (ShowOnGives named background (AnArea.Sides width height) bytes) WroteNothing result
+        (K.state output.old).taken (K.state output.new).taken) }
+    ensures memory { result ≡ Err RunFault.OutOfMemory →
+        IfSome (with_first piece.old read (S.state input.old).remaining) IsDocument }
+    ensures reads { (S.state input.new).failures ≡ failures_by Read result (S.state input.old).failures }
+    ensures unread { result ≡ Err Read →
+        IfSome (with_first piece.old read (S.state input.old).remaining)
+        (NoFaultBefore (S.state input.new).remaining) }
+    ensures writes { CountsWrites result (K.state output.old).failures (K.state output.new).failures }
+{
+    match sixel_models::show_at_once(alloc, named, background, width, height, input, piece, read) {
+        Ok(Ok(screen)) => {
+            write_ppm_screen(&screen, output)?;
+            Ok(Status::Done)
+        }
+        Ok(Err(place)) => Err(RunFault::Unmodelled { place }),
+        Err(InputFault::OutOfMemory) => {
+            read_rest(input, piece, read)?;
+            Err(RunFault::OutOfMemory)
+        }
+        Err(fault) => Err(fault.into()),
+    }
+}
+
+/// The same for konsole. Its rectangle is known at the end only, so it is measured meanwhile, and laid under the
+/// drawing then.
+fn show_konsole<S: Source, K: Sink>(
+    alloc: Global,
+    background: Colour,
+    width: u32,
+    height: u32,
+    input: &mut S,
+    piece: &mut [u8; PIECE],
+    read: usize,
+    output: &mut K,
+) -> Result<Status, RunFault>
+    requires first { IsFirst piece.old read (S.state input.old).remaining }
+    requires sides { IsTrue (is_screen_side width && is_screen_side height) }
+    ensures wrote { IfSome (with_first piece.old read (S.state input.old).remaining) (λ bytes.
+        WroteBy (ShowOnGives Named.Konsole background (AnArea.Sides width height) bytes) WroteNothing result
+        (K.state output.old).taken (K.state output.new).taken) }
+    ensures memory { result ≡ Err RunFault.OutOfMemory →
+        IfSome (with_first piece.old read (S.state input.old).remaining) IsDocument }
+    ensures reads { (S.state input.new).failures ≡ failures_by Read result (S.state input.old).failures }
+    ensures unread { result ≡ Err Read →
+        IfSome (with_first piece.old read (S.state input.old).remaining)
+        (NoFaultBefore (S.state input.new).remaining) }
+    ensures writes { CountsWrites result (K.state output.old).failures (K.state output.new).failures }
+{
+    let Ok(mut konsole) = begin_konsole(alloc, background, width, height) else {
+        read_rest(input, piece, read)?;
+        return Err(RunFault::OutOfMemory);
+    };
+    let kept = follow_on_konsole(alloc, input, piece, read, &mut konsole)?;
+    let screen = screen_by(alloc, background, width, height, konsole, kept)?;
+    write_ppm_screen(&screen, output)?;
+    Ok(Status::Done)
+}
+
+/// The same as `show_on` for a screen with the sides of the declared box.
+fn show_in_box<S: Source, K: Sink>(
+    alloc: Global,
+    named: Named,
+    background: Colour,
+    input: &mut S,
+    piece: &mut [u8; PIECE],
+    read: usize,
+    output: &mut K,
+) -> Result<Status, RunFault>
+    requires { IsFirst piece.old read (S.state input.old).remaining }
+    ensures wrote { IfSome (with_first piece.old read (S.state input.old).remaining) (λ bytes.
+        WroteBy (ShowOnGives named background AnArea.Box bytes) WroteNothing result
+        (K.state output.old).taken (K.state output.new).taken) }
+    ensures memory { result ≡ Err RunFault.OutOfMemory →
+        IfSome (with_first piece.old read (S.state input.old).remaining) IsDocument }
+    ensures reads { (S.state input.new).failures ≡ failures_by Read result (S.state input.old).failures }
+    ensures unread { result ≡ Err Read →
+        IfSome (with_first piece.old read (S.state input.old).remaining)
+        (NoFaultBefore (S.state input.new).remaining) }
+    ensures writes { CountsWrites result (K.state output.old).failures (K.state output.new).failures }
+{
+    let (kept, measures) = measure(alloc, named, input, piece, read)?;
+    let Some(bytes) = kept else {
+        return Err(RunFault::OutOfMemory);
+    };
+    let screen = shown(alloc, named, background, measures, &bytes)?;
+    write_ppm_screen(&screen, output)?;
+    Ok(Status::Done)
+}
+
+/// What a screen of a named terminal needs to know of all events of a document.
+#[derive(Clone, Copy, Debug)]
+struct Measures {
+    /// The width and the height of the box that they declare.
+    declared: Option<(u16, u16)>,
+    /// What the terminal's model draws before the first one.
+    opening: Option<Command>,
+}
+
+/// Reads the source to its end. Returns the bytes of the document, if there is memory for them, and its measures.
+fn measure<S: Source>(
+    alloc: Global,
+    named: Named,
+    input: &mut S,
+    piece: &mut [u8; PIECE],
+    read: usize,
+) -> Result<(Option<Vec<u8>>, Measures), InputFault>
+    requires { IsFirst piece.old read (S.state input.old).remaining }
+    ensures read { IfOk result (λ document. IfSome document.0 (λ kept.
+        IfSome (with_first piece.old read (S.state input.old).remaining) (λ told. told ≡ kept.items))) }
+    ensures measured { IfOk result (λ document. IfSome document.0 (λ kept.
+        (placed : List Place) × Document placed kept.items × AreMeasuresOf named document.1 (events_of placed))) }
+    ensures told { IfOk result (λ document.
+        IfSome (with_first piece.old read (S.state input.old).remaining) IsDocument) }
+    ensures refused { IfErr result (λ fault.
+        IfSome (with_first piece.old read (S.state input.old).remaining) (Explains fault)) }
+    ensures memory { result ≢ Err InputFault.OutOfMemory }
+    ensures failures { (S.state input.new).failures ≡ failures_after result (S.state input.old).failures }
+    ensures unread { result ≡ Err ReadFault →
+        IfSome (with_first piece.old read (S.state input.old).remaining)
+        (NoFaultBefore (S.state input.new).remaining) }
+{
+    match named {
+        Named::Konsole => measure_for_konsole(alloc, input, piece, read),
+        Named::XTerm | Named::MlTerm | Named::Foot => find_box(alloc, named, input, piece, read),
+    }
+}
+
+/// The same for a terminal whose model draws nothing before the first event.
+fn find_box<S: Source>(
+    alloc: Global,
+    named: Named,
+    input: &mut S,
+    piece: &mut [u8; PIECE],
+    read: usize,
+) -> Result<(Option<Vec<u8>>, Measures), InputFault>
+    requires first { IsFirst piece.old read (S.state input.old).remaining }
+    requires opening { named ≢ Named.Konsole }
+    ensures read { IfOk result (λ document. IfSome document.0 (λ kept.
+        IfSome (with_first piece.old read (S.state input.old).remaining) (λ told. told ≡ kept.items))) }
+    ensures measured { IfOk result (λ document. IfSome document.0 (λ kept.
+        (placed : List Place) × Document placed kept.items × AreMeasuresOf named document.1 (events_of placed))) }
+    ensures told { IfOk result (λ document.
+        IfSome (with_first piece.old read (S.state input.old).remaining) IsDocument) }
+    ensures refused { IfErr result (λ fault.
+        IfSome (with_first piece.old read (S.state input.old).remaining) (Explains fault)) }
+    ensures memory { result ≢ Err InputFault.OutOfMemory }
+    ensures failures { (S.state input.new).failures ≡ failures_after result (S.state input.old).failures }
+    ensures unread { result ≡ Err ReadFault →
+        IfSome (with_first piece.old read (S.state input.old).remaining)
+        (NoFaultBefore (S.state input.new).remaining) }
+{
+    let mut finder = BoxFinder { found: None };
+    let kept = follow_kept(alloc, input, piece, read, &mut finder)?;
+    let measures = Measures {
+        declared: finder.found,
+        opening: None,
+    };
+    Ok((kept, measures))
+}
+
+/// The same for konsole.
+fn measure_for_konsole<S: Source>(
+    alloc: Global,
+    input: &mut S,
+    piece: &mut [u8; PIECE],
+    read: usize,
+) -> Result<(Option<Vec<u8>>, Measures), InputFault>
+    requires { IsFirst piece.old read (S.state input.old).remaining }
+    ensures read { IfOk result (λ document. IfSome document.0 (λ kept.
+        IfSome (with_first piece.old read (S.state input.old).remaining) (λ told. told ≡ kept.items))) }
+    ensures measured { IfOk result (λ document. IfSome document.0 (λ kept.
+        (placed : List Place) × Document placed kept.items × AreMeasuresOf Named.Konsole document.1 (events_of placed))) }
+    ensures told { IfOk result (λ document.
+        IfSome (with_first piece.old read (S.state input.old).remaining) IsDocument) }
+    ensures refused { IfErr result (λ fault.
+        IfSome (with_first piece.old read (S.state input.old).remaining) (Explains fault)) }
+    ensures memory { result ≢ Err InputFault.OutOfMemory }
+    ensures failures { (S.state input.new).failures ≡ failures_after result (S.state input.old).failures }
+    ensures unread { result ≡ Err ReadFault →
+        IfSome (with_first piece.old read (S.state input.old).remaining)
+        (NoFaultBefore (S.state input.new).remaining) }
+{
+    let mut both = Both {
+        one: BoxFinder { found: None },
+        other: Measuring::new(),
+    };
+    let kept = follow_kept(alloc, input, piece, read, &mut both)?;
+    let Both { one, other } = both;
+    let measures = Measures {
+        declared: one.found,
+        opening: Named::Konsole.opening(other),
+    };
+    Ok((kept, measures))
+}
+
+/// The screen of the named terminal after the document of these bytes. If no screen can have the sides of the declared
+/// box, the model is still asked, on a screen of one pixel, so that a string of which it doesn't say all gets that
+/// fault.
+fn shown(
+    alloc: Global,
+    named: Named,
+    background: Colour,
+    measures: Measures,
+    bytes: &[u8],
+) -> Result<Screen, RunFault>
+    requires { (placed : List Place) × Document placed bytes.now × AreMeasuresOf named measures (events_of placed) }
+    ensures { ShowsIn named background AnArea.Box bytes.now result }
+{
+    let Measures { declared, opening } = measures;
+    match sides_of(declared) {
+        Some((width, height)) => Ok(sixel_models::show_on(
+            alloc, named, background, width, height, opening, bytes,
+        )?),
+        None => {
+            sixel_models::show_on(alloc, named, background, 1, 1, opening, bytes)?;
+            Err(RunFault::NoBox)
+        }
+    }
+}
+
+/// The sides of the declared box, if a screen can have them.
+fn sides_of(declared: Option<(u16, u16)>) -> Option<(u32, u32)>
+    ensures value { (events : List AnEvent) → declared ≡ box_in events → result ≡ sides_in AnArea.Box events }
+    ensures sides { IfSome result (λ sides. IsTrue (is_screen_side sides.0 && is_screen_side sides.1)) }
+{
+    match declared {
+        Some((width, height)) => sides_of_box(width, height),
+        None => None,
+    }
+}
