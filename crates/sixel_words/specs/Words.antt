@@ -171,10 +171,6 @@ sixel_app =
     (plain_app (codes "list")).top) check_app.top) survey_app.top) scan_app.top) (profiled_app (codes "render")).top)
     (profiled_app (codes "encode")).top) show_app.top) differ_app.top) mend_app.top) explain_app.top
 
--- the flags of `check` for its profile and for no lines
-abbrev pub check_flags : List Text
-check_flags = codes "-q" ∷ codes "--quiet" ∷ codes "--wide" ∷ []
-
 -- whether this is one of the words
 abbrev pub is_among : List Text → Text → Bool
 is_among words word = list_any (bytes_eq word) words

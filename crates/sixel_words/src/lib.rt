@@ -6,7 +6,6 @@ mod check_words;
 mod colours;
 mod commands;
 mod differ_words;
-pub mod laws;
 mod options;
 mod show_errors;
 mod show_words;
