@@ -1,7 +1,7 @@
 -- How requests end: over standard input or files, quiet or not.
-use Rattle.std.specs.Prelude.{◌≡◌, ◌≢◌, ◌⊎◌, ◌-◌, ◌^◌, ◌<◌, ◌&&◌, ◌||◌, ◌∷◌, ◌++◌, ℕ, Bool, not, true, false, List, []}
-use Rattle.std.specs.Prelude.{Option, Some, None, IfSome, Result, Ok, Err, codes, flat_map, fold, map, take, nat_lt}
-use Rattle.std.specs.Prelude.{◌≤◌, OnOk, count_by, length, option_to_list, if◌then◌else◌, ⊤}
+use Rattle.std.specs.Prelude.{◌≡◌, ◌≢◌, ◌⊎◌, ◌-◌, ◌&&◌, ◌||◌, ◌∷◌, ◌++◌, ℕ, Bool, not, true, false, List, [], Option}
+use Rattle.std.specs.Prelude.{Some, None, IfSome, Result, Ok, Err, codes, flat_map, fold, map, take, nat_lt, ◌≤◌, OnOk}
+use Rattle.std.specs.Prelude.{count_by, length, option_to_list, if◌then◌else◌, ⊤}
 use Rattle.std.specs.Io.KnownBytes.{Appends, Keeps}
 use Rattle.std.specs.List.{All, list_any}
 use Rattle.std.specs.Str.{bytes_eq}
@@ -351,15 +351,6 @@ pub record IsChecked {O E : Type 0} (t : Task) (lines : Lines) (folder : FolderV
   pub opening : IsFileOpening folder e
   pub written : OnOk result (e.answer ≢ Err run.Write)
   pub outcome : IsOutcome lines label e.unopened e.format e.items e.answer result output errors
-
--- a call on a sink failed: its count of failures rose, or is the greatest `u64`
-abbrev pub HasFailed : Change SinkState → Type 0
-HasFailed sink = (sink.old.failures < sink.new.failures) ⊎ (sink.new.failures ≡ 2 ^ 64 - 1)
-
--- the text was appended to the bytes of a sink, or a call on the sink failed
-abbrev pub IsSaid : Text → Change SinkState → Type 0
-IsSaid text sink =
-    (Appends sink.old.taken sink.new.taken text × (sink.new.failures ≡ sink.old.failures)) ⊎ HasFailed sink
 
 -- all inputs with these labels were checked in turn and ended so
 pub record AreChecked {O : Type 0} (t : Task) (lines : Lines) (folder : FolderView O) (ends : List FileEnd)

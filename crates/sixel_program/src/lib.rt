@@ -9,7 +9,6 @@ mod files;
 mod folder;
 mod formats;
 mod hints;
-pub mod laws;
 mod names;
 mod notes;
 mod nowhere;

@@ -20,7 +20,8 @@ use Rattle.json.specs.Print.{print_from, quoted, separator, token_text}
 use Rattle.json.specs.Token.{Token, begin_object, end_object, key}
 use Rattle.sixel_report.specs.Texts.{IsLine, Text}
 use Rattle.sixel_report.proofs.DigitLemmas.{AreDigits, number_digits}
-use Rattle.sixel_program.specs.Json.{HaveValues, IsValue, Member, json_line, members_of, object, tokens_of, value_of}
+use Rattle.sixel_program.specs.Json.{Member, json_line, object, tokens_of}
+use Rattle.sixel_program_laws.specs.Laws.{HaveValues, IsValue, members_of, value_of}
 
 abbrev AllHave : List Member → Type 0
 AllHave members = AllByRecursion (λ (member : Member). IsValue member.1) members

@@ -9,9 +9,10 @@ use Rattle.sixel_survey.specs.declared.entry.Entry.{Entry}
 use Rattle.sixel_report.specs.Texts.{Text, asked_entry_line, entry_line, line, pixel_parts, rule_name, spaced}
 use Rattle.sixel_explain.specs.declared.explanations.Topic.{Topic}
 use Rattle.sixel_explain.specs.declared.explanations.Topic.TheVariants as topic
-use Rattle.sixel_explain.specs.Explanations.{ArePasted, line_of, names_in, topic_name}
-use Rattle.sixel_explain.proofs.PastedLemmas.{line_after, low, low_number, name_before_number, number_nameless, pasted}
-use Rattle.sixel_explain.proofs.PastedLemmas.{two_numbers}
+use Rattle.sixel_explain.specs.Explanations.{line_of, names_in, topic_name}
+use Rattle.sixel_explain_laws.specs.Laws.{ArePasted}
+use Rattle.sixel_explain_laws.proofs.PastedLemmas.{line_after, low, low_number, name_before_number, number_nameless}
+use Rattle.sixel_explain_laws.proofs.PastedLemmas.{pasted, two_numbers}
 
 -- a name, two numbers, and the numbers of a pixel or none
 entry_named : (text : Text) (t : Topic) (count place : ℕ) (pixel : List Text)

@@ -30,14 +30,20 @@ use Rattle.sixel_report.specs.Texts.{Text, asked_line, fault_parts, finding_line
 use Rattle.sixel_report.proofs.DigitLemmas.{AreDigits, number, number_digits}
 use Rattle.sixel_explain.specs.declared.explanations.Topic.{Topic}
 use Rattle.sixel_explain.specs.declared.explanations.Topic.TheVariants as topic
-use Rattle.sixel_explain.specs.Explanations.{ArePasted, ends_in, is_line, is_mark, last_name, line_of, listed}
-use Rattle.sixel_explain.specs.Explanations.{listed_names, name_called, names_in, topic_name, topic_of, topic_of_end}
-use Rattle.sixel_explain.specs.Explanations.{words_of}
-use Rattle.sixel_explain.proofs.LineLemmas.{by_end, by_word, last_of_both, line_asks, no_name}
+use Rattle.sixel_explain.specs.Explanations.{ends_in, is_line, is_mark, last_name, line_of, listed, listed_names}
+use Rattle.sixel_explain.specs.Explanations.{name_called, names_in, topic_name, topic_of, topic_of_end, words_of}
+use Rattle.sixel_explain.proofs.LineLemmas.{by_end, by_word, last_of_both, no_name}
+use Rattle.sixel_explain_laws.specs.Laws.{ArePasted}
 use Rattle.sixel_explain.proofs.NameLemmas.{each, name_listed}
 
 abbrev pub low : Text → Text
 low text = str_to_ascii_lowercase text
+
+-- ---- a line and its name
+
+-- a line asks for the one name in it
+line_asks : (line name : Text) → is_line line ≡ true → name_in line ≡ Some name → names_in line ≡ Some (name ∷ [])
+line_asks line name is named = rw (is, named) refl
 
 -- ---- words
 

@@ -15,20 +15,21 @@ use Rattle.sixel_scan.specs.declared.answer.Answer.TheVariants.{Broken, Refused}
 use Rattle.sixel_report.specs.Texts.{Text, asked_entry_line, asked_line, entry_line, finding_line, line, reason_name}
 use Rattle.sixel_report.specs.Texts.{rule_name, string_line}
 use Rattle.sixel_explain.specs.declared.explanations.Topic.TheVariants.{Grammar, Read}
-use Rattle.sixel_explain.specs.Explanations.{ArePasted, line_of, names_in, topic_name, topic_of, topic_of_end}
-use Rattle.sixel_explain.proofs.PastedLemmas.{EndsInColon, asked_pasted, ending_pasted, fault_pasted, finding_pasted}
-use Rattle.sixel_explain.proofs.PastedLemmas.{is_a_folder, low, no_such_file, not_utf8, permission_denied, read_failed}
-use Rattle.sixel_explain.proofs.PastedLemmas.{the_input_is_empty}
-use Rattle.sixel_program.proofs.EntryLemmas.{asked_entry_pasted, asked_entry_pasted_after, entry_pasted}
-use Rattle.sixel_program.proofs.EntryLemmas.{entry_pasted_after}
-use Rattle.sixel_program.proofs.StringLineLemmas.{string_finding_pasted, string_refusal_pasted}
+use Rattle.sixel_explain.specs.Explanations.{line_of, names_in, topic_name, topic_of, topic_of_end}
+use Rattle.sixel_explain_laws.specs.Laws.{ArePasted}
+use Rattle.sixel_explain_laws.proofs.PastedLemmas.{EndsInColon, asked_pasted, ending_pasted, fault_pasted}
+use Rattle.sixel_explain_laws.proofs.PastedLemmas.{finding_pasted, is_a_folder, low, no_such_file, not_utf8}
+use Rattle.sixel_explain_laws.proofs.PastedLemmas.{permission_denied, read_failed, the_input_is_empty}
+use Rattle.sixel_explain_laws.proofs.EntryLemmas.{asked_entry_pasted, asked_entry_pasted_after, entry_pasted}
+use Rattle.sixel_explain_laws.proofs.EntryLemmas.{entry_pasted_after}
+use Rattle.sixel_explain_laws.proofs.StringLineLemmas.{string_finding_pasted, string_refusal_pasted}
 use Rattle.sixel_program.specs.declared.folder.Unopened.{Unopened}
 use Rattle.sixel_program.specs.declared.folder.Unopened.TheVariants.{Failed, IsFolder, NotFound, NotText, Links}
 use Rattle.sixel_program.specs.declared.folder.Unopened.TheVariants.{LongName, NotFolder, PermissionDenied}
 use Rattle.sixel_program.specs.Exits.{fault_said, labelled}
 use Rattle.sixel_program.specs.Names.{printed, unopened_line}
 use Rattle.sixel_program.specs.Openings.{reason_text}
-use Rattle.sixel_program.proofs.laws.each_line_can_be_explained.Goals as goal
+use Rattle.sixel_explain_laws.proofs.laws.each_line_can_be_explained.Goals as goal
 
 -- what is before the line of a file
 abbrev begun : Text → Text

@@ -17,7 +17,7 @@ use Rattle.sixel_report.specs.declared.item.Item.{Item}
 use Rattle.sixel_report.specs.declared.item.Item.TheVariants.{Asked, AskedEntry, Outcome, Entry, Group, Same, String}
 use Rattle.sixel_report.specs.declared.item.Item.TheVariants.{Unmodelled}
 use Rattle.sixel_program.specs.declared.folder.Unopened.{Unopened}
-use Rattle.sixel_program.specs.Json.{FitsAnswer, FitsFault, FitsItem, FitsOutcome, FitsPixel, HaveValues, IsValue}
+use Rattle.sixel_program_laws.specs.Laws.{FitsAnswer, FitsFault, FitsItem, FitsOutcome, FitsPixel, HaveValues, IsValue}
 use Rattle.sixel_program.specs.Json.{Member, answer_members, broken_at, fault_members, file_member, item_members}
 use Rattle.sixel_program.specs.Json.{outcome_members, pixel_members, unread_members}
 

@@ -1,6 +1,6 @@
 use Rattle.sixel_model.specs.Profiles.{count_of}
-use Rattle.sixel_program.proofs.EmptyLemmas.{empty_picture, empty_text}
-use Rattle.sixel_program.proofs.laws.empty_inputs_are_named.Goals as goal
+use Rattle.sixel_program_laws.proofs.EmptyLemmas.{empty_picture, empty_text}
+use Rattle.sixel_program_laws.proofs.laws.empty_inputs_are_named.Goals as goal
 
 pub returns : goal.returns
 returns c = record {

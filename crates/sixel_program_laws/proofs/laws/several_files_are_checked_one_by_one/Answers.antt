@@ -2,10 +2,10 @@ use Rattle.std.proofs.Common.{◌∙◌}
 use Rattle.std.proofs.lemmas.Grind.{flat_map-append}
 use Rattle.std.proofs.lemmas.List.{append-nil}
 use Rattle.sixel_program.specs.Files.{text_of_end}
-use Rattle.sixel_program.proofs.FeedLemmas.{item_is_line}
-use Rattle.sixel_program.proofs.SeveralLemmas.{alone, failures_of, faulty, greatest_of, quiet, reached, refused}
-use Rattle.sixel_program.proofs.SeveralLemmas.{said_whole, unended}
-use Rattle.sixel_program.proofs.laws.several_files_are_checked_one_by_one.Goals as goal
+use Rattle.sixel_program_laws.proofs.FeedLemmas.{item_is_line}
+use Rattle.sixel_program.proofs.SeveralLemmas.{greatest_of, reached}
+use Rattle.sixel_program_laws.proofs.SaidLemmas.{alone, failures_of, faulty, quiet, refused, said_whole, unended}
+use Rattle.sixel_program_laws.proofs.laws.several_files_are_checked_one_by_one.Goals as goal
 
 pub returns : goal.returns
 returns c = record {

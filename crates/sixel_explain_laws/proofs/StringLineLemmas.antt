@@ -7,9 +7,10 @@ use Rattle.sixel_scan.specs.declared.answer.Scanned.{Scanned}
 use Rattle.sixel_scan.specs.declared.answer.Answer.TheVariants.{Broken, Refused}
 use Rattle.sixel_report.specs.Texts.{Text, finding_line, reason_name, refusal_line, rule_name, spaced, string_line}
 use Rattle.sixel_explain.specs.declared.explanations.Topic.TheVariants as topic
-use Rattle.sixel_explain.specs.Explanations.{ArePasted, line_of, names_in}
-use Rattle.sixel_explain.proofs.PastedLemmas.{finding_pasted, line_after, low, low_number, name_before_number}
-use Rattle.sixel_explain.proofs.PastedLemmas.{number_nameless, pasted}
+use Rattle.sixel_explain.specs.Explanations.{line_of, names_in}
+use Rattle.sixel_explain_laws.specs.Laws.{ArePasted}
+use Rattle.sixel_explain_laws.proofs.PastedLemmas.{finding_pasted, line_after, low, low_number, name_before_number}
+use Rattle.sixel_explain_laws.proofs.PastedLemmas.{number_nameless, pasted}
 
 -- the line of a string that is no document, whatever is before it
 refusal_pasted : (before : Text) (f : Fault) (said : List Text) → ArePasted said (before ++ refusal_line f)

@@ -1,7 +1,7 @@
 use Rattle.sixel_explain.specs.declared.explanations.Topic.TheVariants.{Asked, Rule}
 use Rattle.sixel_explain.specs.Explanations.{topic_of}
 use Rattle.sixel_explain.proofs.NameLemmas.{name_listed}
-use Rattle.sixel_explain.proofs.laws.each_name_is_listed.Goals as goal
+use Rattle.sixel_explain_laws.proofs.laws.each_name_is_listed.Goals as goal
 
 pub returns : goal.returns
 returns c = record {

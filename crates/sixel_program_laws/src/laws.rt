@@ -8,7 +8,6 @@ ghost use Rattle.json.specs.Lex.{tokens};
 ghost use Rattle.sixel_io.specs.Devices.{Change, SinkState};
 ghost use Rattle.sixel_grammar.specs.Faults.{IsFaultOf};
 ghost use Rattle.sixel_grammar.specs.declared.fault.Fault.{Fault};
-ghost use Rattle.sixel_grammar.specs.declared.fault.Reason.TheVariants.{Truncated};
 ghost use Rattle.sixel_ppm.specs.PpmReading.{at_fault, ppm_read};
 ghost use Rattle.sixel_ppm.specs.declared.ppm.PpmReason.{PpmReason};
 ghost use Rattle.sixel_report.specs.declared.fault.RunFault.{RunFault};
@@ -21,31 +20,23 @@ ghost use Rattle.sixel_scan.specs.declared.answer.Scanned.{Scanned};
 ghost use Rattle.sixel_model.specs.Profiles.{count_of};
 ghost use Rattle.sixel_model.specs.declared.profile.Profile.{Profile};
 ghost use Rattle.sixel_report.specs.declared.task.Status.{Status};
-ghost use Rattle.sixel_judge.specs.declared.verdict.Finding.{Finding};
-ghost use Rattle.sixel_explain.specs.Explanations.{ArePasted, Asks, topic_name, topic_of};
-ghost use Rattle.sixel_explain.specs.declared.explanations.Topic.TheVariants.{Read};
 ghost use Rattle.sixel_report.specs.declared.exit.Exit.TheVariants.{Refused as RefusedExit};
 ghost use Rattle.sixel_program.specs.declared.folder.Unopened.{Unopened};
 ghost use Rattle.sixel_report.specs.Exits.{exit_code};
-ghost use Rattle.sixel_program.specs.Exits.{fault_said, labelled};
-ghost use Rattle.sixel_program.specs.Files.{ArePut, FileEnd, IsFileEnd, IsSaid, exit_of_end, files_exit, files_text};
+ghost use Rattle.sixel_program.specs.Exits.{labelled};
+ghost use Rattle.sixel_program.specs.Files.{ArePut, FileEnd, IsFileEnd, exit_of_end, files_exit, files_text};
 ghost use Rattle.sixel_program.specs.Files.{refusal_object};
+ghost use Rattle.sixel_program_laws.specs.Laws.{IsSaid, FitsFault, FitsItem, HaveValues, members_of};
 ghost use Rattle.sixel_report.specs.Lines.{is_portable_item};
 ghost use Rattle.sixel_report.specs.declared.wanted_lines.Lines.{Lines};
 ghost use Rattle.sixel_report.specs.declared.wanted_lines.Lines.TheVariants.{Json, Nothing, Plain};
-ghost use Rattle.sixel_program.specs.Json.{FitsFault, FitsItem, HaveValues, Member, fault_members, file_member};
-ghost use Rattle.sixel_program.specs.Json.{item_members, json_line, members_of, object, unread_members};
-ghost use Rattle.sixel_program.specs.Formats.{empty_line, is_of_empty};
-ghost use Rattle.sixel_program.specs.Names.{is_control, printed, unopened_line};
+ghost use Rattle.sixel_program.specs.Json.{Member, fault_members, file_member, item_members, json_line, object};
+ghost use Rattle.sixel_program.specs.Json.{unread_members};
+ghost use Rattle.sixel_program.specs.Formats.{is_of_empty};
+ghost use Rattle.sixel_program.specs.Names.{is_control, printed};
 ghost use Rattle.sixel_report.specs.declared.item.Item.{Item};
 ghost use Rattle.sixel_run.specs.Outputs.{Gives};
-ghost use Rattle.sixel_report.specs.Texts.{IsLine, Text, asked_entry_line, asked_line, entry_line, finding_line};
-ghost use Rattle.sixel_report.specs.Texts.{item_line, items_text, reason_name, rule_name, string_line};
-ghost use Rattle.sixel_scan.specs.declared.answer.Answer.TheVariants.{Broken, Refused};
-ghost use Rattle.sixel_survey.specs.declared.entry.Entry.{Entry};
-ghost use Rattle.sixel_asked.specs.Names.{name_of};
-ghost use Rattle.sixel_asked.specs.declared.asking.AskedFinding.{AskedFinding};
-ghost use Rattle.sixel_asked.specs.declared.tally.AskedEntry.{AskedEntry};
+ghost use Rattle.sixel_report.specs.Texts.{IsLine, Text, item_line, items_text};
 
 /// The output of a task with lines over several files is that of each, joined. Each line begins with the file's
 /// name, if it was given, and without it they are the lines that the task writes over only this file's bytes. A file
@@ -89,32 +80,6 @@ pub fn names_are_printed_without_controls()
     ensures clean { (name : Text) → All (λ byte. byte < 256) name → All (λ byte. is_control byte ≡ false)
         (printed name) }
     ensures plain { (name : Text) → All (λ byte. is_control byte ≡ false) name → printed name ≡ name }
-{}
-
-/// Each line that the program writes about a broken rule, a fault, an empty input or a file that can't be opened asks for
-/// its topic, if it is pasted after `explain`. This holds for the lines of `check`, of `survey` and of `scan`, for rules
-/// of portable pictures and those that named terminals ask for, and for lines with a file's name and those without one.
-pub fn each_line_can_be_explained()
-    ensures broken { (name : Option Text) (finding : Finding) (said : List Text) →
-        ArePasted said (labelled name (finding_line finding)) → Asks (Some said) (rule_name finding.rule ∷ []) }
-    ensures asked { (name : Option Text) (finding : AskedFinding) (said : List Text) →
-        ArePasted said (labelled name (asked_line finding)) → Asks (Some said) (name_of finding.rule ∷ []) }
-    ensures surveyed { (name : Option Text) (entry : Entry) (said : List Text) →
-        ArePasted said (labelled name (entry_line entry)) → Asks (Some said) (rule_name entry.rule ∷ []) }
-    ensures asked_surveyed { (name : Option Text) (entry : AskedEntry) (said : List Text) →
-        ArePasted said (labelled name (asked_entry_line entry)) → Asks (Some said) (name_of entry.rule ∷ []) }
-    ensures scanned { (name : Option Text) (string : Scanned) (finding : Finding) (said : List Text) →
-        ArePasted said (labelled name (string_line (record string { answer = Broken finding }))) →
-        Asks (Some said) (rule_name finding.rule ∷ []) }
-    ensures scan_refused { (name : Option Text) (string : Scanned) (fault : Fault) (said : List Text) →
-        ArePasted said (labelled name (string_line (record string { answer = Refused fault }))) →
-        Asks (Some said) (reason_name fault.reason ∷ []) }
-    ensures refused { (name : Option Text) (fault : RunFault) (said : List Text) →
-        ArePasted said (fault_said name fault) → Asks (Some said) (topic_name (topic_of fault) ∷ []) }
-    ensures unopened { (name : Text) (reason : Unopened) (said : List Text) →
-        ArePasted said (unopened_line name reason) → Asks (Some said) (topic_name Read ∷ []) }
-    ensures empty { (said : List Text) →
-        ArePasted said empty_line → Asks (Some said) (reason_name Truncated ∷ []) }
 {}
 
 /// An object of JSON is written as one line, whatever the file's name. What comes before the line feed reads back as the
