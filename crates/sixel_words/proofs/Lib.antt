@@ -1,4 +1,3 @@
-pub mod CommandLemmas
 pub mod MatchLemmas
 pub mod DifferLemmas
 pub mod ExplainLemmas

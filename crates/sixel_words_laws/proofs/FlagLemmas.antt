@@ -12,8 +12,8 @@ use Rattle.clap.specs.Takes.{default_passes, is_valid, settle_passes, takes, tur
 use Rattle.clap.specs.Walk.{Row, Text, Walk, answers_to, finished, first_of, nothing_held, walk, walk_from, walked}
 use Rattle.sixel_model.specs.declared.profile.Profile.TheVariants.{Registers16, Registers256}
 use Rattle.sixel_report.specs.declared.task.Task.TheVariants.{Check}
-use Rattle.sixel_words.specs.Words.{IsRequestOf, check_app, files_of, is_among, is_given, lines_of, no_terminals}
-use Rattle.sixel_words.specs.Words.{profile_of, sixel_app}
+use Rattle.sixel_words.specs.Words.{IsRequestOf, files_of, is_among, is_given, lines_of, no_terminals, profile_of}
+use Rattle.sixel_commands.specs.Commands.{check_app, sixel_app}
 use Rattle.sixel_words_laws.specs.Laws.{check_flags}
 use Rattle.sixel_report.specs.declared.wanted_lines.Lines.TheVariants.{Nothing, Plain}
 

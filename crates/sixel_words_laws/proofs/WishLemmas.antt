@@ -11,7 +11,8 @@ use Rattle.sixel_explain.specs.Explanations.{Asks, line_of, listed_names, names_
 use Rattle.sixel_report.specs.Texts.{Text}
 use Rattle.sixel_words.proofs.MatchLemmas.{rows_in}
 use Rattle.sixel_explain.proofs.NameLemmas.{each, name_listed}
-use Rattle.sixel_words.specs.Words.{AsksFor, sixel_app}
+use Rattle.sixel_words.specs.Words.{AsksFor}
+use Rattle.sixel_commands.specs.Commands.{sixel_app}
 
 abbrev explain : Text → Text → List Text
 explain program name = program ∷ codes "explain" ∷ name ∷ []

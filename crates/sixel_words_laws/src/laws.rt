@@ -16,7 +16,8 @@ ghost use Rattle.sixel_explain.specs.Explanations.{topic_name};
 ghost use Rattle.sixel_report.specs.Texts.{Text};
 ghost use Rattle.sixel_report.specs.declared.wanted_lines.Lines.TheVariants.{Json, Nothing, Plain};
 ghost use Rattle.sixel_words.specs.Words.{AsksFor, IsRequestOf, IsTaskOf, all_terminals, is_among, kinds_of};
-ghost use Rattle.sixel_words.specs.Words.{no_terminals, sixel_app, subcommands};
+ghost use Rattle.sixel_words.specs.Words.{no_terminals};
+ghost use Rattle.sixel_commands.specs.Commands.{sixel_app, subcommands};
 ghost use Rattle.sixel_words_laws.specs.Laws.{check_flags};
 
 /// The command line `sixel list` is accepted, and asks for the task `List`.

@@ -2,7 +2,7 @@ use Rattle.std.proofs.Common.{◌∷◌, [], codes, inl, inr, refl}
 use Rattle.clap.specs.Simple.{subcommand_of}
 use Rattle.clap.specs.Takes.{walk_passes}
 use Rattle.clap.specs.Walk.{walked}
-use Rattle.sixel_words.specs.Words.{sixel_app}
+use Rattle.sixel_commands.specs.Commands.{sixel_app}
 use Rattle.sixel_words.proofs.MatchLemmas.{rows_in}
 use Rattle.sixel_words_laws.proofs.TasklessLemmas.{none_called, names_none}
 use Rattle.sixel_words.proofs.NamesLemmas.{has_none, not_checked, not_surveyed}

@@ -2,7 +2,7 @@ use Rattle.std.proofs.Common.{◌∷◌, [], codes, inl, inr, refl}
 use Rattle.clap.specs.Simple.{subcommand_of}
 use Rattle.clap.specs.Takes.{walk_passes}
 use Rattle.clap.specs.Walk.{walked}
-use Rattle.sixel_words.specs.Words.{sixel_app}
+use Rattle.sixel_commands.specs.Commands.{sixel_app}
 use Rattle.sixel_words.proofs.MatchLemmas.{rows_in, without_area}
 use Rattle.sixel_words_laws.proofs.TasklessLemmas.{box_beside, none_called}
 use Rattle.sixel_words_laws.proofs.laws.the_words_show_box_give_a_box.Goals as goal

@@ -4,7 +4,8 @@ use Rattle.clap.specs.Takes.{walk_passes}
 use Rattle.clap.specs.Walk.{Text, walked}
 use Rattle.sixel_models.specs.declared.named.Named.{Named}
 use Rattle.sixel_models.specs.declared.named.Named.TheVariants.{XTerm, MlTerm, Foot, Konsole}
-use Rattle.sixel_words.specs.Words.{sixel_app, terminal_name}
+use Rattle.sixel_words.specs.Words.{terminal_name}
+use Rattle.sixel_commands.specs.Commands.{sixel_app}
 use Rattle.sixel_words_laws.proofs.LiteralLemmas.{all, half, high, none, wide}
 use Rattle.sixel_words.proofs.MatchLemmas.{rows_in}
 use Rattle.sixel_words_laws.proofs.TasklessLemmas.{coloured_beside, described_beside, none_called, without_name}
