@@ -15,10 +15,10 @@ ghost use Rattle.sixel_grammar.specs.declared.fault.Reason.TheVariants.{Truncate
 ghost use Rattle.sixel_scan.specs.declared.answer.Scanned.{Scanned};
 ghost use Rattle.sixel_judge.specs.declared.verdict.Finding.{Finding};
 ghost use Rattle.sixel_explain.specs.declared.explanations.Topic.TheVariants.{Read};
-ghost use Rattle.sixel_program.specs.declared.folder.Unopened.{Unopened};
-ghost use Rattle.sixel_program.specs.Exits.{fault_said, labelled};
-ghost use Rattle.sixel_program.specs.Formats.{empty_line};
-ghost use Rattle.sixel_program.specs.Names.{unopened_line};
+ghost use Rattle.sixel_messages.specs.declared.unopened.Unopened.{Unopened};
+ghost use Rattle.sixel_messages.specs.Messages.{fault_said, labelled};
+ghost use Rattle.sixel_messages.specs.Formats.{empty_line};
+ghost use Rattle.sixel_messages.specs.Names.{unopened_line};
 ghost use Rattle.sixel_scan.specs.declared.answer.Answer.TheVariants.{Broken, Refused};
 ghost use Rattle.sixel_survey.specs.declared.entry.Entry.{Entry};
 ghost use Rattle.sixel_asked.specs.declared.asking.AskedFinding.{AskedFinding};

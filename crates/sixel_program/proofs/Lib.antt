@@ -8,7 +8,3 @@ pub mod NamedLemmas
 pub mod RequestLemmas
 pub mod SeveralLemmas
 pub mod StatusLemmas
-pub mod ReportLemmas
-pub mod JsonLemmas
-pub mod MemberLemmas
-pub mod CauseLemmas

@@ -24,7 +24,7 @@ use Rattle.sixel_ppm.specs.declared.ppm.PpmReason.{PpmReason}
 use Rattle.sixel_ppm.specs.declared.ppm.PpmReason.TheVariants as ppm
 use Rattle.sixel_model.specs.Pictures.{PictureValue, most_side}
 use Rattle.sixel_report.specs.declared.fault.RunFault.TheVariants.{Grammar, Ppm}
-use Rattle.sixel_program.specs.Formats.{is_early_end, is_of_empty}
+use Rattle.sixel_messages.specs.Formats.{is_early_end, is_of_empty}
 
 -- ---- sixel text
 

@@ -15,10 +15,12 @@ use Rattle.sixel_report.specs.declared.fault.RunFault.{RunFault}
 use Rattle.sixel_report.specs.declared.fault.RunFault.TheVariants as run
 use Rattle.sixel_report.specs.declared.task.Status.{Status}
 use Rattle.sixel_report.specs.Exits.{IsPut, exit_for_answer}
-use Rattle.sixel_program.specs.Files.{ArePut, FileEnd, IsFileEnd, exit_of_end, refusal_object, written_for, files_text}
+use Rattle.sixel_program.specs.Files.{FileEnd, IsFileEnd, exit_of_end, files_text}
+use Rattle.sixel_messages.specs.Reports.{refusal_object, written_for}
+use Rattle.sixel_messages.specs.Puts.{ArePut}
 use Rattle.sixel_program_laws.specs.Laws.{IsSaid}
 use Rattle.sixel_report.specs.declared.wanted_lines.Lines.TheVariants.{Json, Nothing, Plain}
-use Rattle.sixel_program.specs.Exits.{labelled}
+use Rattle.sixel_messages.specs.Messages.{labelled}
 use Rattle.sixel_report.specs.declared.item.Item.{Item}
 use Rattle.sixel_program.proofs.NamedLemmas.{none_written}
 use Rattle.sixel_run.specs.LineTasks.{has_lines, scans}

@@ -16,10 +16,10 @@ use Rattle.sixel_report.specs.Texts.{Text}
 use Rattle.sixel_report.specs.declared.item.Item.{Item}
 use Rattle.sixel_report.specs.declared.item.Item.TheVariants.{Asked, AskedEntry, Outcome, Entry, Group, Same, String}
 use Rattle.sixel_report.specs.declared.item.Item.TheVariants.{Unmodelled}
-use Rattle.sixel_program.specs.declared.folder.Unopened.{Unopened}
+use Rattle.sixel_messages.specs.declared.unopened.Unopened.{Unopened}
 use Rattle.sixel_program_laws.specs.Laws.{FitsAnswer, FitsFault, FitsItem, FitsOutcome, FitsPixel, HaveValues, IsValue}
-use Rattle.sixel_program.specs.Json.{Member, answer_members, broken_at, fault_members, file_member, item_members}
-use Rattle.sixel_program.specs.Json.{outcome_members, pixel_members, unread_members}
+use Rattle.sixel_messages.specs.Json.{Member, answer_members, broken_at, fault_members, file_member, item_members}
+use Rattle.sixel_messages.specs.Json.{outcome_members, pixel_members, unread_members}
 
 abbrev Has : Member → Type 0
 Has member = IsValue member.1

@@ -16,7 +16,7 @@ use Rattle.sixel_report.specs.declared.item.Item.TheVariants.{Asked, AskedEntry,
 use Rattle.sixel_report.specs.declared.item.Item.TheVariants.{Unmodelled}
 use Rattle.sixel_report.specs.Texts.{Text}
 use Rattle.sixel_io.specs.Devices.{Appends, Change, SinkState}
-use Rattle.sixel_program.specs.Json.{Member}
+use Rattle.sixel_messages.specs.Json.{Member}
 
 -- ---- reading back
 

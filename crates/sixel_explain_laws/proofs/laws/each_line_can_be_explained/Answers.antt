@@ -23,12 +23,12 @@ use Rattle.sixel_explain_laws.proofs.PastedLemmas.{permission_denied, read_faile
 use Rattle.sixel_explain_laws.proofs.EntryLemmas.{asked_entry_pasted, asked_entry_pasted_after, entry_pasted}
 use Rattle.sixel_explain_laws.proofs.EntryLemmas.{entry_pasted_after}
 use Rattle.sixel_explain_laws.proofs.StringLineLemmas.{string_finding_pasted, string_refusal_pasted}
-use Rattle.sixel_program.specs.declared.folder.Unopened.{Unopened}
-use Rattle.sixel_program.specs.declared.folder.Unopened.TheVariants.{Failed, IsFolder, NotFound, NotText, Links}
-use Rattle.sixel_program.specs.declared.folder.Unopened.TheVariants.{LongName, NotFolder, PermissionDenied}
-use Rattle.sixel_program.specs.Exits.{fault_said, labelled}
-use Rattle.sixel_program.specs.Names.{printed, unopened_line}
-use Rattle.sixel_program.specs.Openings.{reason_text}
+use Rattle.sixel_messages.specs.declared.unopened.Unopened.{Unopened}
+use Rattle.sixel_messages.specs.declared.unopened.Unopened.TheVariants.{Failed, IsFolder, NotFound, NotText, Links}
+use Rattle.sixel_messages.specs.declared.unopened.Unopened.TheVariants.{LongName, NotFolder, PermissionDenied}
+use Rattle.sixel_messages.specs.Messages.{fault_said, labelled}
+use Rattle.sixel_messages.specs.Names.{printed, unopened_line}
+use Rattle.sixel_messages.specs.Unopened.{reason_text}
 use Rattle.sixel_explain_laws.proofs.laws.each_line_can_be_explained.Goals as goal
 
 -- what is before the line of a file

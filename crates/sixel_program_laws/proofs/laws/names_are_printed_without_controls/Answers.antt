@@ -1,7 +1,7 @@
 use Rattle.std.proofs.Common.{◌≡◌, ◌<◌, ◌/◌, ◌%◌, ℕ, [], ◌∷◌, Bool, true, false, refl, ap, rules}
 use Rattle.std.specs.Prelude.{All}
 use Rattle.std.proofs.lemmas.List.Elements.{All-append, All-cons, All-head, All-nil, All-tail}
-use Rattle.sixel_program.specs.Names.{hex_digit, is_control, printed, printed_byte}
+use Rattle.sixel_messages.specs.Names.{hex_digit, is_control, printed, printed_byte}
 use Rattle.sixel_report.specs.Texts.{Text}
 use Rattle.sixel_program_laws.proofs.laws.names_are_printed_without_controls.Goals as goal
 
