@@ -1,6 +1,6 @@
 -- The name that a line asks for.
-use Rattle.std.proofs.Common.{◌≡◌, ◌∙◌, ◌∷◌, ◌++◌, [], Bool, List, None, Option, Some, ap, ap₂, append-nil}
-use Rattle.std.proofs.Common.{append_assoc, codes, cond, drop, false, map, refl, subst, sym, true}
+use Rattle.std.proofs.Common.{◌≡◌, ◌∙◌, ◌∷◌, ◌++◌, [], Bool, List, None, Option, Some, ap, ap₂, append-nil, codes, cond}
+use Rattle.std.proofs.Common.{drop, false, map, refl, subst, sym, true}
 use Rattle.std.specs.Prelude.{IfSome, IsNone, find, option_map}
 use Rattle.std.specs.List.{concat}
 use Rattle.std.specs.Option.{option_or}
@@ -10,8 +10,8 @@ use Rattle.std.proofs.lemmas.List.Elements.{All-contains}
 use Rattle.std.proofs.lemmas.List.Folds.{concat-append}
 use Rattle.std.proofs.lemmas.Slice.Eq.{bytes_eq-Decides}
 use Rattle.sixel_explain.specs.declared.explanations.Topic.{Topic}
-use Rattle.sixel_explain.specs.Explanations.{all_called, is_line, last_name, line_of, listed, listed_names, name_called}
-use Rattle.sixel_explain.specs.Explanations.{name_in, names_in, topic_name, topic_of_end, words_of}
+use Rattle.sixel_explain.specs.Explanations.{all_called, is_line, last_name, listed, listed_names, name_called, name_in}
+use Rattle.sixel_explain.specs.Explanations.{names_in, topic_name, topic_of_end, words_of}
 use Rattle.sixel_report.specs.Texts.{Text}
 use Rattle.sixel_explain.proofs.NameLemmas.{each, name_listed}
 
@@ -82,20 +82,6 @@ one_said words word =
     ∙ concat-append begun ((codes " " ++ word) ∷ [])
     ∙ ap (λ (t : Text). concat begun ++ t) (append-nil (codes " " ++ word))
 
--- a name by itself in small letters, after the space of a line
-name_alone : (t : Topic) → names_in (32 ∷ str_to_ascii_lowercase (topic_name t)) ≡ Some (topic_name t ∷ [])
-name_alone t =
-    All-contains (λ (name : Text). names_in (32 ∷ str_to_ascii_lowercase name) ≡ Some (name ∷ [])) listed_names
-    (topic_name t)
-    (each (λ (name : Text). names_in (32 ∷ str_to_ascii_lowercase name)) (λ (name : Text). Some (name ∷ []))
-    listed_names refl) (name_listed t)
-
-pub any_case : (t : Topic) (word : Text) → str_to_ascii_lowercase word ≡ str_to_ascii_lowercase (topic_name t)
-    → names_in (line_of (word ∷ [])) ≡ Some (topic_name t ∷ [])
-any_case t word same =
-    ap (λ (w : Text). names_in (32 ∷ str_to_ascii_lowercase w)) (append-nil word)
-    ∙ ap (λ (w : Text). names_in (32 ∷ w)) same ∙ name_alone t
-
 -- a line that ends like one without a name asks for the topic of its end
 pub by_end : (line : Text) (t : Topic) → topic_of_end line ≡ Some t → name_in line ≡ Some (topic_name t)
 by_end line t is = ap (λ (o : Option Topic). option_or (option_map topic_name o) (last_name (words_of line))) is
@@ -106,10 +92,6 @@ pub by_word : (line : Text) (name : Option Text) → topic_of_end line ≡ None 
 by_word line name none is =
     ap (λ (o : Option Topic). option_or (option_map topic_name o) (last_name (words_of line))) none ∙ is
 
--- a line asks for the one name in it
-pub line_asks : (line name : Text) → is_line line ≡ true → name_in line ≡ Some name → names_in line ≡ Some (name ∷ [])
-line_asks line name is named = rw (is, named) refl
-
 -- ---- each word a name
 
 -- what was found for the words so far, before what the others are
@@ -119,19 +101,6 @@ onto found rest = option_map (λ names. map topic_name found ++ names) rest
 pub onto_none : (rest : Option (List Text)) → onto [] rest ≡ rest
 onto_none None = refl
 onto_none (Some names) = refl
-
-onto_one : (found : List Topic) (t : Topic) (rest : Option (List Text))
-    → onto found (option_map (λ names. topic_name t ∷ names) rest) ≡ onto (found ++ t ∷ []) rest
-onto_one found t None = refl
-onto_one found t (Some names) =
-    ap (λ (ns : List Text). Some ns)
-    (sym (ap (λ (ns : List Text). ns ++ names) (map-append topic_name found (t ∷ []))
-    ∙ append_assoc (map topic_name found) (topic_name t ∷ []) names))
-
--- one more word, for which this topic was found
-pub word_found : (found : List Topic) (t : Topic) (word : Text) (more : List Text)
-    → name_called word ≡ Some (topic_name t) → onto found (all_called (word ∷ more)) ≡ onto (found ++ t ∷ []) (all_called more)
-word_found found t word more is = rw is (onto_one found t (all_called more))
 
 -- a word for which none was found
 pub word_lost : (found : List Topic) (word : Text) (more : List Text) → name_called word ≡ None

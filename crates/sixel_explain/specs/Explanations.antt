@@ -196,10 +196,6 @@ words_of line = slice_split (λ byte. byte == 32) line
 abbrev pub name_in : Text → Option Text
 name_in line = option_or (option_map topic_name (topic_of_end line)) (last_name (words_of line))
 
--- these words are a line of the program, which was cut at some of its spaces, without its line feed
-abbrev pub ArePasted : List Text → Text → Type 0
-ArePasted said line = concat (map (λ word. codes " " ++ word) said) ++ 10 ∷ [] ≡ codes " " ++ line
-
 -- the byte is a digit, or the colon, which follows the digits in ASCII; no name has one
 abbrev pub is_mark : ℕ → Bool
 is_mark byte = nat_le 48 byte && nat_le byte 58

@@ -3,7 +3,6 @@
 
 mod asked_rules;
 mod explanations;
-pub mod laws;
 mod lines;
 mod refusals;
 mod rules;

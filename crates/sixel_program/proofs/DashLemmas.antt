@@ -9,7 +9,8 @@ use Rattle.std.proofs.lemmas.List.Sums.{sum_by-append, sum_by-cons}
 use Rattle.sixel_report.specs.declared.task.Task.{Task}
 use Rattle.sixel_report.specs.declared.task.Task.TheVariants.{Check, Differ, Scan, Survey}
 use Rattle.sixel_run.specs.LineTasks.{has_lines}
-use Rattle.sixel_program.specs.Files.{is_dash, labels_for, name_of, names_read}
+use Rattle.sixel_program.specs.Files.{is_dash, labels_for, names_read}
+use Rattle.sixel_messages.specs.Reports.{name_of}
 use Rattle.sixel_report.specs.Texts.{Text}
 
 -- neither of two is true

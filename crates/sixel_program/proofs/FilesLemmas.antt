@@ -21,7 +21,7 @@ use Rattle.sixel_grammar.specs.Reading.{NoFaultBefore}
 use Rattle.sixel_grammar.proofs.PrefixLemmas.{nothing as none_yet}
 use Rattle.sixel_grammar.proofs.ViableLemmas.{complete}
 use Rattle.sixel_model.specs.Profiles.{count_of}
-use Rattle.sixel_program.specs.declared.hints.Cause.{Cause}
+use Rattle.sixel_messages.specs.declared.hints.Cause.{Cause}
 use Rattle.sixel_run.proofs.StringLemmas.{none_given}
 use Rattle.sixel_report.specs.declared.exit.Exit.{Exit}
 use Rattle.sixel_report.specs.declared.exit.Exit.TheVariants as exit
@@ -32,50 +32,30 @@ use Rattle.sixel_report.specs.declared.task.Task.{Task}
 use Rattle.sixel_report.specs.declared.task.Task.TheVariants as task
 use Rattle.sixel_report.specs.declared.task.Task.TheVariants.{Check}
 use Rattle.sixel_report.specs.Exits.{IsPut, exit_for_answer}
-use Rattle.sixel_program.specs.Formats.{IsFormat}
-use Rattle.sixel_program.specs.Files.{AreChecked, ArePut, FileEnd, FilesEnd, IsChecked, IsFileEnd, AreCut}
-use Rattle.sixel_program.specs.Files.{IsFileOpening, IsFinished, IsRead, causes_among, complaints_of, failed_among}
-use Rattle.sixel_program.specs.Files.{exit_of_end, files_exit, files_text, is_dash, labels_for, labels_of, name_of}
-use Rattle.sixel_program.specs.Files.{said_of, text_of_end, worse, worst, wrapped_among}
-use Rattle.sixel_program.specs.Notes.{has_wrapped}
+use Rattle.sixel_messages.specs.Formats.{IsFormat}
+use Rattle.sixel_program.specs.Files.{AreChecked, FileEnd, FilesEnd, IsChecked, IsFileEnd, AreCut, IsFileOpening}
+use Rattle.sixel_program.specs.Files.{IsFinished, IsRead, causes_among, complaints_of, failed_among, exit_of_end}
+use Rattle.sixel_program.specs.Files.{files_exit, files_text, is_dash, labels_for, labels_of, said_of, text_of_end}
+use Rattle.sixel_program.specs.Files.{worse, worst, wrapped_among}
+use Rattle.sixel_messages.specs.Reports.{name_of}
+use Rattle.sixel_messages.specs.Notes.{has_wrapped}
 use Rattle.sixel_run.specs.LineTasks.{ReadsOver, has_lines}
-use Rattle.sixel_program.specs.Hints.{causes_in, causes_of, with_cause, with_causes}
+use Rattle.sixel_messages.specs.Hints.{causes_in, causes_of, with_cause, with_causes}
 use Rattle.sixel_program.specs.Openings.{FailsWith, FolderView, bytes_of}
-use Rattle.sixel_program.specs.declared.folder.Unopened.{Unopened}
+use Rattle.sixel_messages.specs.declared.unopened.Unopened.{Unopened}
 use Rattle.sixel_run.specs.Outputs.{TakesMemory, Wrote}
 use Rattle.sixel_report.specs.Outputs.{failures_by}
 use Rattle.sixel_program.specs.Counts.{has_failed}
 use Rattle.sixel_report.specs.declared.wanted_lines.Lines.{Lines}
-use Rattle.sixel_program.specs.declared.shown.Shown.{Shown}
+use Rattle.sixel_messages.specs.declared.shown.Shown.{Shown}
 use Rattle.sixel_report.specs.Texts.{Text, fault_line}
 use Rattle.sixel_program.proofs.DashLemmas.{or_false}
 use Rattle.sixel_program.proofs.EndLemmas.{kept}
+use Rattle.sixel_messages.proofs.PutsLemmas.{none_put, one_put, put_then}
 
 -- the names of the inputs that ended so
 abbrev pub names_of : List FileEnd → List Text
 names_of ends = map name_of (labels_of ends)
-
--- ---- what is put
-
-pub none_put : (e : SinkState) → ArePut [] (change e e)
-unfolding ArePut
-none_put e = refl
-
-pub one_put : (text : Text) (a b : SinkState) → IsPut text (change a b) → ArePut (text ∷ []) (change a b)
-unfolding ArePut
-one_put text a b put = (b, put, refl)
-
-pub two_put : (first second : Text) (a b c : SinkState) → IsPut first (change a b) → IsPut second (change b c)
-    → ArePut (first ∷ second ∷ []) (change a c)
-unfolding ArePut
-two_put first second a b c one two = (b, one, (c, two, refl))
-
--- texts were put, and then others
-pub put_then : (texts more : List Text) (a b c : SinkState) → ArePut texts (change a b) → ArePut more (change b c)
-    → ArePut (texts ++ more) (change a c)
-unfolding ArePut
-put_then [] more a b c none are = rw (sym none) are
-put_then (text ∷ texts) more a b c before are = (before.0, before.1, put_then texts more before.0 b c before.2 are)
 
 -- ---- one file more
 

@@ -16,13 +16,15 @@ use Rattle.sixel_report.specs.Outputs.{CountsWrites, failures_by}
 use Rattle.sixel_report.specs.Texts.{Text}
 use Rattle.sixel_run.proofs.LineTaskLemmas.{same_found}
 use Rattle.sixel_report.specs.Lines.{is_quiet}
-use Rattle.sixel_program.specs.declared.formats.Format.{Format}
+use Rattle.sixel_messages.specs.declared.formats.Format.{Format}
 use Rattle.sixel_report.specs.declared.wanted_lines.Lines.{Lines}
 use Rattle.sixel_report.specs.declared.wanted_lines.Lines.TheVariants.{Nothing}
-use Rattle.sixel_program.specs.Files.{ArePut, IsFileEnd, IsNamedEnd, refusal_text, said_of_file, written_for}
-use Rattle.sixel_program.specs.Formats.{IsFormat}
+use Rattle.sixel_program.specs.Files.{IsFileEnd, IsNamedEnd}
+use Rattle.sixel_messages.specs.Reports.{refusal_text, said_of_file, written_for}
+use Rattle.sixel_messages.specs.Puts.{ArePut}
+use Rattle.sixel_messages.specs.Formats.{IsFormat}
 use Rattle.sixel_program.proofs.FilesLemmas.{memory_kept, over_kept, wrote_kept}
-use Rattle.sixel_program.proofs.ReportLemmas.{no_message, no_refusal, unwritten_refusal}
+use Rattle.sixel_messages.proofs.ReportLemmas.{no_message, no_refusal, unwritten_refusal}
 
 -- ---- what is written
 

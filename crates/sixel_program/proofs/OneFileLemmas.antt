@@ -7,9 +7,9 @@ use Rattle.sixel_report.specs.declared.task.Task.{Task}
 use Rattle.sixel_report.specs.Exits.{IsPut}
 use Rattle.sixel_program.specs.Exits.{RunEnds}
 use Rattle.sixel_program.specs.Files.{FileEnds, is_dash}
-use Rattle.sixel_program.specs.Names.{unopened_line}
+use Rattle.sixel_messages.specs.Names.{unopened_line}
 use Rattle.sixel_program.specs.Openings.{CountsOf, FolderView, IsOpening, bytes_of}
-use Rattle.sixel_program.specs.declared.folder.Unopened.{Unopened}
+use Rattle.sixel_messages.specs.declared.unopened.Unopened.{Unopened}
 use Rattle.sixel_report.specs.declared.wanted_lines.Lines.{Lines}
 use Rattle.sixel_report.specs.Texts.{Text}
 

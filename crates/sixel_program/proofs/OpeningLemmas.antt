@@ -5,8 +5,8 @@ use Rattle.std.specs.Prelude.{Result, Ok, Err, MatchResult}
 use Rattle.std.specs.Str.Pattern.{FindsText, HasMatch}
 use Rattle.std.proofs.lemmas.List.{length-append, take-append-drop}
 use Rattle.std.proofs.Math.Seq.{drop-append_seam}
-use Rattle.sixel_program.specs.declared.folder.Unopened.{Unopened}
-use Rattle.sixel_program.specs.declared.folder.Unopened.TheVariants.{NotText}
+use Rattle.sixel_messages.specs.declared.unopened.Unopened.{Unopened}
+use Rattle.sixel_messages.specs.declared.unopened.Unopened.TheVariants.{NotText}
 use Rattle.sixel_program.specs.Openings.{IsNotText, IsOpening, OpensAs, Told}
 use Rattle.sixel_report.specs.Texts.{Text}
 

@@ -3,10 +3,10 @@ use Rattle.std.proofs.Common.{◌≡◌, ◌∙◌, ◌≤◌, ◌<◌, ◌+◌,
 use Rattle.std.proofs.Common.{[], ◌∷◌, false, length, min, subst, sym, take, true}
 use Rattle.std.specs.Prelude.{◌==◌}
 use Rattle.std.specs.Io.KnownBytes.{Consumes, IsAtEnd, Keeps, prepend_known}
-use Rattle.sixel_program.specs.declared.formats.Format.{Format}
+use Rattle.sixel_messages.specs.declared.formats.Format.{Format}
 use Rattle.sixel_program.specs.declared.peeked.After.{After}
 use Rattle.sixel_program.specs.declared.peeked.After.TheVariants.{Rest, Failure, End}
-use Rattle.sixel_program.specs.Formats.{IsFormat, format_of}
+use Rattle.sixel_messages.specs.Formats.{IsFormat, format_of}
 use Rattle.sixel_program.specs.Peeked.{failures_of_source}
 use Rattle.std.proofs.Math.Seq.{drop-drop, take-append_seam}
 use Rattle.std.proofs.lemmas.List.{length-take-le, take-append-drop}

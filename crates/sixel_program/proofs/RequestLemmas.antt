@@ -7,7 +7,7 @@ use Rattle.sixel_report.specs.declared.exit.Exit.{Exit}
 use Rattle.sixel_report.specs.Lines.{all_of}
 use Rattle.sixel_report.specs.declared.wanted_lines.Lines.{Lines}
 use Rattle.sixel_report.specs.declared.wanted_lines.Lines.TheVariants.{Plain}
-use Rattle.sixel_program.specs.declared.shown.Shown.{Shown}
+use Rattle.sixel_messages.specs.declared.shown.Shown.{Shown}
 use Rattle.sixel_report.specs.declared.exit.Exit.TheVariants as exit
 use Rattle.sixel_report.specs.declared.fault.RunFault.{RunFault}
 use Rattle.sixel_report.specs.declared.fault.RunFault.TheVariants as run
@@ -17,8 +17,9 @@ use Rattle.sixel_report.specs.declared.task.Task.{Task}
 use Rattle.sixel_report.specs.declared.task.Task.TheVariants as task
 use Rattle.sixel_program.specs.Exits.{RunEnds}
 use Rattle.sixel_report.specs.Exits.{exit_for_answer}
-use Rattle.sixel_program.specs.Files.{FileEnd, FileEnds, FilesEnd, RequestEnds, exit_of_end, labels_for, name_of}
-use Rattle.sixel_program.specs.Files.{names_read, told_of, worse}
+use Rattle.sixel_program.specs.Files.{FileEnd, FileEnds, FilesEnd, RequestEnds, exit_of_end, labels_for, names_read}
+use Rattle.sixel_program.specs.Files.{told_of, worse}
+use Rattle.sixel_messages.specs.Reports.{name_of}
 use Rattle.sixel_program.specs.Openings.{FolderView, bytes_of}
 use Rattle.sixel_run.specs.Outputs.{Wrote}
 use Rattle.sixel_report.specs.Texts.{Text}

@@ -6,7 +6,7 @@ use Rattle.std.proofs.lemmas.List.Elements.{All-cons, All-head, All-nil, All-tai
 use Rattle.sixel_io.specs.Devices.{Change, SinkState, SourceState}
 use Rattle.sixel_report.specs.declared.exit.Exit.{Exit}
 use Rattle.sixel_report.specs.declared.wanted_lines.Lines.{Lines}
-use Rattle.sixel_program.specs.declared.shown.Shown.{Shown}
+use Rattle.sixel_messages.specs.declared.shown.Shown.{Shown}
 use Rattle.sixel_report.specs.declared.exit.Exit.TheVariants as exit
 use Rattle.sixel_report.specs.declared.fault.RunFault.{RunFault}
 use Rattle.sixel_report.specs.declared.task.Status.{Status}
@@ -15,7 +15,8 @@ use Rattle.sixel_report.specs.declared.task.Task.{Task}
 use Rattle.sixel_report.specs.Exits.{exit_code, exit_for_answer}
 use Rattle.sixel_run.specs.Outputs.{Wrote}
 use Rattle.sixel_program.specs.Files.{FileEnd, FilesEnd, IsBrokenOver, IsDoneOver, IsFileEnd, IsJudgedOver, IsRead}
-use Rattle.sixel_program.specs.Files.{RequestEnds, exit_of_end, files_exit, labels_for, name_of, names_read, told_of}
+use Rattle.sixel_program.specs.Files.{RequestEnds, exit_of_end, files_exit, labels_for, names_read, told_of}
+use Rattle.sixel_messages.specs.Reports.{name_of}
 use Rattle.sixel_program.proofs.FilesLemmas.{names_of}
 use Rattle.sixel_program.specs.Openings.{FolderView, bytes_of}
 use Rattle.sixel_report.specs.Texts.{Text, items_text}

@@ -1,14 +1,14 @@
 -- How requests end: over standard input or files, quiet or not.
-use Rattle.std.specs.Prelude.{◌≡◌, ◌≢◌, ◌⊎◌, ◌-◌, ◌^◌, ◌<◌, ◌&&◌, ◌||◌, ◌∷◌, ◌++◌, ℕ, Bool, not, true, false, List, []}
-use Rattle.std.specs.Prelude.{Option, Some, None, IfSome, Result, Ok, Err, codes, flat_map, fold, map, take, nat_lt}
-use Rattle.std.specs.Prelude.{◌≤◌, OnOk, count_by, length, option_to_list, if◌then◌else◌, ⊤}
+use Rattle.std.specs.Prelude.{◌≡◌, ◌≢◌, ◌⊎◌, ◌-◌, ◌&&◌, ◌||◌, ◌∷◌, ◌++◌, ℕ, Bool, not, true, false, List, [], Option}
+use Rattle.std.specs.Prelude.{Some, None, IfSome, Result, Ok, Err, codes, flat_map, fold, map, take, nat_lt, ◌≤◌, OnOk}
+use Rattle.std.specs.Prelude.{count_by, length, option_to_list, if◌then◌else◌, ⊤}
 use Rattle.std.specs.Io.KnownBytes.{Appends, Keeps}
 use Rattle.std.specs.List.{All, list_any}
 use Rattle.std.specs.Str.{bytes_eq}
 use Rattle.sixel_io.specs.Devices.{Change, SinkState, SourceState, change, one_more}
-use Rattle.sixel_program.specs.declared.hints.Cause.{Cause}
+use Rattle.sixel_messages.specs.declared.hints.Cause.{Cause}
 use Rattle.sixel_report.specs.declared.exit.Exit.{Exit}
-use Rattle.sixel_program.specs.declared.folder.Unopened.{Unopened}
+use Rattle.sixel_messages.specs.declared.unopened.Unopened.{Unopened}
 use Rattle.sixel_report.specs.declared.exit.Exit.TheVariants.{Broken, Done, Refused}
 use Rattle.sixel_scan.specs.Scans.{longest_stream}
 use Rattle.sixel_report.specs.declared.fault.RunFault.{RunFault}
@@ -17,26 +17,27 @@ use Rattle.sixel_report.specs.declared.task.Status.{Status}
 use Rattle.sixel_report.specs.declared.task.Task.{Task}
 use Rattle.sixel_report.specs.declared.task.Task.TheVariants.{Check, Encode, Render, Scan, Show, ShowBox, ShowOn}
 use Rattle.sixel_report.specs.declared.task.Task.TheVariants.{Differ, DifferSheet, Survey}
-use Rattle.sixel_program.specs.declared.formats.Format.{Format}
+use Rattle.sixel_messages.specs.declared.formats.Format.{Format}
 use Rattle.sixel_program.specs.declared.terminals.Terminals.{Terminals}
-use Rattle.sixel_program.specs.Formats.{IsFormat, advice_on}
+use Rattle.sixel_messages.specs.Formats.{IsFormat}
 use Rattle.sixel_report.specs.Exits.{IsPut, exit_code, exit_for_answer}
-use Rattle.sixel_program.specs.Exits.{RunEnds, fault_said, labelled}
+use Rattle.sixel_program.specs.Exits.{RunEnds}
 use Rattle.sixel_run.specs.LineTasks.{ReadsOver, scans}
 use Rattle.sixel_run.specs.Outputs.{Gives, TakesMemory, Wrote}
 use Rattle.sixel_report.specs.Outputs.{failures_by}
-use Rattle.sixel_program.specs.Hints.{causes_of, hinted, hints_of}
-use Rattle.sixel_program.specs.Names.{unopened_line}
-use Rattle.sixel_program.specs.Notes.{has_wrapped, wrapped_line}
+use Rattle.sixel_messages.specs.Hints.{causes_of, hinted, hints_of}
+use Rattle.sixel_messages.specs.Names.{unopened_line}
+use Rattle.sixel_messages.specs.Notes.{has_wrapped, wrapped_line}
 use Rattle.sixel_program.specs.Openings.{CountsOf, FailsWith, FolderView, IsOpening, Told, bytes_of}
 use Rattle.sixel_report.specs.declared.item.Item.{Item}
-use Rattle.sixel_report.specs.Texts.{Text, fault_line, item_line, items_text}
+use Rattle.sixel_report.specs.Texts.{Text, fault_line, items_text}
 use Rattle.sixel_report.specs.declared.wanted_lines.Lines.{Lines}
-use Rattle.sixel_report.specs.declared.wanted_lines.Lines.TheVariants.{Json, Nothing, Plain}
-use Rattle.sixel_program.specs.Json.{fault_members, file_member, item_members, json_line, unread_members}
+use Rattle.sixel_report.specs.declared.wanted_lines.Lines.TheVariants.{Plain}
 use Rattle.sixel_program.specs.Counts.{count_of, has_failed}
-use Rattle.sixel_report.specs.Lines.{all_of, is_portable_item, is_quiet}
-use Rattle.sixel_program.specs.declared.shown.Shown.{Shown}
+use Rattle.sixel_report.specs.Lines.{all_of, is_quiet}
+use Rattle.sixel_messages.specs.declared.shown.Shown.{Shown}
+use Rattle.sixel_messages.specs.Puts.{ArePut}
+use Rattle.sixel_messages.specs.Reports.{name_of, written_for, refusal_text, said_of_file}
 
 -- ---- names
 
@@ -49,11 +50,6 @@ is_dash name = bytes_eq name (codes "-")
 abbrev pub labels_for : List Text → List (Option Text)
 labels_for [] = None ∷ []
 labels_for (name ∷ more) = map Some (name ∷ more)
-
--- the name of the input with this label, or `-` without one
-abbrev pub name_of : Option Text → Text
-name_of None = codes "-"
-name_of (Some name) = name
 
 -- the bytes that are read for a name, if they are known: what standard input has left, or the file's
 abbrev pub told_of : (Text → Option (List ℕ)) → Option (List ℕ) → Text → Option (List ℕ)
@@ -201,27 +197,6 @@ pub record IsFileOpening {O : Type 0} (folder : FolderView O) (e : FileEnd) : Ty
 
 -- ---- what is written of an input
 
--- what is written for an item of the input with this label: its line after the label or an object of JSON, but not for
--- what is portable, if only failures are wanted
-abbrev pub written_for : Lines → Option Text → Item → Text
-written_for (Nothing json) label i = []
-written_for (Plain only_failed) label i =
-    if only_failed && is_portable_item i then [] else labelled label (item_line i)
-written_for (Json only_failed) label i =
-    if only_failed && is_portable_item i then [] else json_line (file_member label ∷ item_members i)
-
--- the object of an input with this label that couldn't be opened or is refused. A failed write isn't the input's fault
-abbrev pub refusal_object : Option Text → Option Unopened → Result Status RunFault → Text
-refusal_object label (Some reason) answer = json_line (file_member label ∷ unread_members reason)
-refusal_object label None (Ok status) = []
-refusal_object label None (Err run.Write) = []
-refusal_object label None (Err fault) = json_line (file_member label ∷ fault_members fault)
-
--- what is written to the output of an input that is refused: in JSON its object
-abbrev pub refusal_text : Lines → Option Text → Option Unopened → Result Status RunFault → Text
-refusal_text (Json only_failed) label unopened answer = refusal_object label unopened answer
-refusal_text lines label unopened answer = []
-
 -- the output for an input
 abbrev pub file_text : Lines → Option Text → Option Unopened → List Item → Result Status RunFault → Text
 file_text lines label unopened items answer =
@@ -233,18 +208,6 @@ text_of_end lines e = file_text lines e.label e.unopened e.items e.answer
 -- the output for several inputs
 abbrev pub files_text : Lines → List FileEnd → Text
 files_text lines ends = flat_map (text_of_end lines) ends
-
--- the message about the input with this label and this format: why it couldn't be opened, or why it is refused, with the
--- advice on it
-abbrev pub message_about : Option Text → Option Unopened → Option Format → Result Status RunFault → List Text
-message_about label (Some reason) format answer = unopened_line (name_of label) reason ∷ []
-message_about label None format (Ok status) = []
-message_about label None format (Err fault) = (fault_said label fault ++ advice_on format fault) ∷ []
-
--- what the errors get of an input: that message, but in JSON the output says why
-abbrev pub said_of_file : Lines → Option Text → Option Unopened → Option Format → Result Status RunFault → List Text
-said_of_file (Json only_failed) label unopened format answer = []
-said_of_file lines label unopened format answer = message_about label unopened format answer
 
 abbrev pub said_of : Lines → FileEnd → List Text
 said_of lines e = said_of_file lines e.label e.unopened e.format e.answer
@@ -288,13 +251,6 @@ closing t lines shown causes wrapped failed all =
 
 abbrev pub labels_of : List FileEnd → List (Option Text)
 labels_of ends = map (λ e. e.label) ends
-
--- the texts were put to a sink in turn, each whole, or a prefix of it if a call failed. A failure doesn't stop the next
--- text
-unfoldable pub ArePut : List Text → Change SinkState → Type 0
-ArePut [] sink = sink.new ≡ sink.old
-ArePut (text ∷ rest) sink =
-    (between : SinkState) × IsPut text (change sink.old between) × ArePut rest (change between sink.new)
 
 -- what the task over the input with this label and this format did to the two sinks, given what it found and its answer.
 -- `Ok`: the text for the input was appended to the output, which a quiet task leaves as it was, and the message about
@@ -351,15 +307,6 @@ pub record IsChecked {O E : Type 0} (t : Task) (lines : Lines) (folder : FolderV
   pub opening : IsFileOpening folder e
   pub written : OnOk result (e.answer ≢ Err run.Write)
   pub outcome : IsOutcome lines label e.unopened e.format e.items e.answer result output errors
-
--- a call on a sink failed: its count of failures rose, or is the greatest `u64`
-abbrev pub HasFailed : Change SinkState → Type 0
-HasFailed sink = (sink.old.failures < sink.new.failures) ⊎ (sink.new.failures ≡ 2 ^ 64 - 1)
-
--- the text was appended to the bytes of a sink, or a call on the sink failed
-abbrev pub IsSaid : Text → Change SinkState → Type 0
-IsSaid text sink =
-    (Appends sink.old.taken sink.new.taken text × (sink.new.failures ≡ sink.old.failures)) ⊎ HasFailed sink
 
 -- all inputs with these labels were checked in turn and ended so
 pub record AreChecked {O : Type 0} (t : Task) (lines : Lines) (folder : FolderView O) (ends : List FileEnd)

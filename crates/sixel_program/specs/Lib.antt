@@ -1,11 +1,6 @@
-pub mod Formats
 pub mod Peeked
 pub mod Exits
-pub mod Names
-pub mod Notes
-pub mod Hints
 pub mod Openings
-pub mod Json
 pub mod Counts
 pub mod Shown
 pub mod Files

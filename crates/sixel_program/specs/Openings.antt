@@ -1,37 +1,11 @@
--- Files opened by their names: what a folder tells of them, and why one can't be opened.
-use Rattle.std.specs.Prelude.{◌≡◌, ◌<◌, ℕ, ◌∷◌, ◌++◌, List, [], codes, Option, Some, None, Result, Ok, Err, ⊤}
-use Rattle.std.specs.declared.io.ErrorKind.{ErrorKind}
-use Rattle.std.specs.declared.io.ErrorKind.TheVariants as kind
+-- Files opened by their names: what a folder tells of them.
+use Rattle.std.specs.Prelude.{◌≡◌, ◌<◌, ℕ, ◌∷◌, ◌++◌, List, [], Option, Some, None, Result, Ok, Err, ⊤}
 use Rattle.sixel_io.specs.Devices.{Change, SourceState}
-use Rattle.sixel_program.specs.declared.folder.Unopened.{Unopened}
-use Rattle.sixel_program.specs.declared.folder.Unopened.TheVariants.{NotFound, PermissionDenied, IsFolder, NotText}
-use Rattle.sixel_program.specs.declared.folder.Unopened.TheVariants.{NotFolder, Links, LongName, Failed}
+use Rattle.sixel_messages.specs.declared.unopened.Unopened.{Unopened}
+use Rattle.sixel_messages.specs.declared.unopened.Unopened.TheVariants.{NotText}
 use Rattle.sixel_report.specs.Texts.{Text}
 use Rattle.sixel_report.specs.declared.fault.RunFault.{RunFault}
 use Rattle.sixel_report.specs.declared.fault.RunFault.TheVariants.{Read}
-
--- the reason for an error of the system
-abbrev pub reason_of : ErrorKind → Unopened
-reason_of kind.NotFound = NotFound
-reason_of kind.PermissionDenied = PermissionDenied
-reason_of kind.IsADirectory = IsFolder
-reason_of kind.NotADirectory = NotFolder
-reason_of kind.FilesystemLoop = Links
-reason_of kind.InvalidFilename = LongName
-reason_of _ = Failed
-
--- how a reason is printed: for three with the words of the system, and then an end that `explain` knows
-abbrev pub reason_text : Unopened → Text
-reason_text NotFound = codes "no such file"
-reason_text PermissionDenied = codes "permission denied"
-reason_text IsFolder = codes "is a folder"
-reason_text NotFolder = codes "not a directory: read failed"
-reason_text Links = codes "too many levels of symbolic links: read failed"
-reason_text LongName = codes "file name too long: read failed"
-reason_text NotText = codes "name is not valid UTF-8"
-reason_text Failed = codes "read failed"
-
--- ---- folders
 
 -- what opening a file gives, if that is told: the file's bytes, or why it can't be opened
 abbrev pub Told : Type 0

@@ -1,7 +1,7 @@
 -- Which messages come last.
 use Rattle.std.specs.Prelude.{Bool, not}
 use Rattle.sixel_report.specs.declared.wanted_lines.Lines.{Lines}
-use Rattle.sixel_program.specs.declared.shown.Shown.{Shown}
+use Rattle.sixel_messages.specs.declared.shown.Shown.{Shown}
 use Rattle.sixel_program.specs.declared.terminals.Terminals.{Terminals}
 use Rattle.sixel_report.specs.Lines.{is_quiet}
 

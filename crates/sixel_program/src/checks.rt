@@ -1,29 +1,29 @@
 //! Checks, surveys, scans and comparisons of terminals, of files or of standard input.
 
-ghost use Rattle.std.specs.Prelude.{◌≡◌, ◌≢◌, ◌&&◌, ◌∷◌, [], Err, IfErr, None, OnOk, count_by, false, if◌then◌else◌};
-ghost use Rattle.std.specs.Prelude.{map, nat_lt, not, option_copied, true};
+ghost use Rattle.std.specs.Prelude.{◌≡◌, ◌≢◌, ◌∷◌, [], Err, IfErr, None, OnOk, count_by, false, map, nat_lt};
+ghost use Rattle.std.specs.Prelude.{option_copied, true};
 ghost use Rattle.std.specs.Io.KnownBytes.{Keeps};
 ghost use Rattle.std.specs.String.{string_bytes};
 ghost use Rattle.sixel_io.specs.Devices.{CountsFailure, change};
 ghost use Rattle.sixel_report.specs.Exits.{IsPut};
-ghost use Rattle.sixel_program.specs.Files.{FilesEnd, IsChecked, IsFinished, IsNamedEnd, is_dash, labels_for, name_of};
-ghost use Rattle.sixel_program.specs.Files.{reads_input, worse, written_for};
+ghost use Rattle.sixel_program.specs.Files.{FilesEnd, IsChecked, IsFinished, IsNamedEnd, is_dash, labels_for};
+ghost use Rattle.sixel_program.specs.Files.{reads_input, worse};
+ghost use Rattle.sixel_messages.specs.Reports.{name_of, written_for};
 ghost use Rattle.sixel_report.specs.Lines.{is_quiet};
-ghost use Rattle.sixel_program.specs.Formats.{IsFormat};
+ghost use Rattle.sixel_messages.specs.Formats.{IsFormat};
 ghost use Rattle.sixel_program.specs.Openings.{folder_view};
 ghost use Rattle.sixel_run.specs.LineTasks.{WritesItems, has_lines, scans};
 ghost use Rattle.sixel_report.specs.Texts.{fault_line};
 
 use crate::counts::{failures_in, put_count};
 use crate::folder::{Folder, open_file};
-use crate::formats::Format;
-use crate::hints::{Causes, put_hints};
-use crate::notes::{has_wrapped, put_wrapped};
 use crate::nowhere::Nowhere;
 use crate::peeked::Peeked;
-use crate::reporting::{Labelled, name_of, say_answer, say_unopened};
-use crate::shown::Shown;
 use sixel_io::{DeviceFault, PIECE, Sink, Source};
+use sixel_messages::{
+    Causes, Format, Labelled, Shown, has_wrapped, name_of, put_hints, put_wrapped, say_answer,
+    say_unopened,
+};
 use sixel_report::{
     Exit, Lines, Plain, RunFault, Status, Task, code_of, exit_of, is_quiet, write_fault,
 };

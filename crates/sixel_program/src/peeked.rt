@@ -3,12 +3,12 @@
 ghost use Rattle.std.specs.Prelude.{◌≡◌, ◌<◌, ◌≤◌, ◌+◌, ◌++◌, [], ℕ, IfOk, List, drop, length};
 ghost use Rattle.std.specs.Io.KnownBytes.{Consumes, Keeps, ReadConsumes};
 ghost use Rattle.sixel_io.specs.Devices.{CountsFailure};
-ghost use Rattle.sixel_program.specs.Formats.{IsFormat};
+ghost use Rattle.sixel_messages.specs.Formats.{IsFormat};
 ghost use Rattle.sixel_program.specs.Peeked.{after_prefix, failures_of_source, peeked_state};
 
-use crate::formats::{Format, PREFIX_LENGTH, format_of, is_undecided};
 use arrayvec::ArrayVec;
 use sixel_io::{DeviceFault, Source};
+use sixel_messages::{Format, PREFIX_LENGTH, format_of, is_undecided};
 
 /// The first bytes of an input.
 type Prefix = ArrayVec<u8, PREFIX_LENGTH>;

@@ -4,20 +4,10 @@ ghost use Rattle.std.specs.Prelude.{◌≡◌};
 ghost use Rattle.sixel_program.specs.Shown.{shown_at};
 
 use crate::terminals::Terminals;
+use sixel_messages::Shown;
 use sixel_report::{Lines, is_quiet};
 
-/// Which messages come last.
-#[derive(Clone, Copy, Debug, PartialEq, Eq)]
-pub struct Shown {
-    /// Whether standard error is a terminal.
-    pub is_terminal: bool,
-    /// Whether hints are asked for.
-    pub explains: bool,
-    /// Whether a scan may end with a note.
-    pub notes: bool,
-}
-
-/// Those of a request with these lines at these terminals, which asks for hints or doesn't.
+/// The messages that come last in a request with these lines at these terminals, which asks for hints or doesn't.
 pub fn shown_at(terminals: Terminals, lines: Lines, explains: bool) -> Shown
     ensures { result ≡ shown_at terminals lines explains }
 {

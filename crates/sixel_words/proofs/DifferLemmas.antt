@@ -1,7 +1,6 @@
 -- Tasks of `differ`.
-use Rattle.std.proofs.Common.{◌≡◌, ◌≢◌, ◌≤◌, ◌∙◌, ℕ, Bool, true, false, List, ap, arith, codes, refl, slice_index, sym}
-use Rattle.std.specs.Prelude.{length, nat_lt}
-use Rattle.std.proofs.lemmas.Bool.{ltb-false, ltb-true}
+use Rattle.std.proofs.Common.{◌≡◌, ◌≢◌, ◌≤◌, ◌∙◌, ℕ, true, false, List, ap, arith, codes, refl, slice_index, sym}
+use Rattle.std.specs.Prelude.{length}
 use Rattle.clap.specs.Walk.{Row, Text}
 use Rattle.sixel_model.specs.declared.colour.Parts.{Parts}
 use Rattle.sixel_report.specs.declared.task.Task.{Task}
@@ -9,15 +8,12 @@ use Rattle.sixel_report.specs.declared.task.Task.TheVariants.{List as Listing, C
 use Rattle.sixel_report.specs.declared.task.Task.TheVariants.{Render, Scan, Show, ShowBox, ShowOn, Survey}
 use Rattle.sixel_words.specs.Words.{HasColour, IsTask, files_of, is_given}
 
-not_both : (b : Bool) → b ≡ true → b ≡ false → ⊥
-not_both b e f = let bad : true ≡ false = sym e ∙ f in cc
-
 other_first : (name : Text) (first : ℕ) → slice_index name 0 ≡ first → first ≢ 100 → codes "differ" ≡ name → ⊥
 other_first name first starts other is =
     let same : 100 ≡ slice_index name 0 = ap (λ (t : Text). slice_index t 0) is in other (sym starts ∙ sym same)
 
 -- a task of `differ` has a background, and either no sheet, or one of a file at most
-not_differed : (rows : List Row) (t : Task)
+pub not_differed : (rows : List Row) (t : Task)
     → ((c : Parts) → HasColour (codes "background") rows c → is_given (codes "sheet") rows ≡ false → ⊥)
     → ((c : Parts) → HasColour (codes "background") rows c → is_given (codes "sheet") rows ≡ true
     → length (files_of rows) ≤ 1 → ⊥)
@@ -46,14 +42,3 @@ not_differed rows (DifferSheet background) lines sheet is = sheet background is.
 pub uncoloured : (rows : List Row) (t : Task) → ((c : Parts) → HasColour (codes "background") rows c → ⊥)
     → IsTask (codes "differ") rows t → ⊥
 uncoloured rows t none = not_differed rows t (λ c has plain. none c has) (λ c has given one. none c has)
-
--- nor for a sheet of several files
-pub sheet_of_several : (rows : List Row) (t : Task) → is_given (codes "sheet") rows ≡ true
-    → nat_lt 1 (length (files_of rows)) ≡ true → IsTask (codes "differ") rows t → ⊥
-sheet_of_several rows t given several =
-    not_differed rows t (λ c has plain. not_both _ given plain)
-    (λ c has sheet one. omega (arith, one, ltb-true 1 (length (files_of rows)) several))
-
--- files that aren't several are one at most
-pub one_at_most : (rows : List Row) → nat_lt 1 (length (files_of rows)) ≡ false → length (files_of rows) ≤ 1
-one_at_most rows few = ltb-false 1 (length (files_of rows)) few

@@ -8,7 +8,8 @@ use Rattle.sixel_words.specs.declared.words.WordsFault.TheVariants as fault
 use Rattle.sixel_explain.specs.Explanations.{Asks, line_of, names_in}
 use Rattle.sixel_report.specs.Texts.{Text}
 use Rattle.sixel_words.proofs.MatchLemmas.{same_parts}
-use Rattle.sixel_words.specs.Words.{AsksFor, IsAskedBy, IsAskedIn, IsNoHelp, IsRefusal, IsUnexplained, sixel_app}
+use Rattle.sixel_words.specs.Words.{AsksFor, IsAskedBy, IsAskedIn, IsNoHelp, IsRefusal, IsUnexplained}
+use Rattle.sixel_commands.specs.Commands.{sixel_app}
 
 -- these names were found, so no others are asked for
 pub found_asked : (said : List Text) (found names : List Text) → names_in (line_of said) ≡ Some found

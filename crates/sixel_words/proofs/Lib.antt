@@ -1,12 +1,8 @@
-pub mod CommandLemmas
 pub mod MatchLemmas
 pub mod DifferLemmas
 pub mod ExplainLemmas
 pub mod FaultLemmas
-pub mod WishLemmas
-pub mod FlagLemmas
 pub mod ArgumentLemmas
 pub mod ColourLemmas
 pub mod TellingLemmas
-pub mod LiteralLemmas
 pub mod NamesLemmas

@@ -27,7 +27,6 @@ use Rattle.sixel_report.specs.declared.request.Request.{Request}
 use Rattle.sixel_model.specs.declared.colour.Parts.{Parts}
 use Rattle.sixel_words.specs.Words.{HasArea, HasColour, HasSide, IsSideText, IsTask, describes, files_of, is_given}
 use Rattle.sixel_words.specs.Words.{is_named, is_of_words, lines_of, terminal_name}
-use Rattle.sixel_words.proofs.ColourLemmas.{same_text}
 
 pub both_parts : {X Y : Type 0} (o : Option (X × Y)) (x : X) (y : Y) → option_map (λ p. p.0) o ≡ Some x
     → option_map (λ p. p.1) o ≡ Some y → o ≡ Some (x, y)
@@ -145,14 +144,7 @@ not_shown rows (Show profile showing fill selects width height) described named 
 not_shown rows (ShowBox profile showing fill selects) described named is = described Box is.5 is.6 is.7
 not_shown rows (ShowOn one colour area) described named is = named one colour area is.1 is.2 is.3 is.4
 
--- with `--box`, and with a side too, there is no size
-pub box_beside : (rows : List Row) (area : Area) → is_given (codes "box") rows ≡ true
-    → is_named (codes "width") rows ≡ true ⊎ is_named (codes "height") rows ≡ true → HasArea rows area → ⊥
-box_beside rows Box boxed (inl named) is = not_both _ named is.1
-box_beside rows Box boxed (inr named) is = not_both _ named is.2
-box_beside rows (Sides width height) boxed side is = not_both _ boxed is.0
-
--- nor without `--box`, and without one of the sides
+-- without `--box`, and without one of the sides, there is no size
 pub without_side : (rows : List Row) (area : Area) → is_given (codes "box") rows ≡ false
     → ((n : ℕ) → HasSide (codes "width") rows n → ⊥) ⊎ ((n : ℕ) → HasSide (codes "height") rows n → ⊥)
     → HasArea rows area → ⊥
@@ -165,27 +157,6 @@ pub without_area : (rows : List Row) (t : Task) → ((area : Area) → HasArea r
     → IsTask (codes "show") rows t → ⊥
 without_area rows t none =
     not_shown rows t (λ area has off plain. none area has) (λ named colour area on coloured has free. none area has)
-
--- nor with `--background` and without `--on`
-pub coloured_beside : (rows : List Row) (t : Task) → first_of (codes "on") rows ≡ None
-    → is_named (codes "background") rows ≡ true → IsTask (codes "show") rows t → ⊥
-coloured_beside rows t off given =
-    not_shown rows t (λ area has none plain. not_both _ given plain)
-    (λ named colour area on coloured has free. not_some _ (terminal_name named) off on)
-
--- nor with `--on` and a flag that describes a terminal
-pub described_beside : (rows : List Row) (t : Task) (name : Text) → first_of (codes "on") rows ≡ Some name
-    → describes rows ≡ true → IsTask (codes "show") rows t → ⊥
-described_beside rows t name on given =
-    not_shown rows t (λ area has none plain. not_some _ name none on)
-    (λ named colour area is coloured has free. not_both _ given free)
-
--- nor if the value of `--on` isn't the name of a terminal
-pub without_name : (rows : List Row) (t : Task) (name : Text) → first_of (codes "on") rows ≡ Some name
-    → ((named : Named) → terminal_name named ≡ name → ⊥) → IsTask (codes "show") rows t → ⊥
-without_name rows t name on unknown =
-    not_shown rows t (λ area has none plain. not_some _ name none on)
-    (λ named colour area is coloured has free. unknown named (same_text _ (terminal_name named) name is on))
 
 -- nor with `--on`, if the value of `--background` is no colour
 pub on_without_colour : (rows : List Row) (t : Task) (name : Text) → first_of (codes "on") rows ≡ Some name
@@ -237,14 +208,6 @@ same_task o n m r s t e f is =
     let name : n ≡ m = sym (ap name_in e) ∙ ap name_in f in
     let rows : r ≡ s = sym (ap rows_in e) ∙ ap rows_in f in
     subst (λ (k : Text). IsTask k s t) name (subst (λ (k : List Row). IsTask n k t) rows is)
-
--- the arguments ask for this subcommand with options that have no task
-pub none_called : (sub : Text) (o : Option (Text × List Row)) (name : Text) (rows : List Row) (t : Task)
-    → o ≡ Some (name, rows) → IsTask name rows t → name_in o ≡ sub → (IsTask sub (rows_in o) t → ⊥) → ⊥
-none_called sub o name rows t e is called none =
-    let n : name ≡ sub = sym (ap name_in e) ∙ called in
-    let r : rows ≡ rows_in o = sym (ap rows_in e) in
-    none (subst (λ (k : Text). IsTask k (rows_in o) t) n (subst (λ (k : List Row). IsTask name k t) r is))
 
 -- a subcommand has one name and one list of options
 pub same_parts : (o : Option (Text × List Row)) (n m : Text) (r s : List Row) → o ≡ Some (n, r) → o ≡ Some (m, s)

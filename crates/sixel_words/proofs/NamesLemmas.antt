@@ -1,7 +1,6 @@
 -- Terminals that `--on` of `check` and `survey` names.
 use Rattle.std.proofs.Common.{◌≡◌, ◌∙◌, Bool, List, None, Option, Some, codes, false, inl, inr, refl, subst, sym, true}
 use Rattle.std.specs.Prelude.{IfSome, IsNone, is_some}
-use Rattle.std.specs.List.{list_all}
 use Rattle.std.specs.Str.{bytes_eq}
 use Rattle.std.proofs.lemmas.Slice.Eq.{bytes_eq-Decides}
 use Rattle.clap.specs.Walk.{Row, Text, first_of}
@@ -11,8 +10,7 @@ use Rattle.sixel_models.specs.declared.named.Named.TheVariants.{XTerm, MlTerm, F
 use Rattle.sixel_report.specs.declared.task.Task.{Task}
 use Rattle.sixel_report.specs.declared.task.Task.TheVariants.{List as Listing, Check, Differ, DifferSheet, Encode, Mend}
 use Rattle.sixel_report.specs.declared.task.Task.TheVariants.{Render, Scan, Show, ShowBox, ShowOn, Survey}
-use Rattle.sixel_words.specs.Words.{HasTerminals, IsTask, NamesTerminals, is_among, parts_of, terminal_name}
-use Rattle.sixel_words.specs.Words.{terminal_names}
+use Rattle.sixel_words.specs.Words.{HasTerminals, IsTask, NamesTerminals, is_among, terminal_name, terminal_names}
 use Rattle.sixel_words.proofs.ColourLemmas.{same_text}
 use Rattle.sixel_words.proofs.MatchLemmas.{not_some}
 
@@ -20,7 +18,7 @@ not_both : (b : Bool) → b ≡ true → b ≡ false → ⊥
 not_both b e f = let bad : true ≡ false = sym e ∙ f in cc
 
 -- two texts that differ
-apart : (a b : Text) → bytes_eq a b ≡ false → a ≡ b → ⊥
+pub apart : (a b : Text) → bytes_eq a b ≡ false → a ≡ b → ⊥
 apart a b differ is = not_both (bytes_eq a b) ((bytes_eq-Decides a b).1 is) differ
 
 -- ---- a name
@@ -57,13 +55,7 @@ is_named_so part (Some named) is none = subst (λ (t : Text). is_among terminal_
 
 -- ---- names
 
--- a text that isn't `all`, and has a part that is no name, names no terminals
-pub names_none : (text : Text) (t : Terminals) → bytes_eq text (codes "all") ≡ false
-    → list_all (is_among terminal_names) (parts_of text) ≡ false → NamesTerminals text t → ⊥
-names_none text t other some (inl is) = apart text (codes "all") other is.0
-names_none text t other some (inr is) = not_both _ is.0 some
-
--- nor does the option with this value
+-- the option with a value that names no terminals names none
 pub has_none : (rows : List Row) (text : Text) (t : Terminals) → first_of (codes "on") rows ≡ Some text
     → ((t : Terminals) → NamesTerminals text t → ⊥) → HasTerminals rows t → ⊥
 has_none rows text t on none (inl is) = not_some _ text is.0 on

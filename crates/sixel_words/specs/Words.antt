@@ -1,6 +1,6 @@
 -- The command line: what the arguments ask for, in the terms of clap's contracts.
-use Rattle.std.specs.Prelude.{◌≡◌, ◌≢◌, ◌⊎◌, ◌≤◌, ℕ, Bool, false, true, List, [], ◌∷◌, Option, Some, None, codes, pos}
-use Rattle.std.specs.Prelude.{◌++◌, ◌==◌, ◌||◌, ⊤, find, length, map, if◌then◌else◌, unwrap_or}
+use Rattle.std.specs.Prelude.{◌≡◌, ◌≢◌, ◌⊎◌, ◌≤◌, ℕ, Bool, false, true, List, [], ◌∷◌, Option, Some, None, codes, ◌++◌}
+use Rattle.std.specs.Prelude.{◌==◌, ◌||◌, ⊤, find, length, map, if◌then◌else◌, unwrap_or}
 use Rattle.std.specs.List.{list_all, list_any, slice_split}
 use Rattle.std.specs.Option.{option_and_then, option_map_or}
 use Rattle.std.specs.Str.{bytes_eq}
@@ -16,14 +16,11 @@ use Rattle.sixel_ppm.specs.PpmReading as ppm
 use Rattle.sixel_terminal.specs.Limits.{most_screen_side}
 use Rattle.clap.specs.Faults.{fault_of}
 use Rattle.clap.specs.Kinds.{IsAmong, Kinds}
-use Rattle.clap.specs.Simple.{App, new_app, new_rule, on_top, subcommand_of, with_rule, with_subcommand}
+use Rattle.clap.specs.Simple.{subcommand_of}
 use Rattle.clap.specs.Takes.{takes}
 use Rattle.clap.specs.Values.{kind_of}
-use Rattle.clap.specs.Walk.{Row, Rule, Text, all_of, first_of, one_of}
-use Rattle.clap.specs.declared.builder.action.ArgAction.TheVariants.{Append, SetTrue}
-use Rattle.clap.specs.declared.builder.value_parser.ValueParser.TheVariants as parser
+use Rattle.clap.specs.Walk.{Row, Text, all_of, first_of, one_of}
 use Rattle.clap.specs.declared.error.Error.{Error}
-use Rattle.clap.specs.declared.error.kind.ErrorKind.{ErrorKind}
 use Rattle.clap.specs.declared.error.kind.ErrorKind.TheVariants as kind
 use Rattle.clap.specs.declared.parser.matches.ValueSource.{ValueSource}
 use Rattle.clap.specs.declared.parser.matches.ValueSource.TheVariants.{CommandLine}
@@ -36,152 +33,11 @@ use Rattle.sixel_report.specs.declared.task.Task.TheVariants as task
 use Rattle.sixel_words.specs.declared.words.WordsFault.{WordsFault}
 use Rattle.sixel_words.specs.declared.words.WordsFault.TheVariants as fault
 use Rattle.sixel_explain.specs.Explanations.{Asks, topic_name}
-
--- ---- the commands
-
--- `FILE`, optional
-abbrev pub file : Rule
-file = new_rule (codes "FILE")
-
--- `FILE`, any number of times
-abbrev pub files : Rule
-files = record (new_rule (codes "FILE")) { action = Some Append }
-
--- a subcommand without options
-abbrev pub plain_app : Text → App
-plain_app name = with_rule (new_app name) file
-
--- `--name`, without a value
-abbrev pub flag : Text → Rule
-flag name = record (new_rule name) { long = Some name; action = Some SetTrue }
-
--- `--quiet` or `-q`
-abbrev pub quiet : Rule
-quiet = record (flag (codes "quiet")) { short = Some 113 }
-
--- `--name N`, a number from 1 to 4,096, with the default `fallback`
-abbrev pub side : Text → Text → Rule
-side name fallback = record (new_rule name) {
-  long = Some name;
-  value_names = 1;
-  defaults = fallback ∷ [];
-  parser = Some (parser.Signed (pos 1) (pos most_screen_side));
-}
-
--- `--on NAME` or `--on NAMES`
-abbrev pub on : Rule
-on = record (new_rule (codes "on")) { long = Some (codes "on"); value_names = 1 }
-
--- `--background COLOUR`, with the default `fallback`
-abbrev pub background : Text → Rule
-background fallback = record (new_rule (codes "background")) {
-  long = Some (codes "background");
-  value_names = 1;
-  defaults = fallback ∷ [];
-}
-
--- a subcommand with the option `--wide`
-abbrev pub profiled_app : Text → App
-profiled_app name = with_rule (with_rule (new_app name) (flag (codes "wide"))) file
-
--- `check`
-abbrev pub check_app : App
-check_app =
-    with_rule (with_rule (with_rule (with_rule (with_rule (with_rule (with_rule (new_app (codes "check"))
-    (flag (codes "wide")))
-    on)
-    quiet)
-    (flag (codes "failed")))
-    (flag (codes "json")))
-    (flag (codes "explain")))
-    files
-
--- `survey`
-abbrev pub survey_app : App
-survey_app =
-    with_rule (with_rule (with_rule (with_rule (with_rule (new_app (codes "survey"))
-    (flag (codes "wide")))
-    on)
-    (flag (codes "json")))
-    (flag (codes "explain")))
-    files
-
--- `scan`
-abbrev pub scan_app : App
-scan_app =
-    with_rule (with_rule (with_rule (with_rule (with_rule (new_app (codes "scan"))
-    (flag (codes "wide")))
-    quiet)
-    (flag (codes "eight-bit")))
-    (flag (codes "json")))
-    files
-
--- `show`
-abbrev pub show_app : App
-show_app =
-    with_rule (with_rule (with_rule (with_rule (with_rule (with_rule (with_rule (with_rule (with_rule (with_rule
-    (with_rule (new_app (codes "show"))
-    (flag (codes "wide")))
-    quiet)
-    (flag (codes "showing")))
-    (flag (codes "fill")))
-    (flag (codes "define-selects")))
-    (side (codes "width") (codes "800")))
-    (side (codes "height") (codes "480")))
-    (flag (codes "box")))
-    on)
-    (background (codes "100,100,100")))
-    file
-
--- `differ`
-abbrev pub differ_app : App
-differ_app =
-    with_rule (with_rule (with_rule (new_app (codes "differ")) (background (codes "100,100,100")))
-    (flag (codes "sheet")))
-    files
-
--- `mend`
-abbrev pub mend_app : App
-mend_app =
-    with_rule (with_rule (with_rule (with_rule (with_rule (with_rule (new_app (codes "mend"))
-    (flag (codes "wide")))
-    quiet)
-    (background (codes "0,0,0")))
-    (flag (codes "showing")))
-    (flag (codes "define-selects")))
-    file
-
--- `explain`, with any number of words
-abbrev pub explain_app : App
-explain_app =
-    with_rule (new_app (codes "explain")) (record (new_rule (codes "name")) { action = Some Append; value_names = 1 })
-
--- `sixel`, with a version, which each subcommand has too, and with a required subcommand; an option may be given again,
--- and its last value counts
-abbrev pub sixel_app : App
-sixel_app =
-    with_subcommand (with_subcommand (with_subcommand (with_subcommand (with_subcommand (with_subcommand
-    (with_subcommand (with_subcommand (with_subcommand (with_subcommand
-    (on_top (λ s. record s {
-      has_version = true;
-      propagate_version = true;
-      subcommand_required = true;
-      args_override_self = true;
-    }) (new_app (codes "sixel")))
-    (plain_app (codes "list")).top) check_app.top) survey_app.top) scan_app.top) (profiled_app (codes "render")).top)
-    (profiled_app (codes "encode")).top) show_app.top) differ_app.top) mend_app.top) explain_app.top
-
--- the flags of `check` for its profile and for no lines
-abbrev pub check_flags : List Text
-check_flags = codes "-q" ∷ codes "--quiet" ∷ codes "--wide" ∷ []
+use Rattle.sixel_commands.specs.Commands.{may_get_a_tip, sixel_app}
 
 -- whether this is one of the words
 abbrev pub is_among : List Text → Text → Bool
 is_among words word = list_any (bytes_eq word) words
-
--- the names of the subcommands
-abbrev pub subcommands : List Text
-subcommands = map (λ s. s.name) sixel_app.subs
 
 -- ---- the task
 
@@ -408,14 +264,6 @@ IsSortedOut (fault.Usage error) = (kind_of error ≢ kind.DisplayHelp) × (kind_
 IsSortedOut (fault.Help error) = (kind_of error ≡ kind.DisplayHelp) ⊎ (kind_of error ≡ kind.DisplayVersion)
 IsSortedOut (fault.Explanation topics) = ⊤
 IsSortedOut fault.OutOfMemory = ⊤
-
--- the kinds of clap's errors of which we may change the text: a subcommand that there isn't, an argument that isn't
--- expected, and a value that isn't taken
-abbrev pub may_get_a_tip : ErrorKind → Bool
-may_get_a_tip kind.InvalidSubcommand = true
-may_get_a_tip kind.UnknownArgument = true
-may_get_a_tip kind.ValueValidation = true
-may_get_a_tip _ = false
 
 -- an error that is shown is this one, or this one with another text, which is of the same kind
 abbrev pub HoldsError : Error → WordsFault → Type 0

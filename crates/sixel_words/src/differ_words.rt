@@ -10,8 +10,8 @@ ghost use Rattle.sixel_words.specs.Words.{IsSortedOut, IsTask, files_of};
 ghost use Rattle.sixel_words.specs.declared.words.WordsFault.TheVariants.{Usage};
 
 use crate::options::{colour_in, flag_of};
-use crate::usage_errors::{sheet_error, undiffered_error};
 use clap::{ArgMatches, Error};
+use sixel_commands::{sheet_error, undiffered_error};
 use sixel_report::Task;
 use std::alloc::{AllocError, Global};
 

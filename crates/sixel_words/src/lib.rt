@@ -4,14 +4,11 @@
 mod arguments;
 mod check_words;
 mod colours;
-mod commands;
 mod differ_words;
-pub mod laws;
 mod options;
 mod show_errors;
 mod show_words;
 mod telling;
-mod usage_errors;
 mod words;
 
 pub use arguments::{Arguments, Process, arguments_of, task_in};

@@ -7,8 +7,8 @@ ghost use Rattle.sixel_words.specs.declared.words.WordsFault.TheVariants.{Usage}
 
 use crate::options::{colour_in, flag_of, is_named};
 use crate::show_words::terminal_named;
-use crate::usage_errors::{conflict_error, terminal_error, uncoloured_error};
 use clap::{ArgMatches, Error};
+use sixel_commands::{conflict_error, terminal_error, uncoloured_error};
 use std::alloc::{AllocError, Global};
 
 /// The flags that describe a terminal, in the order of the help.

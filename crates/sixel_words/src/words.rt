@@ -13,16 +13,16 @@ ghost use Rattle.sixel_words.specs.Words.{kinds_of, lines_of};
 ghost use Rattle.sixel_explain.specs.Explanations.{Asks};
 
 use crate::check_words::{check_task, survey_task};
-use crate::commands::sixel_command;
 use crate::differ_words::{differ_error, differ_task};
 use crate::options::{colour_in, flag_of, profile_of};
 use crate::show_errors::show_error;
 use crate::show_words::show_task;
-use crate::usage_errors::{
-    background_error, unchecked_error, unnamed_error, unsurveyed_error, usage_error, with_tip,
-};
 use clap::error::ErrorKind;
 use clap::{ArgMatches, Error};
+use sixel_commands::{
+    background_error, sixel_command, unchecked_error, unnamed_error, unsurveyed_error, usage_error,
+    with_tip,
+};
 use sixel_explain::{Topic, topics_asked};
 use sixel_report::{Lines, Request, Task};
 use std::alloc::{AllocError, Global};

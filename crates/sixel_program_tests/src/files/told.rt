@@ -5,7 +5,7 @@ ghost use Rattle.std.specs.Str.{bytes_eq};
 ghost use Rattle.sixel_model.specs.declared.profile.Profile.TheVariants.{Registers16};
 ghost use Rattle.sixel_named.specs.Laws.{none};
 ghost use Rattle.sixel_program.specs.Files.{is_dash};
-ghost use Rattle.sixel_program.specs.declared.folder.Unopened.TheVariants.{NotFound};
+ghost use Rattle.sixel_messages.specs.declared.unopened.Unopened.TheVariants.{NotFound};
 ghost use Rattle.sixel_run.specs.Outputs.{Gives};
 ghost use Rattle.sixel_report.specs.Texts.{Text};
 ghost use Rattle.sixel_report.specs.declared.task.Status.TheVariants.{Done};

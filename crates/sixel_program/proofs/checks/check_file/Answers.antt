@@ -3,7 +3,8 @@ use Rattle.std.proofs.lemmas.Result.{err_from_is_err_and}
 use Rattle.std.specs.Prelude.{Err, option_copied}
 use Rattle.sixel_io.specs.Devices.{SourceState}
 use Rattle.sixel_report.specs.declared.fault.RunFault.TheVariants.{Read}
-use Rattle.sixel_program.specs.Files.{is_dash, name_of}
+use Rattle.sixel_program.specs.Files.{is_dash}
+use Rattle.sixel_messages.specs.Reports.{name_of}
 use Rattle.sixel_program.specs.Openings.{bytes_of, folder_view}
 use Rattle.sixel_program.proofs.FilesLemmas.{fails_with, unopened}
 use Rattle.sixel_program.proofs.PeekedLemmas.{source_failed}

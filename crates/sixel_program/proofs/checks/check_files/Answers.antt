@@ -1,6 +1,7 @@
-use Rattle.std.proofs.Common.{◌≡◌, ◌∙◌, ◌+◌, ◌∷◌, ◌++◌, ◌||◌, [], ℕ, List, ap, ap₂, arith, drop, false, inr, map, refl, sym, take, true}
-use Rattle.sixel_program.specs.declared.hints.Cause.{Cause}
-use Rattle.sixel_program.specs.Hints.{causes_in, with_causes}
+use Rattle.std.proofs.Common.{◌≡◌, ◌∙◌, ◌+◌, ◌∷◌, ◌++◌, ◌||◌, [], ℕ, List, ap, ap₂, arith, drop, false, inr, map, refl}
+use Rattle.std.proofs.Common.{sym, take, true}
+use Rattle.sixel_messages.specs.declared.hints.Cause.{Cause}
+use Rattle.sixel_messages.specs.Hints.{causes_in, with_causes}
 use Rattle.std.specs.String.{string_bytes}
 use Rattle.std.proofs.lemmas.List.{take_all}
 use Rattle.sixel_program.proofs.FilesLemmas.{all_labels, all_names, checked_more, cut_after, ended, labels_none}

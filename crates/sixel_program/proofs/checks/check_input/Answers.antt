@@ -1,6 +1,6 @@
 use Rattle.std.proofs.Common.{◌≡◌, ◌∙◌, List, None, ap, false, true}
-use Rattle.sixel_program.specs.declared.hints.Cause.{Cause}
-use Rattle.sixel_program.specs.Hints.{causes_in, with_causes}
+use Rattle.sixel_messages.specs.declared.hints.Cause.{Cause}
+use Rattle.sixel_messages.specs.Hints.{causes_in, with_causes}
 use Rattle.sixel_program.proofs.FilesLemmas.{one_cut, one_ended}
 use Rattle.sixel_program.proofs.checks.check_input.Goals as goal
 

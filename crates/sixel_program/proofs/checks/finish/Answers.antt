@@ -1,5 +1,5 @@
 use Rattle.std.proofs.Common.{[], ◌∷◌, ap, inl, refl}
-use Rattle.sixel_program.proofs.FilesLemmas.{put_then, two_put}
+use Rattle.sixel_messages.proofs.PutsLemmas.{put_then, two_put}
 use Rattle.sixel_program.proofs.checks.finish.Goals as goal
 
 pub returns-in-Ok : goal.returns-in-Ok

@@ -9,7 +9,8 @@ use Rattle.clap.specs.Kinds.{HasKind, Kinds}
 use Rattle.clap.specs.Simple.{App, is_simple, subcommand_of, subcommand_rows_of}
 use Rattle.sixel_report.specs.declared.task.Task.{Task}
 use Rattle.sixel_report.specs.Texts.{Text}
-use Rattle.sixel_words.specs.Words.{AsksFor, IsExplanationOf, IsTaskOf, kinds_of, sixel_app}
+use Rattle.sixel_words.specs.Words.{AsksFor, IsExplanationOf, IsTaskOf, kinds_of}
+use Rattle.sixel_commands.specs.Commands.{sixel_app}
 use Rattle.sixel_words.proofs.FaultLemmas.{found_by_clap, found_in_taken, memory_is_wanted}
 use Rattle.sixel_words.proofs.ExplainLemmas.{asked_by, refused_unasked, refused_unhelped, same_wish, unasked}
 use Rattle.sixel_words.proofs.MatchLemmas.{both_parts, name_rows, none_of, not_some, request_is, same_task}

@@ -9,7 +9,7 @@ use Rattle.std.proofs.lemmas.Slice.Eq.{bytes_eq-Decides}
 use Rattle.sixel_model.specs.declared.profile.Profile.TheVariants.{Registers16}
 use Rattle.sixel_program.specs.Files.{IsDoneOver, is_dash, names_read, told_of}
 use Rattle.sixel_program.specs.Openings.{Told, bytes_told}
-use Rattle.sixel_program.specs.declared.folder.Unopened.TheVariants.{NotFound}
+use Rattle.sixel_messages.specs.declared.unopened.Unopened.TheVariants.{NotFound}
 use Rattle.sixel_run.specs.Outputs.{Gives}
 use Rattle.sixel_report.specs.Texts.{Text}
 use Rattle.sixel_named.specs.Laws.{none}

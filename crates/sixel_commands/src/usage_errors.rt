@@ -1,0 +1,320 @@
+//! Usage errors of our own, and tips for clap's.
+
+ghost use Rattle.std.specs.Prelude.{◌≡◌, IfOk, IfSome, IsNone, false};
+ghost use Rattle.clap.specs.Values.{kind_of};
+ghost use Rattle.sixel_commands.specs.Commands.{may_get_a_tip};
+
+use crate::commands::{
+    check_command, differ_command, encode_command, explain_command, list_command, mend_command,
+    render_command, scan_command, show_command, sixel_command, survey_command,
+};
+use clap::error::ErrorKind;
+use clap::{Command, Error};
+use sixel_explain::{nearest, topics_asked};
+use sixel_report::MOST_SCREEN_SIDE;
+use std::alloc::{AllocError, Global};
+
+/// What clap's text of a usage error begins with.
+const START: &str = "error: ";
+
+/// What clap's text of a value that isn't taken has before its reason, if the option is a side.
+const SIDE: &str = " <N>': ";
+
+/// How clap's tip on `--` begins.
+const DASHES: &str = "  tip: to pass '--";
+
+/// A usage error for this reason, with the usage text of this command.
+fn error_of(
+    command: Command<'_>,
+    name: &str,
+    kind: ErrorKind,
+    reason: &str,
+) -> Result<Error, AllocError>
+    ensures { IfOk result (λ e. kind_of e ≡ kind) }
+{
+    let mut command = command.bin_name(name)?;
+    command.error(kind, reason)
+}
+
+/// A usage error without a subcommand.
+pub fn usage_error(alloc: Global, reason: &str) -> Result<Error, AllocError>
+    ensures { IfOk result (λ e. kind_of e ≡ ErrorKind.ValueValidation) }
+{
+    error_of(
+        sixel_command(alloc)?,
+        "sixel",
+        ErrorKind::ValueValidation,
+        reason,
+    )
+}
+
+/// A usage error of `show`: options that can't be combined.
+pub fn conflict_error(alloc: Global, reason: &str) -> Result<Error, AllocError>
+    ensures { IfOk result (λ e. kind_of e ≡ ErrorKind.ArgumentConflict) }
+{
+    error_of(
+        show_command(alloc)?,
+        "sixel show",
+        ErrorKind::ArgumentConflict,
+        reason,
+    )
+}
+
+/// A usage error of `show`: no terminal has this name.
+pub fn terminal_error(alloc: Global, name: &str) -> Result<Error, AllocError>
+    ensures { IfOk result (λ e. kind_of e ≡ ErrorKind.InvalidValue) }
+{
+    let reason = format!(in alloc;
+        "invalid value '{name}' for '--on <NAME>'\n  [possible values: xterm, mlterm, foot, konsole]"
+    )?;
+    error_of(
+        show_command(alloc)?,
+        "sixel show",
+        ErrorKind::InvalidValue,
+        reason.as_str(),
+    )
+}
+
+/// A usage error of `check`: this value of `--on` names no terminals.
+pub fn unchecked_error(alloc: Global, value: &str) -> Result<Error, AllocError>
+    ensures { IfOk result (λ e. kind_of e ≡ ErrorKind.InvalidValue) }
+{
+    let reason = names_reason(alloc, value)?;
+    error_of(
+        check_command(alloc)?,
+        "sixel check",
+        ErrorKind::InvalidValue,
+        reason.as_str(),
+    )
+}
+
+/// The same of `survey`.
+pub fn unsurveyed_error(alloc: Global, value: &str) -> Result<Error, AllocError>
+    ensures { IfOk result (λ e. kind_of e ≡ ErrorKind.InvalidValue) }
+{
+    let reason = names_reason(alloc, value)?;
+    error_of(
+        survey_command(alloc)?,
+        "sixel survey",
+        ErrorKind::InvalidValue,
+        reason.as_str(),
+    )
+}
+
+fn names_reason(alloc: Global, value: &str) -> Result<String, AllocError> {
+    format!(in alloc;
+        "invalid value '{value}' for '--on <NAMES>'\n  \
+        [possible values: xterm, mlterm, foot, konsole with commas between them, or all]"
+    )
+}
+
+/// A usage error of `mend`: this value of `--background` is no colour.
+pub fn background_error(alloc: Global, value: &str) -> Result<Error, AllocError>
+    ensures { IfOk result (λ e. kind_of e ≡ ErrorKind.ValueValidation) }
+{
+    let reason = colour_reason(alloc, value)?;
+    error_of(
+        mend_command(alloc)?,
+        "sixel mend",
+        ErrorKind::ValueValidation,
+        reason.as_str(),
+    )
+}
+
+/// The same of `show`.
+pub fn uncoloured_error(alloc: Global, value: &str) -> Result<Error, AllocError>
+    ensures { IfOk result (λ e. kind_of e ≡ ErrorKind.ValueValidation) }
+{
+    let reason = colour_reason(alloc, value)?;
+    error_of(
+        show_command(alloc)?,
+        "sixel show",
+        ErrorKind::ValueValidation,
+        reason.as_str(),
+    )
+}
+
+/// The same of `differ`.
+pub fn undiffered_error(alloc: Global, value: &str) -> Result<Error, AllocError>
+    ensures { IfOk result (λ e. kind_of e ≡ ErrorKind.ValueValidation) }
+{
+    let reason = colour_reason(alloc, value)?;
+    error_of(
+        differ_command(alloc)?,
+        "sixel differ",
+        ErrorKind::ValueValidation,
+        reason.as_str(),
+    )
+}
+
+/// A usage error of `differ`: a sheet of several files.
+pub fn sheet_error(alloc: Global) -> Result<Error, AllocError>
+    ensures { IfOk result (λ e. kind_of e ≡ ErrorKind.ArgumentConflict) }
+{
+    error_of(
+        differ_command(alloc)?,
+        "sixel differ",
+        ErrorKind::ArgumentConflict,
+        "the argument '--sheet' cannot be used with several files",
+    )
+}
+
+fn colour_reason(alloc: Global, value: &str) -> Result<String, AllocError> {
+    format!(in alloc;
+        "invalid value '{value}' for '--background <COLOUR>': \
+        expected three percentages, as in 100,50,0, or samples, as in '#ff8000'"
+    )
+}
+
+/// A usage error of `explain`: a word is no name. For a misspelled name it has a tip.
+pub fn unnamed_error(alloc: Global, said: &[&str]) -> Result<Error, AllocError>
+    ensures { IfOk result (λ e. kind_of e ≡ ErrorKind.ValueValidation) }
+{
+    let reason = unnamed_reason(alloc, said)?;
+    error_of(
+        explain_command(alloc)?,
+        "sixel explain",
+        ErrorKind::ValueValidation,
+        reason.as_str(),
+    )
+}
+
+fn unnamed_reason(alloc: Global, said: &[&str]) -> Result<String, AllocError> {
+    let word = first_unnamed(alloc, said)?;
+    let unnamed = format!(in alloc;
+        "no rule or refusal has the name '{word}'; 'sixel explain' lists the names"
+    )?;
+    match nearest(alloc, word)? {
+        Some(name) => { format!(in alloc; "{unnamed}\n\n  tip: a similar name exists: '{name}'") }
+        None => Ok(unnamed),
+    }
+}
+
+/// The first word that is no name.
+fn first_unnamed<'a>(alloc: Global, said: &[&'a str]) -> Result<&'a str, AllocError> {
+    for word in said {
+        if topics_asked(alloc, &[*word])?.is_none() {
+            return Ok(*word);
+        }
+    }
+    Ok("")
+}
+
+/// This usage error of clap, with a tip if a file was named that can't be read there, without clap's tip on `--`, and
+/// with the numbers that a side may have. The kind stays.
+pub fn with_tip(alloc: Global, words: &[String], error: Error) -> Error
+    ensures kind { kind_of result ≡ kind_of error }
+    ensures kept { may_get_a_tip (kind_of error) ≡ false → result ≡ error }
+{
+    match tipped(alloc, words, &error) {
+        Ok(Some(tipped)) => tipped,
+        Ok(None) => error,
+        Err(_) => error,
+    }
+}
+
+/// The usage error with another text, if there is one for it.
+fn tipped(alloc: Global, words: &[String], error: &Error) -> Result<Option<Error>, AllocError>
+    ensures kind { IfOk result (λ tipped. IfSome tipped (λ e. kind_of e ≡ kind_of error.now)) }
+    ensures none { may_get_a_tip (kind_of error.now) ≡ false → IfOk result IsNone }
+{
+    let [_, name, ..] = words else {
+        return Ok(None);
+    };
+    match error.kind() {
+        ErrorKind::InvalidSubcommand if is_path(name.as_str()) => {
+            let tipped = path_error(alloc, name.as_str())?;
+            Ok(Some(tipped))
+        }
+        ErrorKind::UnknownArgument => unknown_error(alloc, name.as_str(), error),
+        ErrorKind::ValueValidation => side_error(alloc, error),
+        _ => Ok(None),
+    }
+}
+
+/// Whether the name of a subcommand looks like that of a file.
+fn is_path(name: &str) -> bool {
+    name.contains('.') || name.contains('/')
+}
+
+/// A file in place of the subcommand.
+fn path_error(alloc: Global, name: &str) -> Result<Error, AllocError>
+    ensures { IfOk result (λ e. kind_of e ≡ ErrorKind.InvalidSubcommand) }
+{
+    let reason = format!(in alloc;
+        "unrecognized subcommand '{name}'\n\n  tip: to check a file, use 'sixel check {name}'"
+    )?;
+    error_of(
+        sixel_command(alloc)?,
+        "sixel",
+        ErrorKind::InvalidSubcommand,
+        reason.as_str(),
+    )
+}
+
+/// The error of clap for a value of a side, with the numbers that a side may have.
+fn side_error(alloc: Global, error: &Error) -> Result<Option<Error>, AllocError>
+    ensures { IfOk result (λ tipped. IfSome tipped (λ e. kind_of e ≡ ErrorKind.ValueValidation)) }
+{
+    let told = format!(in alloc; "{error}")?;
+    let Some(reason) = side_reason(alloc, told.as_str())? else {
+        return Ok(None);
+    };
+    let kind = ErrorKind::ValueValidation;
+    let tipped = error_of(show_command(alloc)?, "sixel show", kind, reason.as_str())?;
+    Ok(Some(tipped))
+}
+
+/// What clap's text says of a side, with the numbers that it may have.
+fn side_reason(alloc: Global, told: &str) -> Result<Option<String>, AllocError> {
+    let told = told.strip_prefix(START).unwrap_or(told);
+    let Some((value, _)) = told.split_once(SIDE) else {
+        return Ok(None);
+    };
+    let reason = format!(in alloc; "{value}{SIDE}expected a number from 1 to {MOST_SCREEN_SIDE}")?;
+    Ok(Some(reason))
+}
+
+/// The error of clap for an argument that isn't expected, if its text changes.
+fn unknown_error(alloc: Global, name: &str, error: &Error) -> Result<Option<Error>, AllocError>
+    ensures { IfOk result (λ tipped. IfSome tipped (λ e. kind_of e ≡ ErrorKind.UnknownArgument)) }
+{
+    let told = format!(in alloc; "{error}")?;
+    let Some(reason) = unknown_reason(alloc, name, told.as_str())? else {
+        return Ok(None);
+    };
+    let command = match name {
+        "list" => list_command(alloc)?,
+        "check" => check_command(alloc)?,
+        "survey" => survey_command(alloc)?,
+        "scan" => scan_command(alloc)?,
+        "render" => render_command(alloc)?,
+        "encode" => encode_command(alloc)?,
+        "show" => show_command(alloc)?,
+        "differ" => differ_command(alloc)?,
+        "mend" => mend_command(alloc)?,
+        "explain" => explain_command(alloc)?,
+        _ => return Ok(None),
+    };
+    let called = format!(in alloc; "sixel {name}")?;
+    let kind = ErrorKind::UnknownArgument;
+    let tipped = error_of(command, called.as_str(), kind, reason.as_str())?;
+    Ok(Some(tipped))
+}
+
+/// What clap's text says: of an option that begins with `--` without the tip on `--`, and of a second file with a tip.
+fn unknown_reason(alloc: Global, name: &str, told: &str) -> Result<Option<String>, AllocError> {
+    let told = told.strip_prefix(START).unwrap_or(told);
+    let (reason, more) = told.split_once("\n\n").unwrap_or((told, ""));
+    if more.starts_with(DASHES) {
+        let plain = String::from_str(alloc, reason)?;
+        return Ok(Some(plain));
+    }
+    if told.starts_with("unexpected argument '-") {
+        return Ok(None);
+    }
+    let reason = format!(in alloc;
+        "{reason}\n\n  tip: '{name}' reads one file; only 'check', 'survey', 'scan' and 'differ' read several"
+    )?;
+    Ok(Some(reason))
+}

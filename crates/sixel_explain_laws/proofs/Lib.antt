@@ -1,0 +1,4 @@
+pub mod CaseLemmas
+pub mod PastedLemmas
+pub mod EntryLemmas
+pub mod StringLineLemmas

@@ -1,0 +1,5 @@
+pub mod PutsLemmas
+pub mod JsonLemmas
+pub mod MemberLemmas
+pub mod CauseLemmas
+pub mod ReportLemmas

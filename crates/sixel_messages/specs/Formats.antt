@@ -1,0 +1,131 @@
+-- The formats of files, and the advice on them.
+use Rattle.std.specs.Prelude.{◌≡◌, ◌==◌, ◌&&◌, ◌∷◌, ◌++◌, ℕ, Bool, false, List, [], Option, Some, None, IfSome, map}
+use Rattle.std.specs.Prelude.{Result, Err, codes, is_none, nat_le, option_map, replicate, take, true, if◌then◌else◌}
+use Rattle.std.specs.List.{find, list_any}
+use Rattle.std.specs.Option.{option_map_or}
+use Rattle.sixel_grammar.specs.declared.fault.Reason.{Reason}
+use Rattle.sixel_grammar.specs.declared.fault.Reason.TheVariants.{NotSixel, Truncated}
+use Rattle.sixel_ppm.specs.declared.ppm.PpmReason.TheVariants.{Header, Short}
+use Rattle.sixel_report.specs.declared.fault.RunFault.{RunFault}
+use Rattle.sixel_report.specs.declared.fault.RunFault.TheVariants.{Grammar, Ppm as PpmFault}
+use Rattle.sixel_messages.specs.declared.formats.Format.{Format}
+use Rattle.sixel_messages.specs.declared.formats.Format.TheVariants.{Png, Jpeg, Gif, WebP, Bmp, Tiff, Ppm, Netpbm}
+use Rattle.sixel_messages.specs.declared.formats.Format.TheVariants.{Sixel}
+use Rattle.sixel_report.specs.declared.task.Status.{Status}
+use Rattle.sixel_report.specs.Texts.{BeginsWith, Text}
+
+-- ---- the magic numbers
+
+-- the bytes begin with these, where there are any
+abbrev pub begins_with : List (Option ℕ) → List ℕ → Bool
+begins_with [] bytes = true
+begins_with (wanted ∷ more) [] = false
+begins_with (None ∷ more) (byte ∷ bytes) = begins_with more bytes
+begins_with (Some wanted ∷ more) (byte ∷ bytes) = (byte == wanted) && begins_with more bytes
+
+-- what the files of each format begin with; where there is None, with any byte
+abbrev pub magic_numbers : List (List (Option ℕ) × Format)
+magic_numbers =
+    (map Some (137 ∷ codes "PNG"), Png)
+    ∷ (map Some (255 ∷ 216 ∷ 255 ∷ []), Jpeg)
+    ∷ (map Some (codes "GIF8"), Gif)
+    -- four bytes of a length stand between
+    ∷ (map Some (codes "RIFF") ++ replicate 4 None ++ map Some (codes "WEBP"), WebP)
+    ∷ (map Some (codes "BM"), Bmp)
+    ∷ (map Some (codes "II*" ++ 0 ∷ []), Tiff)
+    ∷ (map Some (codes "MM" ++ 0 ∷ codes "*"), Tiff)
+    ∷ (map Some (codes "P6"), Ppm)
+    ∷ (map Some (codes "P1"), Netpbm)
+    ∷ (map Some (codes "P2"), Netpbm)
+    ∷ (map Some (codes "P3"), Netpbm)
+    ∷ (map Some (codes "P4"), Netpbm)
+    ∷ (map Some (codes "P5"), Netpbm)
+    ∷ (map Some (codes "P7"), Netpbm)
+    -- an introducer: ESC P, or 90 in hexadecimal
+    ∷ (map Some (27 ∷ codes "P"), Sixel)
+    ∷ (map Some (144 ∷ []), Sixel)
+    ∷ []
+
+abbrev pub format_of : List ℕ → Option Format
+format_of prefix = option_map (λ magic. magic.1) (find (λ magic. begins_with magic.0 prefix) magic_numbers)
+
+-- whether the first byte is that of a magic number, or isn't there yet
+abbrev pub may_begin : List ℕ → Bool
+may_begin [] = true
+may_begin (byte ∷ more) = list_any (λ magic. begins_with (take 1 magic.0) (byte ∷ [])) magic_numbers
+
+-- whether more bytes may tell the format of a file that begins with these
+abbrev pub is_undecided : List ℕ → Bool
+is_undecided prefix = may_begin prefix && is_none (format_of prefix)
+
+-- the format of an input, if its bytes are known: that of some prefix of them
+abbrev pub IsFormat : Option (List ℕ) → Option Format → Type 0
+IsFormat told format =
+    IfSome told (λ bytes. (prefix : List ℕ) × BeginsWith bytes prefix × (format ≡ format_of prefix))
+
+-- ---- the advice
+
+-- how to make a PPM of a file of this format
+abbrev pub ppm_advice : Format → Text
+ppm_advice Png = codes "sixel: this is a PNG; `pngtopnm -mix | pnmdepth 255 | ppmtoppm` makes a PPM (P6) of it" ++ 10 ∷ []
+ppm_advice Jpeg = codes "sixel: this is a JPEG; `jpegtopnm | ppmtoppm` makes a PPM (P6) of it" ++ 10 ∷ []
+ppm_advice Gif = codes "sixel: this is a GIF; `giftopnm | ppmtoppm` makes a PPM (P6) of it" ++ 10 ∷ []
+ppm_advice WebP = codes "sixel: this is a WebP; `dwebp -ppm - -o -` makes a PPM (P6) of it" ++ 10 ∷ []
+ppm_advice Bmp = codes "sixel: this is a BMP; `bmptopnm | ppmtoppm` makes a PPM (P6) of it" ++ 10 ∷ []
+ppm_advice Tiff = codes "sixel: this is a TIFF; `tifftopnm | ppmtoppm` makes a PPM (P6) of it" ++ 10 ∷ []
+ppm_advice Ppm = []
+ppm_advice Netpbm = codes "sixel: this is another format of Netpbm; `ppmtoppm` makes a PPM (P6) of it" ++ 10 ∷ []
+ppm_advice Sixel = codes "sixel: this is sixel text; `sixel check` reads it" ++ 10 ∷ []
+
+-- the programs that make sixel text of what they read, and what they make
+abbrev pub makes_sixel : Text → Text
+makes_sixel programs = codes "`" ++ programs ++ codes "pnmquant 16 | sixel encode` makes sixel text of it" ++ 10 ∷ []
+
+-- how to make sixel text of a file of this format
+abbrev pub sixel_advice : Format → Text
+sixel_advice Png = codes "sixel: this is a PNG; " ++ makes_sixel (codes "pngtopnm -mix | pnmdepth 255 | ppmtoppm | ")
+sixel_advice Jpeg = codes "sixel: this is a JPEG; " ++ makes_sixel (codes "jpegtopnm | ppmtoppm | ")
+sixel_advice Gif = codes "sixel: this is a GIF; " ++ makes_sixel (codes "giftopnm | ppmtoppm | ")
+sixel_advice WebP = codes "sixel: this is a WebP; " ++ makes_sixel (codes "dwebp -ppm - -o - | ")
+sixel_advice Bmp = codes "sixel: this is a BMP; " ++ makes_sixel (codes "bmptopnm | ppmtoppm | ")
+sixel_advice Tiff = codes "sixel: this is a TIFF; " ++ makes_sixel (codes "tifftopnm | ppmtoppm | ")
+sixel_advice Ppm = codes "sixel: this is a PPM; " ++ makes_sixel []
+sixel_advice Netpbm = codes "sixel: this is a Netpbm file; " ++ makes_sixel (codes "ppmtoppm | ")
+sixel_advice Sixel = []
+
+-- the line on an input without bytes
+abbrev pub empty_line : Text
+empty_line = codes "sixel: the input is empty" ++ 10 ∷ []
+
+-- whether the fault is that the input ends too early
+abbrev pub is_early_end : Reason → Bool
+is_early_end Truncated = true
+is_early_end _ = false
+
+-- whether the input has no bytes: it ends too early at offset 0
+abbrev pub is_of_empty : RunFault → Bool
+is_of_empty (Grammar fault) = is_early_end fault.reason && (fault.place == 0)
+is_of_empty (PpmFault Short place) = place == 0
+is_of_empty _ = false
+
+-- the text, if this is the reason and the offset of a fault which says that the first or the second byte isn't that of
+-- sixel text
+abbrev pub if_not_sixel : Reason → ℕ → Text → Text
+if_not_sixel NotSixel place text = if nat_le place 1 then text else []
+if_not_sixel _ place text = []
+
+-- the advice on an input of this format that is refused at its first or its second byte: by `encode`, as no header of a
+-- PPM, or by any other task, as no sixel text
+abbrev pub format_advice : Option Format → RunFault → Text
+format_advice format (Grammar fault) =
+    if_not_sixel fault.reason fault.place (option_map_or sixel_advice format [])
+format_advice format (PpmFault Header place) = if nat_le place 1 then option_map_or ppm_advice format [] else []
+format_advice format _ = []
+
+-- the line after that of the fault: that the input is empty, or the advice on its format
+abbrev pub advice_on : Option Format → RunFault → Text
+advice_on format fault = if is_of_empty fault then empty_line else format_advice format fault
+
+abbrev pub advice_for : Option Format → Result Status RunFault → Text
+advice_for format (Err fault) = advice_on format fault
+advice_for format _ = []

@@ -1,0 +1,9 @@
+pub mod Unopened
+pub mod Formats
+pub mod Names
+pub mod Notes
+pub mod Messages
+pub mod Hints
+pub mod Json
+pub mod Puts
+pub mod Reports

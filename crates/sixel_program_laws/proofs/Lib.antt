@@ -1,0 +1,5 @@
+pub mod SaidLemmas
+pub mod EmptyLemmas
+pub mod ReadBackLemmas
+pub mod ValueLemmas
+pub mod FeedLemmas

@@ -1,0 +1,4 @@
+//! Laws of the program: of several files, of lines of JSON, of empty inputs and of printed names.
+#![tactic(auto)]
+
+pub mod laws;

@@ -1,0 +1,4 @@
+pub mod TasklessLemmas
+pub mod LiteralLemmas
+pub mod FlagLemmas
+pub mod WishLemmas
