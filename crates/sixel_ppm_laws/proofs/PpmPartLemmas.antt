@@ -10,13 +10,13 @@ use Rattle.std.specs.Str.Parse.{AllDigits, digits_value_after}
 use Rattle.std.proofs.lemmas.Bool.Decides.{nat_tests}
 use Rattle.sixel_grammar.specs.Bytes.{is_digit}
 use Rattle.sixel_grammar.proofs.NumberLemmas.{digit_range, digit_value-is}
-use Rattle.sixel_ppm.specs.PpmFiles.{IsFiller, IsFillerPiece, IsNumberText}
+use Rattle.sixel_ppm_laws.specs.PpmFiles.{IsFiller, IsFillerPiece, IsNumberText}
 use Rattle.sixel_ppm.specs.PpmReading.{after_digits, after_filler, at_fault, begins_filler, filled_number, is_space}
 use Rattle.sixel_ppm.specs.PpmReading.{judged, most_header, number, wanted}
 use Rattle.sixel_ppm.specs.declared.ppm.PpmFault.{PpmFault}
 use Rattle.sixel_ppm.specs.declared.ppm.PpmReason.{PpmReason}
 use Rattle.sixel_ppm.specs.declared.ppm.PpmReason.TheVariants.{Header}
-use Rattle.sixel_ppm.proofs.PpmFileLemmas.{digit_adds}
+use Rattle.sixel_ppm_laws.proofs.PpmFileLemmas.{digit_adds}
 use Rattle.sixel_ppm.proofs.PpmHeaderLemmas.{if_then}
 use Rattle.sixel_ppm.proofs.PpmSampleLemmas.{below_limit}
 

@@ -5,18 +5,18 @@ use Rattle.std.specs.Prelude.{IfOk, if◌then◌else◌}
 use Rattle.std.specs.List.{AllByRecursion}
 use Rattle.std.proofs.lemmas.Bool.Decides.{nat_tests}
 use Rattle.std.proofs.lemmas.List.{append-nil}
-use Rattle.sixel_ppm.specs.Laws.{PictureFilesAreRead}
+use Rattle.sixel_ppm_laws.specs.Laws.{PictureFilesAreRead}
 use Rattle.sixel_model.specs.Pictures.{PictureValue, most_side}
-use Rattle.sixel_ppm.specs.PpmFiles.{IsHeader, IsPictureFile, colours_of_samples}
+use Rattle.sixel_ppm_laws.specs.PpmFiles.{IsHeader, IsPictureFile, colours_of_samples}
 use Rattle.sixel_ppm.specs.PpmReading.{Head, at_fault, begins_filler, colour_of, coloured, distinct, filled_number}
 use Rattle.sixel_ppm.specs.PpmReading.{head_of, is_space, picture_of, pixels, ppm_read, sample, wanted}
 use Rattle.sixel_model.specs.declared.colour.Parts.{Parts}
 use Rattle.sixel_ppm.specs.declared.ppm.PpmFault.{PpmFault}
 use Rattle.sixel_ppm.specs.declared.ppm.PpmReason.TheVariants as reason
 use Rattle.sixel_ppm.specs.declared.ppm.PpmReason.TheVariants.{Header, Sample, Size, TooManyColours}
-use Rattle.sixel_ppm.proofs.PpmFileLemmas.{file_read, grouped}
+use Rattle.sixel_ppm_laws.proofs.PpmFileLemmas.{file_read, grouped}
 use Rattle.sixel_ppm.proofs.PpmHeaderLemmas.{if_then}
-use Rattle.sixel_ppm.proofs.PpmPartLemmas.{FilledFound, Taken, filled_found, if_so, same_byte, wanted_found}
+use Rattle.sixel_ppm_laws.proofs.PpmPartLemmas.{FilledFound, Taken, filled_found, if_so, same_byte, wanted_found}
 
 -- ---- the header
 

@@ -1,6 +1,6 @@
 //! Laws about the definitions. Each function's contract is the law.
 
-ghost use Rattle.sixel_ppm.specs.Laws.{PictureFilesAreRead, PixelsHaveColours};
+ghost use Rattle.sixel_ppm_laws.specs.Laws.{PictureFilesAreRead, PixelsHaveColours};
 ghost use Rattle.sixel_model.specs.Profiles.{count_of};
 ghost use Rattle.sixel_model.specs.declared.profile.Profile.{Profile};
 

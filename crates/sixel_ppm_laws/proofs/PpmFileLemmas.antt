@@ -17,18 +17,17 @@ use Rattle.std.proofs.lemmas.Str.Parse.{digit_from_value}
 use Rattle.sixel_grammar.specs.Bytes.{is_digit}
 use Rattle.sixel_model.specs.Colours.{is_same}
 use Rattle.sixel_model.specs.Pictures.{PictureValue, most_side}
-use Rattle.sixel_ppm.specs.PpmFiles.{IsFiller, IsFillerPiece, IsHeader, IsNumberText, IsPictureFile}
-use Rattle.sixel_ppm.specs.PpmFiles.{colours_of_samples}
+use Rattle.sixel_ppm_laws.specs.PpmFiles.{IsFiller, IsFillerPiece, IsHeader, IsNumberText, IsPictureFile}
+use Rattle.sixel_ppm_laws.specs.PpmFiles.{colours_of_samples}
 use Rattle.sixel_ppm.specs.PpmReading.{◌>>=◌, Head, after_digits, after_filler, begins_filler, colour_of, distinct}
 use Rattle.sixel_ppm.specs.PpmReading.{filled_number, head_of, height_on, is_space, judged, maxval_on, most_header}
 use Rattle.sixel_ppm.specs.PpmReading.{number, picture_after, picture_of, pixels, ppm_read, wanted, width_on}
-use Rattle.sixel_ppm.specs.PpmReading.{with_colour}
 use Rattle.sixel_model.specs.declared.colour.Parts.{Parts}
 use Rattle.sixel_ppm.specs.declared.ppm.PpmFault.{PpmFault}
 use Rattle.sixel_ppm.specs.declared.ppm.PpmReason.{PpmReason}
 use Rattle.sixel_ppm.specs.declared.ppm.PpmReason.TheVariants as reason
 use Rattle.sixel_ppm.specs.declared.ppm.PpmReason.TheVariants.{Size}
-use Rattle.sixel_ppm.proofs.PpmSampleLemmas.{below_limit, passes}
+use Rattle.sixel_ppm.proofs.PpmSampleLemmas.{below_limit, distinct_grows, passes}
 
 -- ---- single bytes
 
@@ -315,22 +314,6 @@ header_read width height maxval header samples h =
     h.scaled h.end_is within
 
 -- ---- the samples
-
-grows_by : (seen : List Parts) (c : Parts) (t : Bool) → list_any (is_same c) seen ≡ t
-    → length seen ≤ length (with_colour seen c)
-grows_by seen c true e = rw e (omega arith)
-grows_by seen c false e = rw e (omega (arith, length-append seen (c ∷ [])))
-
-grows : (seen more : List Parts) → length seen ≤ length (fold with_colour seen more)
-grows seen [] = omega arith
-grows seen (c ∷ more) =
-    le_trans (grows_by seen c (list_any (is_same c) seen) refl) (grows (with_colour seen c) more)
-
--- a prefix of the colours has no more different ones
-pub distinct_grows : (colours more : List Parts) → length (distinct colours) ≤ length (distinct (colours ++ more))
-distinct_grows colours more =
-    subst (λ (seen : List Parts). length (distinct colours) ≤ length seen)
-    (sym (fold-append with_colour [] colours more)) (grows (distinct colours) more)
 
 pixel_taken : (registers maxval n at r g b : ℕ) (colours : List Parts) (rest : List ℕ) → r ≤ maxval → g ≤ maxval
     → b ≤ maxval

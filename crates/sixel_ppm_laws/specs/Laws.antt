@@ -3,7 +3,7 @@ use Rattle.std.specs.Prelude.{◌≡◌, ℕ, List, Ok, Some, map}
 use Rattle.sixel_model.specs.Colours.{palette_at}
 use Rattle.sixel_model.specs.Pictures.{PictureValue, IsPicture}
 use Rattle.sixel_ppm.specs.Ppm.{colours_of}
-use Rattle.sixel_ppm.specs.PpmFiles.{IsPictureFile}
+use Rattle.sixel_ppm_laws.specs.PpmFiles.{IsPictureFile}
 use Rattle.sixel_ppm.specs.PpmReading.{ppm_read}
 
 -- the colours of a picture are those of the registers of its pixels, one for each
