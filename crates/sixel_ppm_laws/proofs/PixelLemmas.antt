@@ -1,9 +1,9 @@
 -- Each pixel of a picture has a colour.
-use Rattle.std.proofs.Common.{◌≡◌, ℕ, Bool, true, false, ◌&&◌, Option, Some, None, List, [], ◌∷◌, length, refl, ap}
+use Rattle.std.proofs.Common.{◌≡◌, ℕ, true, ◌&&◌, Option, Some, None, List, [], ◌∷◌, length, refl, ap}
 use Rattle.std.specs.Prelude.{◌==◌, ◌*◌, is_some, map, nat_lt}
 use Rattle.std.specs.List.{cons_option, filter_map, list_all}
 use Rattle.sixel_model.specs.Colours.{palette_at}
-use Rattle.sixel_model.specs.Pictures.{PictureValue, is_side}
+use Rattle.sixel_model.specs.Pictures.{is_side}
 use Rattle.sixel_model.specs.declared.picture.PictureReason.TheVariants.{Size, Count, Register, NoColour}
 use Rattle.sixel_ppm.proofs.PpmLemmas.{last_test}
 use Rattle.sixel_ppm_laws.specs.Laws.{PixelsHaveColours}

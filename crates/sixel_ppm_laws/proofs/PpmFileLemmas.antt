@@ -2,20 +2,17 @@
 use Rattle.std.proofs.Common.{◌≡◌, ◌≢◌, ◌==◌, ◌+◌, ◌-◌, ◌*◌, ◌<◌, ◌≤◌, ℕ, zero, suc, Bool, true, false, ◌&&◌, nat_le}
 use Rattle.std.proofs.Common.{nat_lt, Result, Ok, List, [], ◌∷◌, ◌++◌, length, refl, sym, ap, ap₂, subst, ◌∙◌}
 use Rattle.std.proofs.Common.{append_assoc, arith, inl, inr, length-append}
-use Rattle.std.specs.Prelude.{fold}
 use Rattle.std.specs.Char.{digit_value}
 use Rattle.std.specs.Int.{IsInRange}
-use Rattle.std.specs.List.{AllByRecursion, concat, list_any}
+use Rattle.std.specs.List.{AllByRecursion, concat}
 use Rattle.std.specs.Str.Parse.{AllDigits, digits_value, digits_value_after}
 use Rattle.std.proofs.Math.Nat.{le_trans}
 use Rattle.std.proofs.lemmas.Bool.{ne_eqb}
 use Rattle.std.proofs.lemmas.Bool.Decides.{nat_tests}
 use Rattle.std.proofs.lemmas.List.{append-nil}
-use Rattle.std.proofs.lemmas.List.Sums.{fold-append}
 use Rattle.std.proofs.lemmas.Str.{digit_value_digit}
 use Rattle.std.proofs.lemmas.Str.Parse.{digit_from_value}
 use Rattle.sixel_grammar.specs.Bytes.{is_digit}
-use Rattle.sixel_model.specs.Colours.{is_same}
 use Rattle.sixel_model.specs.Pictures.{PictureValue, most_side}
 use Rattle.sixel_ppm_laws.specs.PpmFiles.{IsFiller, IsFillerPiece, IsHeader, IsNumberText, IsPictureFile}
 use Rattle.sixel_ppm_laws.specs.PpmFiles.{colours_of_samples}
