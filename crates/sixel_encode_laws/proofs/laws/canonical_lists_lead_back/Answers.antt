@@ -1,6 +1,6 @@
 use Rattle.sixel_model.specs.Profiles.{count_of}
-use Rattle.sixel_encode.proofs.LeadsBackLemmas
-use Rattle.sixel_encode.proofs.laws.canonical_lists_lead_back.Goals as goal
+use Rattle.sixel_encode_laws.proofs.LeadsBackLemmas
+use Rattle.sixel_encode_laws.proofs.laws.canonical_lists_lead_back.Goals as goal
 
 pub returns : goal.returns
 returns c = record {

@@ -10,7 +10,7 @@ use Rattle.sixel_model.specs.Rules.{picture_left}
 use Rattle.sixel_encode.specs.Canon.{runs, column_bits, band_columns, occurs, band_registers, register_commands}
 use Rattle.sixel_encode.specs.Canon.{band_commands, define_commands, picture_commands, canon_commands, canon}
 use Rattle.sixel_encode.specs.Canon.{canon_text}
-use Rattle.sixel_encode.proofs.LeadsBackLemmas.{lists_leave_their_picture}
+use Rattle.sixel_encode_laws.proofs.LeadsBackLemmas.{lists_leave_their_picture}
 
 -- ESC P 0;1 q, a quotation mark, the text, ESC \
 abbrev in_string : List ℕ → List ℕ

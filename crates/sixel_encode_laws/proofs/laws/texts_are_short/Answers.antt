@@ -2,8 +2,8 @@ use Rattle.std.proofs.Common.{arith, lit≤}
 use Rattle.sixel_grammar.specs.Document.{most_bytes}
 use Rattle.sixel_model.proofs.PictureLemmas.{at_most_256}
 use Rattle.sixel_model.specs.Profiles.{count_of}
-use Rattle.sixel_encode.proofs.LengthLemmas
-use Rattle.sixel_encode.proofs.laws.texts_are_short.Goals as goal
+use Rattle.sixel_encode_laws.proofs.LengthLemmas
+use Rattle.sixel_encode_laws.proofs.laws.texts_are_short.Goals as goal
 
 pub returns : goal.returns
 returns c = record {

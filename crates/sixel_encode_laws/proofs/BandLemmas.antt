@@ -14,15 +14,15 @@ use Rattle.sixel_model.specs.Geometry.{column}
 use Rattle.sixel_model.specs.Rules.{breaks_colour_value, breaks_redefined, breaks_register, breaks_repeat_zero}
 use Rattle.sixel_model.proofs.StepLemmas.{column_push}
 use Rattle.sixel_encode.specs.Canon.{band_columns, band_commands, band_registers, below, register_commands, runs}
-use Rattle.sixel_encode.specs.Laws.{items_of}
-use Rattle.sixel_encode.proofs.LongestLemmas.{runs_joined}
-use Rattle.sixel_encode.proofs.StripLemmas.{lies}
-use Rattle.sixel_encode.proofs.StandLemmas.{Passed, Stands, known_select, passed_as, quiet_passed, ran_as, ran_join}
-use Rattle.sixel_encode.proofs.StandLemmas.{ran_none, stands_as}
-use Rattle.sixel_encode.proofs.DrawnLemmas.{AreOwn, Draws, IsOwn, or_turn, runs_drawn}
-use Rattle.sixel_encode.proofs.OccurLemmas.{band_used, own_listed}
+use Rattle.sixel_encode_laws.specs.Laws.{items_of}
+use Rattle.sixel_encode_laws.proofs.LongestLemmas.{runs_joined}
+use Rattle.sixel_encode_laws.proofs.StripLemmas.{lies}
+use Rattle.sixel_encode_laws.proofs.StandLemmas.{Passed, Stands, known_select, passed_as, quiet_passed, ran_as, ran_join}
+use Rattle.sixel_encode_laws.proofs.StandLemmas.{ran_none, stands_as}
+use Rattle.sixel_encode_laws.proofs.DrawnLemmas.{AreOwn, Draws, IsOwn, or_turn, runs_drawn}
+use Rattle.sixel_encode_laws.proofs.OccurringLemmas.{band_used, own_listed}
 use Rattle.sixel_encode.proofs.PartedLemmas.{IsUsed, Parted}
-use Rattle.sixel_encode.proofs.PixelLemmas.{is_in_band, lies_owns, owns}
+use Rattle.sixel_encode_laws.proofs.PixelLemmas.{is_in_band, lies_owns, owns}
 
 -- ---- a register
 

@@ -27,9 +27,9 @@ use Rattle.sixel_encode.specs.Canon.{most_bands, Run, all_columns, band_columns,
 use Rattle.sixel_encode.specs.Canon.{below, canon_commands, canon_start, canon_text, column_bits, commands_text}
 use Rattle.sixel_encode.specs.Canon.{define_command, define_commands, has_bits, picture_commands, register_commands}
 use Rattle.sixel_encode.specs.Canon.{run_commands, runs, without_blanks}
-use Rattle.sixel_encode.specs.Laws.{TextsAreShort, TextsHaveAtMost, entries_of, items_of}
-use Rattle.sixel_encode.proofs.LongestLemmas.{runs_joined}
-use Rattle.sixel_encode.proofs.OccurLemmas.{band_length, band_some, band_used, entries, entries_are}
+use Rattle.sixel_encode_laws.specs.Laws.{TextsAreShort, TextsHaveAtMost, entries_of, items_of}
+use Rattle.sixel_encode_laws.proofs.LongestLemmas.{runs_joined}
+use Rattle.sixel_encode_laws.proofs.OccurringLemmas.{band_length, band_some, band_used, entries, entries_are}
 use Rattle.sixel_encode.proofs.PartedLemmas.{IsUsed, Parted, parted}
 use Rattle.sixel_encode.proofs.StepLemmas.{canon-parts}
 use Rattle.sixel_encode.proofs.TextLemmas.{text-append, text-sixels}

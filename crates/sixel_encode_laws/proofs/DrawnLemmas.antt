@@ -18,10 +18,10 @@ use Rattle.sixel_model.specs.Rules.{known, breaks_colour_value, breaks_redefined
 use Rattle.sixel_model.specs.Rules.{breaks_undefined, breaks_unselected}
 use Rattle.sixel_model.proofs.StepLemmas.{column_push}
 use Rattle.sixel_encode.specs.Canon.{Run, run_commands}
-use Rattle.sixel_encode.specs.Laws.{items_of}
-use Rattle.sixel_encode.proofs.StripLemmas.{lies, lies_replicate, lies_append}
-use Rattle.sixel_encode.proofs.StandLemmas.{Ran, Stands, box_of, definition_by, keeps_in_box, known_same, ran_as}
-use Rattle.sixel_encode.proofs.StandLemmas.{ran_join, ran_none, ran_one, stands_as, stands_push}
+use Rattle.sixel_encode_laws.specs.Laws.{items_of}
+use Rattle.sixel_encode_laws.proofs.StripLemmas.{lies, lies_replicate, lies_append}
+use Rattle.sixel_encode_laws.proofs.StandLemmas.{Ran, Stands, box_of, definition_by, keeps_in_box, known_same, ran_as}
+use Rattle.sixel_encode_laws.proofs.StandLemmas.{ran_join, ran_none, ran_one, stands_as, stands_push}
 
 -- ---- one data command
 

@@ -2,9 +2,9 @@ use Rattle.std.proofs.Common.{arith}
 use Rattle.sixel_grammar.specs.Document.{most_bytes}
 use Rattle.sixel_model.proofs.PictureLemmas.{at_most_256}
 use Rattle.sixel_model.specs.Profiles.{count_of}
-use Rattle.sixel_encode.proofs.LengthLemmas
-use Rattle.sixel_encode.proofs.WrittenLemmas
-use Rattle.sixel_encode.proofs.laws.canonical_lists_can_be_written.Goals as goal
+use Rattle.sixel_encode_laws.proofs.LengthLemmas
+use Rattle.sixel_encode_laws.proofs.WrittenLemmas
+use Rattle.sixel_encode_laws.proofs.laws.canonical_lists_can_be_written.Goals as goal
 
 pub returns : goal.returns
 returns c = record {

@@ -4,7 +4,7 @@ use Rattle.std.proofs.Common.{arith}
 use Rattle.std.specs.Prelude.{◌==◌}
 use Rattle.std.proofs.lemmas.Bool.{eqb-true, eqb-false}
 use Rattle.sixel_encode.specs.Canon.{Run, onto_runs, runs}
-use Rattle.sixel_encode.specs.Laws.{AreLongest, RunsAreLongest, RunsGiveTheirRow, items_of}
+use Rattle.sixel_encode_laws.specs.Laws.{AreLongest, RunsAreLongest, RunsGiveTheirRow, items_of}
 
 onto_step : (b : ℕ) (r : Run) (rs : List Run) (t : Bool) → (t ≡ true → r.item ≡ b)
     → items_of (cond t (record { count = r.count + 1; item = b } ∷ rs) (record { count = 1; item = b } ∷ r ∷ rs))

@@ -14,7 +14,7 @@ use Rattle.sixel_model.proofs.RunLemmas.{same_test}
 use Rattle.sixel_model.proofs.CoverLemmas.{covers_under, lies_under, no_bits_cover}
 use Rattle.sixel_encode.specs.Canon.{band_columns, below, column_bits, has_bits, has_pixel, without_blanks}
 use Rattle.sixel_encode.proofs.BitLemmas.{bits_are, each_six_at, six}
-use Rattle.sixel_encode.proofs.StripLemmas.{lies, or_and, within_split}
+use Rattle.sixel_encode_laws.proofs.StripLemmas.{lies, or_and, within_split}
 
 -- ---- bits
 

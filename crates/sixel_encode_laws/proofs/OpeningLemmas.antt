@@ -26,9 +26,9 @@ use Rattle.sixel_model.proofs.StepLemmas.{band_push, column_push, raster_push, d
 use Rattle.sixel_model.proofs.RuleLemmas.{Keeps}
 use Rattle.sixel_encode.specs.Canon.{canon_start, define_command, define_commands}
 use Rattle.sixel_model.proofs.CoverLemmas.{idle_covered, idle_register}
-use Rattle.sixel_encode.proofs.StandLemmas.{Ran, Stands, box_of, definition_by, quiet_keeps, ran_join, ran_none}
-use Rattle.sixel_encode.proofs.StandLemmas.{ran_one}
-use Rattle.sixel_encode.proofs.LengthLemmas.{defines_from, entry_colour}
+use Rattle.sixel_encode_laws.proofs.StandLemmas.{Ran, Stands, box_of, definition_by, quiet_keeps, ran_join, ran_none}
+use Rattle.sixel_encode_laws.proofs.StandLemmas.{ran_one}
+use Rattle.sixel_encode_laws.proofs.LengthLemmas.{defines_from, entry_colour}
 use Rattle.sixel_encode.proofs.PartedLemmas.{Parted}
 
 -- the definition of a colour gives a colour in range
