@@ -1,4 +1,3 @@
-pub mod WorkedTexts
 pub mod RangeLemmas
 pub mod BitLemmas
 pub mod PartedLemmas
@@ -19,13 +18,3 @@ pub mod AddedLemmas
 pub mod FoundLemmas
 pub mod RowsLemmas
 pub mod GroupLemmas
-pub mod LongestLemmas
-pub mod LengthLemmas
-pub mod StripLemmas
-pub mod StandLemmas
-pub mod DrawnLemmas
-pub mod PixelLemmas
-pub mod BandLemmas
-pub mod OpeningLemmas
-pub mod LeadsBackLemmas
-pub mod WrittenLemmas

@@ -2,4 +2,3 @@ pub mod Canon
 pub mod Columns
 pub mod Gaps
 pub mod Heads
-pub mod Laws

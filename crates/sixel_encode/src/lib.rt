@@ -9,7 +9,6 @@ mod gaps;
 mod groups;
 mod heads;
 mod lanes;
-pub mod laws;
 mod line;
 mod parts;
 mod repeats;

@@ -17,9 +17,9 @@ use Rattle.sixel_model.specs.Positions.{HoldsNowhere, earliest}
 use Rattle.sixel_model.specs.Rules.{raster_before}
 use Rattle.sixel_models.specs.declared.named.Named.TheVariants.{XTerm, MlTerm, Konsole}
 use Rattle.sixel_encode.specs.Canon.{canon, canon_start, define_command}
-use Rattle.sixel_encode.proofs.OpeningLemmas.{raster}
+use Rattle.sixel_encode_laws.proofs.OpeningLemmas.{raster}
 use Rattle.sixel_encode.proofs.PartedLemmas.{Parted, parted}
-use Rattle.sixel_encode.proofs.StandLemmas.{box_of}
+use Rattle.sixel_encode_laws.proofs.StandLemmas.{box_of}
 use Rattle.sixel_asked.specs.Asked.{breaks_dropped, breaks_far, breaks_hue, breaks_large, breaks_mixed, breaks_past}
 use Rattle.sixel_asked.specs.Asked.{breaks_raster_late, breaks_rows, leaves_box, leaves_far}
 use Rattle.sixel_asked.specs.declared.rule.AskedRule.TheVariants.{RasterLate, Dropped, Large, Rows, Past, Hue}

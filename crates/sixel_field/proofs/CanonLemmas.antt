@@ -18,8 +18,8 @@ use Rattle.sixel_model.specs.Pictures.{PictureValue}
 use Rattle.sixel_encode.specs.Canon.{Run, band_columns, band_commands, band_registers, bands, below, canon}
 use Rattle.sixel_encode.specs.Canon.{canon_commands, canon_start, define_command, define_commands, picture_commands}
 use Rattle.sixel_encode.specs.Canon.{register_commands, run_commands, runs}
-use Rattle.sixel_encode.proofs.LengthLemmas.{defines_from}
-use Rattle.sixel_encode.proofs.OpeningLemmas.{raster}
+use Rattle.sixel_encode_laws.proofs.LengthLemmas.{defines_from}
+use Rattle.sixel_encode_laws.proofs.OpeningLemmas.{raster}
 use Rattle.sixel_field.specs.Laws.{CanonDefinesFirst}
 use Rattle.sixel_field.specs.Stale.{DefinesFirst}
 use Rattle.sixel_field.proofs.FirstLemmas.{IsNoDefinition, IsNoSelect, parts_define_first}

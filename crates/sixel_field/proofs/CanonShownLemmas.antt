@@ -4,8 +4,8 @@ use Rattle.sixel_model.specs.Pictures.{PictureValue}
 use Rattle.sixel_model.specs.Rules.{BreaksNone, last_rule}
 use Rattle.sixel_models.specs.declared.named.Named.TheVariants.{Foot}
 use Rattle.sixel_encode.specs.Canon.{canon}
-use Rattle.sixel_encode.proofs.LeadsBackLemmas.{lists_break_no_rule, lists_leave_their_picture}
-use Rattle.sixel_encode.proofs.WrittenLemmas.{lists_are_whole}
+use Rattle.sixel_encode_laws.proofs.LeadsBackLemmas.{lists_break_no_rule, lists_leave_their_picture}
+use Rattle.sixel_encode_laws.proofs.WrittenLemmas.{lists_are_whole}
 use Rattle.sixel_field.specs.Laws.{CanonShownOnFoot, IsShownOn}
 use Rattle.sixel_field.proofs.AskedForms.{stale_only}
 use Rattle.sixel_field.proofs.CanonLemmas.{canon_defines_first}

@@ -19,11 +19,11 @@ use Rattle.sixel_model.proofs.StepLemmas.{band_push, column_push}
 use Rattle.sixel_encode.specs.Canon.{Run, all_columns, band_columns, band_commands, band_registers, bands, below}
 use Rattle.sixel_encode.specs.Canon.{define_command, has_bits, occurs, picture_commands}
 use Rattle.sixel_encode.specs.Canon.{register_commands, run_commands, runs, without_blanks}
-use Rattle.sixel_encode.specs.Laws.{items_of}
-use Rattle.sixel_encode.proofs.LengthLemmas.{columns_length}
-use Rattle.sixel_encode.proofs.LongestLemmas.{runs_joined}
-use Rattle.sixel_encode.proofs.OccurLemmas.{band_some}
-use Rattle.sixel_encode.proofs.OpeningLemmas.{defines_opened, raster_opens}
+use Rattle.sixel_encode_laws.specs.Laws.{items_of}
+use Rattle.sixel_encode_laws.proofs.LengthLemmas.{columns_length}
+use Rattle.sixel_encode_laws.proofs.LongestLemmas.{runs_joined}
+use Rattle.sixel_encode_laws.proofs.OccurringLemmas.{band_some}
+use Rattle.sixel_encode_laws.proofs.OpeningLemmas.{defines_opened, raster_opens}
 use Rattle.sixel_encode.proofs.PartedLemmas.{Parted, parted}
 use Rattle.sixel_model.specs.declared.colour.Parts.{Parts}
 use Rattle.sixel_model.specs.declared.colour.Parts.TheVariants.{Rgb, Hls}

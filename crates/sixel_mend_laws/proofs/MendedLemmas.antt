@@ -22,9 +22,9 @@ use Rattle.sixel_terminal.specs.Drawing.{screen_on, shown_on}
 use Rattle.sixel_judge.specs.Portable.{IsPortable}
 use Rattle.sixel_judge.proofs.ShownLemmas.{left_is_portable}
 use Rattle.sixel_encode.specs.Canon.{canon}
-use Rattle.sixel_encode.proofs.LengthLemmas.{texts_have_at_most}
-use Rattle.sixel_encode.proofs.LeadsBackLemmas.{lists_break_no_rule, lists_leave_their_picture}
-use Rattle.sixel_encode.proofs.WrittenLemmas.{lists_are_whole, texts_are_documents}
+use Rattle.sixel_encode_laws.proofs.LengthLemmas.{texts_have_at_most}
+use Rattle.sixel_encode_laws.proofs.LeadsBackLemmas.{lists_break_no_rule, lists_leave_their_picture}
+use Rattle.sixel_encode_laws.proofs.WrittenLemmas.{lists_are_whole, texts_are_documents}
 use Rattle.sixel_mend.specs.declared.mending.MendFault.TheVariants.{Empty, TooLarge, TooManyColours}
 use Rattle.sixel_mend.specs.declared.mending.Mending.{Mending}
 use Rattle.sixel_mend.specs.Screens.{mending_terminal}

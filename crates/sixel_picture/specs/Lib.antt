@@ -18,6 +18,5 @@ pub use Rattle.sixel_ppm.specs.PpmColours
 pub use Rattle.sixel_ppm.specs.PpmPartialPixel
 pub use Rattle.sixel_ppm.specs.PpmSamples
 pub use Rattle.sixel_ppm.specs.PpmFeeding
-pub use Rattle.sixel_ppm.specs.PpmFiles
 pub use Rattle.sixel_ppm.specs.PpmTables
 pub use Rattle.sixel_ppm.specs.PpmPixelCache

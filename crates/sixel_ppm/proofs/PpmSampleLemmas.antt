@@ -2,8 +2,9 @@
 use Rattle.std.proofs.Common.{◌≡◌, ◌==◌, ◌+◌, ◌*◌, ◌<◌, ◌≤◌, ℕ, zero, suc, Bool, true, false, ◌&&◌, nat_le, nat_lt}
 use Rattle.std.proofs.Common.{Option, None, Result, Ok, Err, List, [], ◌∷◌, ◌++◌, length, map, refl, sym, ap, ap₂}
 use Rattle.std.proofs.Common.{subst, ◌∙◌, append_assoc, arith, eq-eqb, length-append}
-use Rattle.std.specs.Prelude.{◌-◌, IfErr, drop, is_some, slice_index, take, unwrap_or}
+use Rattle.std.specs.Prelude.{◌-◌, IfErr, drop, fold, is_some, slice_index, take, unwrap_or}
 use Rattle.std.specs.List.{list_all, list_any}
+use Rattle.std.proofs.Math.Nat.{le_trans}
 use Rattle.std.proofs.lemmas.Bool.Decides.{nat_tests}
 use Rattle.std.proofs.lemmas.Bool.{eqb-true}
 use Rattle.std.proofs.lemmas.List.{append-nil, length-map}
@@ -348,3 +349,21 @@ budget_whole s e = rw e (omega arith)
 pub refused_by : (fault other : PpmFault) (result : Result PictureValue PpmFault) → fault ≡ other
     → Refuses other result → Refuses fault result
 refused_by fault other result e h = subst (λ (f : PpmFault). Refuses f result) (sym e) h
+
+-- ---- how many different colours
+
+grows_by : (seen : List Parts) (c : Parts) (t : Bool) → list_any (is_same c) seen ≡ t
+    → length seen ≤ length (with_colour seen c)
+grows_by seen c true e = rw e (omega arith)
+grows_by seen c false e = rw e (omega (arith, length-append seen (c ∷ [])))
+
+grows : (seen more : List Parts) → length seen ≤ length (fold with_colour seen more)
+grows seen [] = omega arith
+grows seen (c ∷ more) =
+    le_trans (grows_by seen c (list_any (is_same c) seen) refl) (grows (with_colour seen c) more)
+
+-- a prefix of the colours has no more different ones
+pub distinct_grows : (colours more : List Parts) → length (distinct colours) ≤ length (distinct (colours ++ more))
+distinct_grows colours more =
+    subst (λ (seen : List Parts). length (distinct colours) ≤ length seen)
+    (sym (fold-append with_colour [] colours more)) (grows (distinct colours) more)

@@ -5,7 +5,5 @@ pub mod PpmColours
 pub mod PpmPartialPixel
 pub mod PpmSamples
 pub mod PpmFeeding
-pub mod PpmFiles
 pub mod PpmTables
 pub mod PpmPixelCache
-pub mod Laws

@@ -1,7 +1,6 @@
 //! Pictures as PPM files (Netpbm, ppm(5)).
 #![tactic(auto)]
 
-pub mod laws;
 mod ppm;
 
 pub use ppm::{

@@ -14,9 +14,9 @@ use Rattle.sixel_judge.specs.Portable.{IsPortable}
 use Rattle.sixel_named.specs.declared.verdict.NamedVerdict.TheVariants as named
 use Rattle.sixel_judge.proofs.ShownLemmas.{left_is_portable}
 use Rattle.sixel_encode.specs.Canon.{canon, canon_text}
-use Rattle.sixel_encode.proofs.LengthLemmas
-use Rattle.sixel_encode.proofs.LeadsBackLemmas
-use Rattle.sixel_encode.proofs.WrittenLemmas
+use Rattle.sixel_encode_laws.proofs.LengthLemmas
+use Rattle.sixel_encode_laws.proofs.LeadsBackLemmas
+use Rattle.sixel_encode_laws.proofs.WrittenLemmas
 use Rattle.sixel_model.specs.Profiles.{count_of}
 use Rattle.sixel_model.specs.declared.profile.Profile.{Profile}
 use Rattle.sixel_model.proofs.PictureLemmas.{at_most_256}

@@ -5,7 +5,7 @@ use Rattle.std.proofs.lemmas.Option.{slice_get_read}
 use Rattle.sixel_model.specs.declared.colour.Parts.{Parts}
 use Rattle.sixel_ppm.specs.PpmReading.{distinct}
 use Rattle.sixel_ppm.specs.PpmSamples.{HoldsPixels}
-use Rattle.sixel_ppm.proofs.PpmFileLemmas.{distinct_grows}
+use Rattle.sixel_ppm.proofs.PpmSampleLemmas.{distinct_grows}
 use Rattle.sixel_terminal.specs.Screens.{colour_in_ink}
 use Rattle.sixel_mend.specs.Numbering.{KnowsLast}
 use Rattle.sixel_mend.proofs.RunLemmas.{colours_to, distinct_more, pushed, then_the_rest}

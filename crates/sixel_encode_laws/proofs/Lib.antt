@@ -1,0 +1,12 @@
+pub mod OccurringLemmas
+pub mod LongestLemmas
+pub mod LengthLemmas
+pub mod StripLemmas
+pub mod StandLemmas
+pub mod DrawnLemmas
+pub mod PixelLemmas
+pub mod BandLemmas
+pub mod OpeningLemmas
+pub mod LeadsBackLemmas
+pub mod WrittenLemmas
+pub mod WorkedTexts

@@ -1,6 +1,0 @@
-use Rattle.sixel_ppm.proofs.PpmFoundLemmas
-use Rattle.sixel_model.specs.Profiles.{count_of}
-use Rattle.sixel_ppm.proofs.laws.picture_files_are_read.Goals as goal
-
-pub returns : goal.returns
-returns c = λ profile. PpmFoundLemmas.picture_files_are_read (count_of profile)

@@ -1,0 +1,5 @@
+pub mod PixelLemmas
+pub mod PpmFileLemmas
+pub mod PpmPartLemmas
+pub mod PpmFoundLemmas
+mod WorkedPpms

@@ -1,0 +1,2 @@
+pub mod PpmFiles
+pub mod Laws
