@@ -6,7 +6,7 @@ ghost use Rattle.sixel_differ.specs.Views.{HaveSides};
 use sixel_differ::{Comparison, DifferFault, Standing, View, Views, differ, views};
 use sixel_grammar::{Fault, Reason};
 use sixel_model::Colour;
-use sixel_models::Named;
+use sixel_named_terminals::Named;
 use std::alloc::Global;
 use std::test::Fail;
 

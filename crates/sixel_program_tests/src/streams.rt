@@ -3,7 +3,7 @@
 ghost use Rattle.sixel_run.specs.Outputs.{HasSides};
 
 use crate::ends::{CHECK, ENCODE, NO_TERMINALS, RENDER, SHOW, SHOW_BOX, exit_over, show_on};
-use sixel_models::Named;
+use sixel_named_terminals::Named;
 use sixel_program::Exit;
 use sixel_run::Task;
 use sixel_test_devices::Narrow;

@@ -7,7 +7,7 @@ ghost use Rattle.sixel_terminal.specs.Limits.{is_screen_side};
 use crate::runs::agrees;
 use sixel_grammar::{Fault, Reason};
 use sixel_model::Colour;
-use sixel_models::Named;
+use sixel_named_terminals::Named;
 use sixel_run::{Area, RunFault, Status, Task};
 use std::alloc::Global;
 use std::test::Fail;

@@ -5,27 +5,26 @@ ghost use Rattle.sixel_grammar.specs.declared.command.Event.{Event as AnEvent};
 ghost use Rattle.sixel_grammar.specs.declared.fault.InputFault.TheVariants.{Read as ReadFault};
 ghost use Rattle.sixel_grammar.specs.Reading.{Explains, NoFaultBefore, failures_after};
 ghost use Rattle.sixel_terminal.specs.Limits.{is_screen_side};
-ghost use Rattle.sixel_models.specs.FirstPiece.{IsFirst, with_first};
-ghost use Rattle.sixel_models.specs.Konsole.{konsole_model};
-ghost use Rattle.sixel_models.specs.KonsoleSeen.{HasSeenKonsole};
-ghost use Rattle.sixel_models.specs.Measuring.{HasTakenAll};
-ghost use Rattle.sixel_models.specs.Modelled.{HasFollowed};
-ghost use Rattle.sixel_models.specs.Settings.{konsole_display};
+ghost use Rattle.sixel_emulator.specs.FirstPiece.{IsFirst, with_first};
+ghost use Rattle.sixel_konsole.specs.Konsole.{konsole_model};
+ghost use Rattle.sixel_konsole.specs.KonsoleSeen.{HasSeenKonsole};
+ghost use Rattle.sixel_konsole.specs.Measuring.{HasTakenAll};
+ghost use Rattle.sixel_emulator.specs.Modelled.{HasFollowed};
+ghost use Rattle.sixel_konsole.specs.Settings.{konsole_display};
 ghost use Rattle.sixel_run.specs.declared.task.Area.{Area as AnArea};
 ghost use Rattle.sixel_run.specs.NamedScreens.{IsDrawnOf, ShowsIn, Suffices};
 
-use super::kept::kept_with;
-use super::show_box::follow;
 use crate::fault::RunFault;
+use sixel_emulator::{Both, Modelled};
 use sixel_grammar::{InputFault, Reader};
 use sixel_io::{PIECE, Source};
+use sixel_konsole::{Konsole, Measuring, as_konsole_at_once, konsole_terminal};
 use sixel_model::Colour;
-use sixel_models::{
-    Both, Konsole, Measuring, Modelled, Named, as_konsole_at_once, konsole_screen,
-    konsole_terminal, low_konsole_screen,
-};
+use sixel_named_terminals::{Named, konsole_screen, low_konsole_screen};
 use sixel_terminal::{Drawing, Screen};
 use std::alloc::{AllocError, Global};
+use super::kept::kept_with;
+use super::show_box::follow;
 
 /// A drawing as konsole reads events, and a measure of its rectangle.
 pub type OnKonsole = Both<Modelled<Konsole>, Measuring>;

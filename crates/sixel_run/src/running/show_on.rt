@@ -10,7 +10,7 @@ ghost use Rattle.sixel_grammar.specs.Document.{Document, IsDocument, events_of};
 ghost use Rattle.sixel_grammar.specs.declared.fault.InputFault.TheVariants.{Read as ReadFault};
 ghost use Rattle.sixel_grammar.specs.Reading.{Explains, NoFaultBefore, failures_after};
 ghost use Rattle.sixel_terminal.specs.Limits.{is_screen_side};
-ghost use Rattle.sixel_models.specs.FirstPiece.{IsFirst, with_first};
+ghost use Rattle.sixel_emulator.specs.FirstPiece.{IsFirst, with_first};
 ghost use Rattle.sixel_run.specs.declared.fault.RunFault.TheVariants.{Read};
 ghost use Rattle.sixel_run.specs.declared.task.Area.{Area as AnArea};
 ghost use Rattle.sixel_run.specs.Boxes.{box_in};
@@ -18,20 +18,22 @@ ghost use Rattle.sixel_run.specs.NamedScreens.{AreMeasuresOf, HaveNoFault, HasSi
 ghost use Rattle.sixel_run.specs.Outputs.{CountsWrites, HasSidesIn, ShowOnGives, WroteBy, WroteNothing, failures_by};
 ghost use Rattle.sixel_run.specs.Outputs.{sides_in};
 
+use crate::fault::RunFault;
+use crate::task::{Area, Status};
+use sixel_emulator::Both;
+use sixel_grammar::{Command, InputFault, Reader};
+use sixel_io::{DeviceFault, PIECE, Sink, Source};
+use sixel_konsole::Measuring;
+use sixel_model::Colour;
+use sixel_named_terminals::Named;
+use sixel_terminal::Screen;
+use std::alloc::Global;
 use super::box_finder::BoxFinder;
 use super::draw::read_rest;
 use super::kept::follow_kept;
 use super::on_konsole::{begin_konsole, follow_on_konsole, screen_by};
 use super::screen::write_ppm_screen;
 use super::show_box::{follow, sides_of_box};
-use crate::fault::RunFault;
-use crate::task::{Area, Status};
-use sixel_grammar::{Command, InputFault, Reader};
-use sixel_io::{DeviceFault, PIECE, Sink, Source};
-use sixel_model::Colour;
-use sixel_models::{Both, Measuring, Named};
-use sixel_terminal::Screen;
-use std::alloc::Global;
 
 /// Reads the whole input, and writes the screen that the named terminal shows then. It doesn't flush.
 ///
@@ -230,7 +232,7 @@ fn show_at_once<S: Source, K: Sink>(
         (NoFaultBefore (S.state input.new).remaining) }
     ensures writes { CountsWrites result (K.state output.old).failures (K.state output.new).failures }
 {
-    match sixel_models::show_at_once(alloc, named, background, width, height, input, piece, read) {
+    match sixel_named_terminals::show_at_once(alloc, named, background, width, height, input, piece, read) {
         Ok(Ok(screen)) => {
             write_ppm_screen(&screen, output)?;
             Ok(Status::Done)
@@ -431,11 +433,11 @@ fn shown(
 {
     let Measures { declared, opening } = measures;
     match sides_of(declared) {
-        Some((width, height)) => Ok(sixel_models::show_on(
+        Some((width, height)) => Ok(sixel_named_terminals::show_on(
             alloc, named, background, width, height, opening, bytes,
         )?),
         None => {
-            sixel_models::show_on(alloc, named, background, 1, 1, opening, bytes)?;
+            sixel_named_terminals::show_on(alloc, named, background, 1, 1, opening, bytes)?;
             Err(RunFault::NoBox)
         }
     }

@@ -3,7 +3,7 @@ use Rattle.std.specs.Io.KnownBytes.{Consumes}
 use Rattle.sixel_grammar.specs.Document.{events_of}
 use Rattle.sixel_grammar.specs.Following.{AreFollowed}
 use Rattle.sixel_grammar.specs.Standing.{left_of}
-use Rattle.sixel_models.specs.FirstPiece.{IsFirst, with_first}
+use Rattle.sixel_emulator.specs.FirstPiece.{IsFirst, with_first}
 use Rattle.sixel_run.specs.NamedScreens.{Suffices}
 use Rattle.sixel_run.proofs.OnKonsoleLemmas.{HasTakenOnKonsole}
 use Rattle.sixel_run.proofs.running.on_konsole.follow_on_konsole.Given as goal

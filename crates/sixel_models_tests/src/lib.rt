@@ -1,7 +1,0 @@
-//! Tests of `sixel_models`: strings that were shown on the real terminals, drawn by the models while they are read.
-#![tactic(auto)]
-
-#[cfg(test)]
-mod drawings;
-#[cfg(test)]
-mod showing;
