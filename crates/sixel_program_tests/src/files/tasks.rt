@@ -2,15 +2,15 @@
 
 ghost use Rattle.sixel_run.specs.Outputs.{HasSides};
 
+use super::{
+    PIXEL, PNG, RED, STREAMS, Streams, after_input, asked_of, ends_over, ends_unread, unread,
+};
 use crate::ends::{ENCODE, RENDER, SHOW, SHOW_BOX, show_on};
 use sixel_named_terminals::Named;
 use sixel_program::Exit;
 use sixel_run::Task;
 use std::alloc::{AllocError, Global};
 use std::test::Fail;
-use super::{
-    PIXEL, PNG, RED, STREAMS, Streams, after_input, asked_of, ends_over, ends_unread, unread,
-};
 
 /// Whether the task writes this for these bytes: on standard input, without a name and as `-`; and in the file with
 /// this name, with other bytes on standard input that it doesn't read.

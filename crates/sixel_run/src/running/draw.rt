@@ -8,10 +8,10 @@ ghost use Rattle.sixel_grammar.specs.Reading.{Explains, NoFaultBefore, failures_
 ghost use Rattle.sixel_emulator.specs.FirstPiece.{IsFirst, with_first};
 ghost use Rattle.sixel_run.specs.Watching.{HasWatched};
 
+use super::watched::Watched;
 use sixel_emulator::follow_rest;
 use sixel_grammar::{InputFault, follow_source};
 use sixel_io::{PIECE, Source};
-use super::watched::Watched;
 
 /// Reads the source to its end, and draws the events of its document. It keeps none of them.
 pub fn draw<S: Source>(

@@ -7,11 +7,11 @@ ghost use Rattle.sixel_grammar.specs.Document.{Document, IsDocument};
 ghost use Rattle.sixel_grammar.specs.Reading.{Explains, NoFaultBefore, failures_after};
 ghost use Rattle.sixel_emulator.specs.FirstPiece.{IsFirst, with_first};
 
+use super::show_box::follow;
 use sixel_grammar::{Follower, InputFault, Reader};
 use sixel_io::{PIECE, Source};
 use std::alloc::Global;
 use std::convert::Infallible;
-use super::show_box::follow;
 
 /// The bytes that are kept, with these behind them. None are kept if there is no memory for all.
 pub fn kept_with(kept: Option<Vec<u8>>, more: &[u8]) -> Option<Vec<u8>>

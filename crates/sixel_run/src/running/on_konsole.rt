@@ -14,6 +14,8 @@ ghost use Rattle.sixel_konsole.specs.Settings.{konsole_display};
 ghost use Rattle.sixel_run.specs.declared.task.Area.{Area as AnArea};
 ghost use Rattle.sixel_run.specs.NamedScreens.{IsDrawnOf, ShowsIn, Suffices};
 
+use super::kept::kept_with;
+use super::show_box::follow;
 use crate::fault::RunFault;
 use sixel_emulator::{Both, Modelled};
 use sixel_grammar::{InputFault, Reader};
@@ -23,8 +25,6 @@ use sixel_model::Colour;
 use sixel_named_terminals::{Named, konsole_screen, low_konsole_screen};
 use sixel_terminal::{Drawing, Screen};
 use std::alloc::{AllocError, Global};
-use super::kept::kept_with;
-use super::show_box::follow;
 
 /// A drawing as konsole reads events, and a measure of its rectangle.
 pub type OnKonsole = Both<Modelled<Konsole>, Measuring>;

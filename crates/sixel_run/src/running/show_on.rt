@@ -18,6 +18,12 @@ ghost use Rattle.sixel_run.specs.NamedScreens.{AreMeasuresOf, HaveNoFault, HasSi
 ghost use Rattle.sixel_run.specs.Outputs.{CountsWrites, HasSidesIn, ShowOnGives, WroteBy, WroteNothing, failures_by};
 ghost use Rattle.sixel_run.specs.Outputs.{sides_in};
 
+use super::box_finder::BoxFinder;
+use super::draw::read_rest;
+use super::kept::follow_kept;
+use super::on_konsole::{begin_konsole, follow_on_konsole, screen_by};
+use super::screen::write_ppm_screen;
+use super::show_box::{follow, sides_of_box};
 use crate::fault::RunFault;
 use crate::task::{Area, Status};
 use sixel_emulator::Both;
@@ -28,12 +34,6 @@ use sixel_model::Colour;
 use sixel_named_terminals::Named;
 use sixel_terminal::Screen;
 use std::alloc::Global;
-use super::box_finder::BoxFinder;
-use super::draw::read_rest;
-use super::kept::follow_kept;
-use super::on_konsole::{begin_konsole, follow_on_konsole, screen_by};
-use super::screen::write_ppm_screen;
-use super::show_box::{follow, sides_of_box};
 
 /// Reads the whole input, and writes the screen that the named terminal shows then. It doesn't flush.
 ///
@@ -232,7 +232,9 @@ fn show_at_once<S: Source, K: Sink>(
         (NoFaultBefore (S.state input.new).remaining) }
     ensures writes { CountsWrites result (K.state output.old).failures (K.state output.new).failures }
 {
-    match sixel_named_terminals::show_at_once(alloc, named, background, width, height, input, piece, read) {
+    match sixel_named_terminals::show_at_once(
+        alloc, named, background, width, height, input, piece, read,
+    ) {
         Ok(Ok(screen)) => {
             write_ppm_screen(&screen, output)?;
             Ok(Status::Done)
