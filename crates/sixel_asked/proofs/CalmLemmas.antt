@@ -15,8 +15,8 @@ use Rattle.sixel_model.specs.Positions.{latest}
 use Rattle.sixel_model.specs.Rules.{colour_of, known, raster_before}
 use Rattle.sixel_model.proofs.PositionLemmas.{latest_push, option_or_none}
 use Rattle.sixel_model.proofs.StepLemmas.{band_push, column_push, raster_push}
-use Rattle.sixel_models.specs.Places.{most}
-use Rattle.sixel_models.proofs.PlainLemmas.{band_over, column_over, first_before, same_over}
+use Rattle.sixel_emulator.specs.Places.{most}
+use Rattle.sixel_emulator.proofs.PlainLemmas.{band_over, column_over, first_before, same_over}
 use Rattle.sixel_terminal.specs.Stretches.{sixels_of}
 use Rattle.sixel_asked.specs.Asked.{breaks_dropped, breaks_far, breaks_hue, breaks_large, breaks_mixed}
 use Rattle.sixel_asked.specs.Asked.{breaks_past, breaks_raster_late, breaks_rows, leaves_box, leaves_far}

@@ -17,7 +17,7 @@ use Rattle.sixel_model.specs.Positions.{latest}
 use Rattle.sixel_model.specs.Rules.{Breaks, breaks_register, colour_of, known, known_by, raster_before}
 use Rattle.sixel_model.proofs.KnownLemmas.{known_is}
 use Rattle.sixel_model.proofs.LatestLemmas.{latest_gives}
-use Rattle.sixel_models.specs.Places.{most}
+use Rattle.sixel_emulator.specs.Places.{most}
 use Rattle.sixel_judge.specs.Counting.{is_below as is_below_count}
 use Rattle.sixel_asked.specs.Asked.{BreaksAsked, breaks_dropped, breaks_far, breaks_past, breaks_raster_late}
 use Rattle.sixel_asked.specs.Asked.{ends_right, is_below, is_deep, leaves_box, leaves_far}

@@ -13,7 +13,7 @@ use Rattle.sixel_model.specs.Positions.{earliest, last_at, last_below, latest, s
 use Rattle.sixel_model.specs.Rules.{colour_of, definition_of, raster_before}
 use Rattle.sixel_model.proofs.PositionLemmas.{latest_push}
 use Rattle.sixel_model.proofs.StepLemmas.{band_push, column_push, raster_push}
-use Rattle.sixel_models.specs.Places.{most}
+use Rattle.sixel_emulator.specs.Places.{most}
 use Rattle.sixel_asked.specs.Notes.{AreNarrow, IsNotesAfter, attributes, is_droppable, next_band, next_column}
 use Rattle.sixel_asked.specs.Notes.{next_picked, next_shades, parts_of, shade_at}
 use Rattle.sixel_asked.specs.Stale.{colour_at_select}

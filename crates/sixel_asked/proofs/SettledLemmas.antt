@@ -11,7 +11,7 @@ use Rattle.sixel_grammar.specs.declared.command.Event.TheVariants.{Step}
 use Rattle.sixel_grammar.specs.declared.command.Placed.{Placed}
 use Rattle.sixel_model.specs.Rules.{known_by}
 use Rattle.sixel_model.proofs.PositionLemmas.{option_or_none}
-use Rattle.sixel_models.specs.Places.{most}
+use Rattle.sixel_emulator.specs.Places.{most}
 use Rattle.sixel_asked.specs.Asked.{is_asked}
 use Rattle.sixel_asked.specs.Asking.{HasAsked, HasFound, found_at, placed_at}
 use Rattle.sixel_asked.specs.Counts.{IsCalmBefore, first_in, is_near_at}

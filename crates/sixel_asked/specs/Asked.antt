@@ -11,9 +11,9 @@ use Rattle.sixel_model.specs.Events.{is_return, named_by, raster_of}
 use Rattle.sixel_model.specs.Geometry.{band, band_rows, column}
 use Rattle.sixel_model.specs.Positions.{HoldsAtPosition, HoldsNowhere, latest}
 use Rattle.sixel_model.specs.Rules.{raster_before}
-use Rattle.sixel_models.specs.MlTerm.{mixes}
-use Rattle.sixel_models.specs.declared.named.Named.{Named}
-use Rattle.sixel_models.specs.declared.named.Named.TheVariants.{XTerm, MlTerm, Foot, Konsole}
+use Rattle.sixel_mlterm.specs.MlTerm.{mixes}
+use Rattle.sixel_named_terminals.specs.declared.named.Named.{Named}
+use Rattle.sixel_named_terminals.specs.declared.named.Named.TheVariants.{XTerm, MlTerm, Foot, Konsole}
 use Rattle.sixel_asked.specs.Stale.{IsStale}
 use Rattle.sixel_asked.specs.declared.rule.AskedRule.{AskedRule}
 use Rattle.sixel_asked.specs.declared.rule.AskedRule.TheVariants.{RasterLate, Dropped, Stale, Large, Rows, Past, Hue}

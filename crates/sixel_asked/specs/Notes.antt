@@ -12,7 +12,7 @@ use Rattle.sixel_model.specs.Events.{select_of}
 use Rattle.sixel_model.specs.Geometry.{band, column}
 use Rattle.sixel_model.specs.Positions.{latest}
 use Rattle.sixel_model.specs.Rules.{colour_of, known_by, raster_before}
-use Rattle.sixel_models.specs.Places.{most}
+use Rattle.sixel_emulator.specs.Places.{most}
 use Rattle.sixel_asked.specs.Asked as asked
 use Rattle.sixel_asked.specs.Stale.{colour_at_select}
 use Rattle.sixel_asked.specs.declared.notes.Declared.{Declared}

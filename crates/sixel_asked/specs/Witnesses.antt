@@ -7,8 +7,8 @@ use Rattle.sixel_grammar.specs.declared.command.Event.{Event}
 use Rattle.sixel_grammar.specs.declared.command.Event.TheVariants.{Start, Step, Finish}
 use Rattle.sixel_model.specs.Positions.{HoldsAtPosition, HoldsNowhere}
 use Rattle.sixel_model.specs.Rules.{BreaksNone, last_rule}
-use Rattle.sixel_models.specs.declared.named.Named.{Named}
-use Rattle.sixel_models.specs.declared.named.Named.TheVariants.{XTerm, MlTerm, Foot, Konsole}
+use Rattle.sixel_named_terminals.specs.declared.named.Named.{Named}
+use Rattle.sixel_named_terminals.specs.declared.named.Named.TheVariants.{XTerm, MlTerm, Foot, Konsole}
 use Rattle.sixel_asked.specs.Asked.{BreaksAsked, asks}
 use Rattle.sixel_asked.specs.declared.rule.AskedRule.{AskedRule}
 use Rattle.sixel_asked.specs.declared.rule.AskedRule.TheVariants.{RasterLate, Dropped, Stale, Large, Rows, Past, Hue}

@@ -8,8 +8,8 @@ use crate::events::{columns_of, is_data_command, is_painting, is_raster, is_retu
 use crate::notes::{Declared, Notes};
 use crate::rule::AskedRule;
 use sixel_grammar::{Command, Event};
+use sixel_mlterm::mixes;
 use sixel_model::BAND_ROWS;
-use sixel_models::mixes;
 
 /// The greatest side of a box for xterm.
 const MOST_SIDE: u16 = 1000;

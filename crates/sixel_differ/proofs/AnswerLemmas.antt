@@ -15,11 +15,11 @@ use Rattle.sixel_grammar.proofs.TotalLemmas.{judged}
 use Rattle.sixel_model.specs.declared.colour.Parts.{Parts}
 use Rattle.sixel_model.specs.Pictures.{is_side, most_side}
 use Rattle.sixel_terminal.specs.Drawing.{height_of, touches_on}
-use Rattle.sixel_models.specs.declared.named.Named.{Named}
-use Rattle.sixel_models.specs.declared.named.Named.TheVariants.{XTerm, MlTerm, Foot, Konsole}
-use Rattle.sixel_models.specs.Named.{model_of}
-use Rattle.sixel_models.specs.Readings.{EndsAt}
-use Rattle.sixel_models.proofs.NamedLemmas.{shows_or_ends}
+use Rattle.sixel_named_terminals.specs.declared.named.Named.{Named}
+use Rattle.sixel_named_terminals.specs.declared.named.Named.TheVariants.{XTerm, MlTerm, Foot, Konsole}
+use Rattle.sixel_named_terminals.specs.Named.{model_of}
+use Rattle.sixel_emulator.specs.Readings.{EndsAt}
+use Rattle.sixel_named_terminals.proofs.NamedLemmas.{shows_or_ends}
 use Rattle.sixel_mend.specs.declared.mending.Mending.{Mending}
 use Rattle.sixel_mend.specs.Screens.{mending_terminal}
 use Rattle.sixel_mend.specs.Sizes.{IsExtent, IsSize, IsTouched, side_over}

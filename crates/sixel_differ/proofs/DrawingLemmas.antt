@@ -10,17 +10,17 @@ use Rattle.sixel_terminal.specs.Displays.{Display}
 use Rattle.sixel_terminal.specs.Drawing.{screen_on}
 use Rattle.sixel_terminal.specs.Drawings.{Drawn}
 use Rattle.sixel_terminal.specs.Screens.{Shown}
-use Rattle.sixel_models.specs.declared.modelled.Modelled.{Modelled}
-use Rattle.sixel_models.specs.declared.named.Named.{Named}
-use Rattle.sixel_models.specs.declared.named.Named.TheVariants.{Konsole}
-use Rattle.sixel_models.specs.declared.showing.ShowFault.TheVariants.{Unmodelled as Ends}
-use Rattle.sixel_models.specs.Konsole.{konsole_model}
-use Rattle.sixel_models.specs.KonsoleSeen.{HasSeenKonsole}
-use Rattle.sixel_models.specs.Measuring.{HasTakenOn}
-use Rattle.sixel_models.specs.Modelled.{EndsAtPlace, HasFollowed, HasFollowedOn, IsDrawingOf}
-use Rattle.sixel_models.specs.Named.{DrawsNothingFirst, IsScreenOn, ShowsDocument, model_of, terminal_on}
-use Rattle.sixel_models.specs.Readings.{IsReading}
-use Rattle.sixel_models.proofs.ShowingLemmas.{Finishes}
+use Rattle.sixel_emulator.specs.declared.modelled.Modelled.{Modelled}
+use Rattle.sixel_named_terminals.specs.declared.named.Named.{Named}
+use Rattle.sixel_named_terminals.specs.declared.named.Named.TheVariants.{Konsole}
+use Rattle.sixel_named_terminals.specs.declared.showing.ShowFault.TheVariants.{Unmodelled as Ends}
+use Rattle.sixel_konsole.specs.Konsole.{konsole_model}
+use Rattle.sixel_konsole.specs.KonsoleSeen.{HasSeenKonsole}
+use Rattle.sixel_konsole.specs.Measuring.{HasTakenOn}
+use Rattle.sixel_emulator.specs.Modelled.{EndsAtPlace, HasFollowed, HasFollowedOn, IsDrawingOf}
+use Rattle.sixel_named_terminals.specs.Named.{DrawsNothingFirst, IsScreenOn, ShowsDocument, model_of, terminal_on}
+use Rattle.sixel_emulator.specs.Readings.{IsReading}
+use Rattle.sixel_named_terminals.proofs.ShowingLemmas.{Finishes}
 use Rattle.sixel_differ.specs.Drawings.{HasDrawn, HasDrawnKonsole, OnKonsole}
 
 -- ---- before any event

@@ -8,12 +8,12 @@ use Rattle.sixel_grammar.proofs.UniqueLemmas.{document_once}
 use Rattle.sixel_model.specs.declared.colour.Parts.{Parts}
 use Rattle.sixel_model.specs.declared.colour.Parts.TheVariants.{Rgb}
 use Rattle.sixel_terminal.specs.Screens.{Shown}
-use Rattle.sixel_models.specs.declared.named.Named.{Named}
-use Rattle.sixel_models.specs.declared.named.Named.TheVariants.{XTerm, MlTerm, Foot, Konsole}
-use Rattle.sixel_models.specs.Modelled.{EndsAtPlace}
-use Rattle.sixel_models.specs.Named.{model_of}
-use Rattle.sixel_models.specs.Readings.{Model}
-use Rattle.sixel_models.proofs.NamedLemmas.{end_once, said_does_not_end, screen_once}
+use Rattle.sixel_named_terminals.specs.declared.named.Named.{Named}
+use Rattle.sixel_named_terminals.specs.declared.named.Named.TheVariants.{XTerm, MlTerm, Foot, Konsole}
+use Rattle.sixel_emulator.specs.Modelled.{EndsAtPlace}
+use Rattle.sixel_named_terminals.specs.Named.{model_of}
+use Rattle.sixel_emulator.specs.Readings.{Model}
+use Rattle.sixel_named_terminals.proofs.NamedLemmas.{end_once, said_does_not_end, screen_once}
 use Rattle.sixel_mend.specs.declared.mending.Mending.{Mending}
 use Rattle.sixel_mend.specs.Sizes.{IsSize}
 use Rattle.sixel_mend.proofs.SizeLemmas.{one_size}

@@ -10,9 +10,9 @@ use Rattle.sixel_model.proofs.GridLemmas.{length_rows}
 use Rattle.sixel_terminal.specs.Displays.{Display}
 use Rattle.sixel_terminal.specs.Drawing.{screen_on, shown_on}
 use Rattle.sixel_terminal.specs.Screens.{Shown}
-use Rattle.sixel_models.specs.declared.named.Named.{Named}
-use Rattle.sixel_models.specs.declared.named.Named.TheVariants.{XTerm, MlTerm, Foot, Konsole}
-use Rattle.sixel_models.specs.Named.{IsScreenOn, model_of, terminal_on}
+use Rattle.sixel_named_terminals.specs.declared.named.Named.{Named}
+use Rattle.sixel_named_terminals.specs.declared.named.Named.TheVariants.{XTerm, MlTerm, Foot, Konsole}
+use Rattle.sixel_named_terminals.specs.Named.{IsScreenOn, model_of, terminal_on}
 use Rattle.sixel_mend.specs.declared.mending.Mending.{Mending}
 use Rattle.sixel_mend.specs.Sizes.{IsSize}
 use Rattle.sixel_differ.specs.declared.fault.DifferFault.{DifferFault}

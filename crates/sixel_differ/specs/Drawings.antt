@@ -4,24 +4,24 @@ use Rattle.sixel_grammar.specs.declared.command.Event.{Event}
 use Rattle.sixel_grammar.specs.declared.command.Placed.{Placed}
 use Rattle.sixel_grammar.specs.Document.{events_of}
 use Rattle.sixel_model.specs.declared.colour.Parts.{Parts}
-use Rattle.sixel_models.specs.declared.both.Both.{Both}
-use Rattle.sixel_models.specs.declared.foot.Foot.{Foot as FootReading}
-use Rattle.sixel_models.specs.declared.konsole.Konsole.{Konsole as KonsoleReading}
-use Rattle.sixel_models.specs.declared.measuring.Measuring.{Measuring}
-use Rattle.sixel_models.specs.declared.mlterm.MlTerm.{MlTerm as MlTermReading}
-use Rattle.sixel_models.specs.declared.modelled.Modelled.{Modelled}
-use Rattle.sixel_models.specs.declared.named.Named.{Named}
-use Rattle.sixel_models.specs.declared.named.Named.TheVariants.{XTerm, MlTerm, Foot}
-use Rattle.sixel_models.specs.declared.xterm.XTerm.{XTerm as XTermReading}
-use Rattle.sixel_models.specs.FootSeen.{HasSeenFoot}
-use Rattle.sixel_models.specs.Konsole.{konsole_model}
-use Rattle.sixel_models.specs.KonsoleSeen.{HasSeenKonsole}
-use Rattle.sixel_models.specs.Measuring.{HasTakenAll}
-use Rattle.sixel_models.specs.MlTermSeen.{HasSeenMlTerm}
-use Rattle.sixel_models.specs.Modelled.{HasFollowed}
-use Rattle.sixel_models.specs.Named.{model_of, terminal_on}
-use Rattle.sixel_models.specs.Settings.{konsole_display}
-use Rattle.sixel_models.specs.XTermSeen.{HasSeenXTerm}
+use Rattle.sixel_emulator.specs.declared.both.Both.{Both}
+use Rattle.sixel_foot.specs.declared.foot.Foot.{Foot as FootReading}
+use Rattle.sixel_konsole.specs.declared.konsole.Konsole.{Konsole as KonsoleReading}
+use Rattle.sixel_konsole.specs.declared.measuring.Measuring.{Measuring}
+use Rattle.sixel_mlterm.specs.declared.mlterm.MlTerm.{MlTerm as MlTermReading}
+use Rattle.sixel_emulator.specs.declared.modelled.Modelled.{Modelled}
+use Rattle.sixel_named_terminals.specs.declared.named.Named.{Named}
+use Rattle.sixel_named_terminals.specs.declared.named.Named.TheVariants.{XTerm, MlTerm, Foot}
+use Rattle.sixel_xterm.specs.declared.xterm.XTerm.{XTerm as XTermReading}
+use Rattle.sixel_foot.specs.FootSeen.{HasSeenFoot}
+use Rattle.sixel_konsole.specs.Konsole.{konsole_model}
+use Rattle.sixel_konsole.specs.KonsoleSeen.{HasSeenKonsole}
+use Rattle.sixel_konsole.specs.Measuring.{HasTakenAll}
+use Rattle.sixel_mlterm.specs.MlTermSeen.{HasSeenMlTerm}
+use Rattle.sixel_emulator.specs.Modelled.{HasFollowed}
+use Rattle.sixel_named_terminals.specs.Named.{model_of, terminal_on}
+use Rattle.sixel_konsole.specs.Settings.{konsole_display}
+use Rattle.sixel_xterm.specs.XTermSeen.{HasSeenXTerm}
 
 -- a drawing by konsole's model, and a measure of its rectangle
 abbrev pub OnKonsole : Type 0

@@ -6,10 +6,10 @@ use Rattle.sixel_model.specs.declared.colour.Parts.{Parts}
 use Rattle.sixel_model.specs.Geometry.{band_rows}
 use Rattle.sixel_model.specs.Pictures.{is_side}
 use Rattle.sixel_terminal.specs.Screens.{Shown}
-use Rattle.sixel_models.specs.declared.named.Named.{Named}
-use Rattle.sixel_models.specs.declared.named.Named.TheVariants.{XTerm, MlTerm, Foot, Konsole}
-use Rattle.sixel_models.specs.Modelled.{EndsAtPlace}
-use Rattle.sixel_models.specs.Named.{IsScreenOn, model_of}
+use Rattle.sixel_named_terminals.specs.declared.named.Named.{Named}
+use Rattle.sixel_named_terminals.specs.declared.named.Named.TheVariants.{XTerm, MlTerm, Foot, Konsole}
+use Rattle.sixel_emulator.specs.Modelled.{EndsAtPlace}
+use Rattle.sixel_named_terminals.specs.Named.{IsScreenOn, model_of}
 use Rattle.sixel_mend.specs.declared.mending.Mending.{Mending}
 use Rattle.sixel_mend.specs.Sizes.{IsSize}
 use Rattle.sixel_differ.specs.declared.view.View.{View}

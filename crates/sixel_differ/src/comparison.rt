@@ -3,7 +3,7 @@
 ghost use Rattle.std.specs.Prelude.{◌≡◌, ◌↔◌, IsTrue};
 ghost use Rattle.sixel_differ.specs.Comparisons.{one_group, standing_in};
 
-use sixel_models::Named;
+use sixel_named_terminals::Named;
 
 /// How a terminal's screen stands to those of the terminals before it. Their order is xterm, mlterm, foot, konsole; and
 /// the terminals with equal screens are a group.

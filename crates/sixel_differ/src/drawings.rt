@@ -5,11 +5,11 @@ ghost use Rattle.sixel_grammar.specs.declared.command.Placed.{Placed as Place};
 ghost use Rattle.sixel_grammar.specs.Document.{Document};
 ghost use Rattle.sixel_model.specs.declared.colour.Parts.{Parts as SomeParts};
 ghost use Rattle.sixel_terminal.specs.Limits.{is_screen_side};
-ghost use Rattle.sixel_models.specs.declared.named.Named.{Named as ANamed};
-ghost use Rattle.sixel_models.specs.FootSeen.{HasSeenFoot};
-ghost use Rattle.sixel_models.specs.MlTermSeen.{HasSeenMlTerm};
-ghost use Rattle.sixel_models.specs.Named.{DrawsNothingFirst, model_of};
-ghost use Rattle.sixel_models.specs.XTermSeen.{HasSeenXTerm};
+ghost use Rattle.sixel_named_terminals.specs.declared.named.Named.{Named as ANamed};
+ghost use Rattle.sixel_foot.specs.FootSeen.{HasSeenFoot};
+ghost use Rattle.sixel_mlterm.specs.MlTermSeen.{HasSeenMlTerm};
+ghost use Rattle.sixel_named_terminals.specs.Named.{DrawsNothingFirst, model_of};
+ghost use Rattle.sixel_xterm.specs.XTermSeen.{HasSeenXTerm};
 ghost use Rattle.sixel_differ.specs.Drawings.{HasDrawn, HasDrawnKonsole, HaveDrawn};
 ghost use Rattle.sixel_differ.specs.Faults.{IsReadingFault};
 ghost use Rattle.sixel_differ.specs.Views.{IsView, view_in};
@@ -17,14 +17,15 @@ ghost use Rattle.sixel_differ.specs.Views.{IsView, view_in};
 use crate::apart::Apart;
 use crate::fault::DifferFault;
 use crate::view::{View, Views};
+use sixel_emulator::{Both, Modelled, Reading};
+use sixel_foot::{Foot, as_foot, foot_terminal};
 use sixel_grammar::follow_document;
+use sixel_konsole::{Konsole, Measuring, as_konsole_at_once, konsole_terminal};
+use sixel_mlterm::{MlTerm, as_mlterm, mlterm_terminal};
 use sixel_model::Colour;
-use sixel_models::{
-    Both, Foot, Konsole, Measuring, MlTerm, Modelled, Named, Reading, ShowFault, XTerm, as_foot,
-    as_konsole_at_once, as_mlterm, as_xterm, foot_terminal, konsole_screen, konsole_terminal,
-    mlterm_terminal, xterm_terminal,
-};
+use sixel_named_terminals::{Named, ShowFault, konsole_screen};
 use sixel_terminal::Drawing;
+use sixel_xterm::{XTerm, as_xterm, xterm_terminal};
 use std::alloc::{AllocError, Global};
 
 /// A drawing by konsole's model, without its rectangle, and a measure of that.

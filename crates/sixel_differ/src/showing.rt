@@ -5,7 +5,7 @@ ghost use Rattle.sixel_grammar.specs.declared.command.Placed.{Placed as Place};
 ghost use Rattle.sixel_grammar.specs.Document.{Document, events_of};
 ghost use Rattle.sixel_model.specs.Pictures.{is_side};
 ghost use Rattle.sixel_terminal.specs.Limits.{is_screen_side};
-ghost use Rattle.sixel_models.specs.declared.named.Named.{Named as ANamed};
+ghost use Rattle.sixel_named_terminals.specs.declared.named.Named.{Named as ANamed};
 ghost use Rattle.sixel_mend.specs.declared.mending.Mending.{Mending as AMending};
 ghost use Rattle.sixel_mend.specs.Measuring.{HasMeasured};
 ghost use Rattle.sixel_mend.specs.Mended.{Mends};

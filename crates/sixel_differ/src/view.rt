@@ -6,7 +6,7 @@ ghost use Rattle.sixel_differ.specs.Views.{HasSides, HaveSides, view_in};
 
 use crate::comparison::{Comparison, Standing};
 use crate::pixels::first_unlike;
-use sixel_models::Named;
+use sixel_named_terminals::Named;
 use sixel_terminal::Screen;
 
 /// What a named terminal shows.

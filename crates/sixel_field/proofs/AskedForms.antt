@@ -3,8 +3,8 @@ use Rattle.std.proofs.Common.{◌≡◌, ◌||◌, Bool, true, false, List, refl
 use Rattle.std.specs.Prelude.{IsTrue}
 use Rattle.sixel_grammar.specs.declared.command.Event.{Event}
 use Rattle.sixel_model.specs.Positions.{HoldsNowhere}
-use Rattle.sixel_models.specs.declared.named.Named.{Named}
-use Rattle.sixel_models.specs.declared.named.Named.TheVariants.{XTerm, MlTerm, Foot, Konsole}
+use Rattle.sixel_named_terminals.specs.declared.named.Named.{Named}
+use Rattle.sixel_named_terminals.specs.declared.named.Named.TheVariants.{XTerm, MlTerm, Foot, Konsole}
 use Rattle.sixel_asked.specs.Asked.{breaks_dropped, breaks_far, breaks_hue, breaks_large, breaks_mixed}
 use Rattle.sixel_asked.specs.Asked.{breaks_past, breaks_raster_late, breaks_rows}
 use Rattle.sixel_asked.specs.Stale.{IsStale}

@@ -9,7 +9,7 @@ use Rattle.sixel_model.specs.Positions.{HoldsNowhere}
 use Rattle.sixel_model.specs.Rules.{Breaks, BreaksNone}
 use Rattle.sixel_model.proofs.PositionLemmas.{get_end, holds_before, holds_end, holds_within}
 use Rattle.sixel_model.proofs.RuleLemmas.{Keeps, keeps_at, none_before}
-use Rattle.sixel_models.specs.declared.named.Named.{Named}
+use Rattle.sixel_named_terminals.specs.declared.named.Named.{Named}
 use Rattle.sixel_judge.proofs.AlarmLemmas.{taken_there, taken_twice}
 use Rattle.sixel_field.proofs.AskedForms.{BreaksFor, BreaksNoneFor}
 use Rattle.sixel_field.proofs.StaleLemmas.{by_pushes}

@@ -15,7 +15,7 @@ use Rattle.sixel_model.specs.Geometry.{band, column}
 use Rattle.sixel_model.specs.Pictures.{IsPicture, PictureValue}
 use Rattle.sixel_model.specs.Positions.{HoldsNowhere, earliest}
 use Rattle.sixel_model.specs.Rules.{raster_before}
-use Rattle.sixel_models.specs.declared.named.Named.TheVariants.{XTerm, MlTerm, Konsole}
+use Rattle.sixel_named_terminals.specs.declared.named.Named.TheVariants.{XTerm, MlTerm, Konsole}
 use Rattle.sixel_encode.specs.Canon.{canon, canon_start, define_command}
 use Rattle.sixel_encode_laws.proofs.OpeningLemmas.{raster}
 use Rattle.sixel_encode.proofs.PartedLemmas.{Parted, parted}

@@ -2,7 +2,7 @@
 use Rattle.std.proofs.Common.{ℕ, ◌≤◌, subst, sym}
 use Rattle.sixel_model.specs.Pictures.{PictureValue}
 use Rattle.sixel_model.specs.Rules.{BreaksNone, last_rule}
-use Rattle.sixel_models.specs.declared.named.Named.TheVariants.{Foot}
+use Rattle.sixel_named_terminals.specs.declared.named.Named.TheVariants.{Foot}
 use Rattle.sixel_encode.specs.Canon.{canon}
 use Rattle.sixel_encode_laws.proofs.LeadsBackLemmas.{lists_break_no_rule, lists_leave_their_picture}
 use Rattle.sixel_encode_laws.proofs.WrittenLemmas.{lists_are_whole}

@@ -12,12 +12,12 @@ use Rattle.sixel_grammar.specs.declared.command.Event.TheVariants.{Start, Step, 
 use Rattle.sixel_model.specs.declared.colour.Parts.{Parts}
 use Rattle.sixel_model.proofs.LastLemmas.{item_there}
 use Rattle.sixel_model.proofs.LatestLemmas.{take_one_more}
-use Rattle.sixel_models.specs.declared.reading.Reads.TheVariants.{Nothing, Draws, Unsaid}
-use Rattle.sixel_models.specs.Foot.{foot, foot_colour, foot_model, foot_register, foot_select}
-use Rattle.sixel_models.specs.Foot.{is_last, spoils_on_foot}
-use Rattle.sixel_models.specs.Readings.{IsReading, drawn_by, is_stop, read_at}
-use Rattle.sixel_models.specs.Words.{after_each, after_first}
-use Rattle.sixel_models.proofs.WordLemmas.{each_push}
+use Rattle.sixel_emulator.specs.declared.reading.Reads.TheVariants.{Nothing, Draws, Unsaid}
+use Rattle.sixel_foot.specs.Foot.{foot, foot_colour, foot_model, foot_register, foot_select}
+use Rattle.sixel_foot.specs.Foot.{is_last, spoils_on_foot}
+use Rattle.sixel_emulator.specs.Readings.{IsReading, drawn_by, is_stop, read_at}
+use Rattle.sixel_emulator.specs.Words.{after_each, after_first}
+use Rattle.sixel_emulator.proofs.WordLemmas.{each_push}
 
 -- ---- the drawing
 

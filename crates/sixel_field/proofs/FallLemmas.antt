@@ -14,7 +14,7 @@ use Rattle.sixel_grammar.specs.declared.command.Event.TheVariants.{Step}
 use Rattle.sixel_model.specs.Events.{bits_of, columns_of, is_data_command}
 use Rattle.sixel_model.specs.Geometry.{band, column, covers, falls, touches}
 use Rattle.sixel_model.proofs.CoverLemmas.{LiesUnder, covers_under, idle_falls, lies_under}
-use Rattle.sixel_models.specs.Words.{kept, upper}
+use Rattle.sixel_emulator.specs.Words.{kept, upper}
 use Rattle.sixel_judge.proofs.DrawnLemmas.{no_data_bits}
 
 -- ---- the upper rows

@@ -26,9 +26,9 @@ use Rattle.sixel_model.proofs.StepLemmas.{band_push, column_push}
 use Rattle.sixel_terminal.specs.Displays.{Display}
 use Rattle.sixel_terminal.specs.Drawing.{defined_on, map_on, selected_on}
 use Rattle.sixel_terminal.proofs.SelectLemmas.{known_is_selected}
-use Rattle.sixel_models.specs.Foot.{foot_colour, foot_register, foot_select}
-use Rattle.sixel_models.specs.Readings.{drawn_by}
-use Rattle.sixel_models.specs.Settings.{foot_display}
+use Rattle.sixel_foot.specs.Foot.{foot_colour, foot_register, foot_select}
+use Rattle.sixel_emulator.specs.Readings.{drawn_by}
+use Rattle.sixel_foot.specs.Settings.{foot_display}
 use Rattle.sixel_judge.proofs.ColourLemmas.{each_sound, known_in_range, map_defined}
 use Rattle.sixel_judge.proofs.DrawLemmas.{falls_paints}
 use Rattle.sixel_judge.proofs.OptionLemmas.{some_value}

@@ -18,7 +18,7 @@ use Rattle.sixel_terminal.specs.Limits.{display_of, plain_screen}
 use Rattle.sixel_terminal.specs.Drawing.{IsPainted, height_of, inked_on, is_kept_on, is_seen_on, map_on, paint_at}
 use Rattle.sixel_terminal.specs.Drawing.{selected_on, touches_on}
 use Rattle.sixel_terminal.proofs.ClipLemmas.{at_origin}
-use Rattle.sixel_models.specs.Settings.{foot_choices}
+use Rattle.sixel_foot.specs.Settings.{foot_choices}
 use Rattle.sixel_judge.proofs.OptionLemmas.{map_some, some_value}
 use Rattle.sixel_field.proofs.FallLemmas.{falls_nowhere}
 

@@ -20,9 +20,9 @@ use Rattle.sixel_model.proofs.CoverLemmas.{covers_under, passes_below}
 use Rattle.sixel_model.proofs.RuleLemmas.{Keeps}
 use Rattle.sixel_model.proofs.StepLemmas.{band_push, column_push}
 use Rattle.sixel_terminal.proofs.SixelLemmas.{low_bit}
-use Rattle.sixel_models.specs.Konsole.{column_after, counting, greatest_at, greatest_below, has_begun, konsole_drawing}
-use Rattle.sixel_models.specs.Konsole.{konsole_opening, rectangle_of, row_after, side}
-use Rattle.sixel_models.proofs.KonsoleMeasureLemmas.{greatest_push}
+use Rattle.sixel_konsole.specs.Konsole.{column_after, counting, greatest_at, greatest_below, has_begun, konsole_drawing}
+use Rattle.sixel_konsole.specs.Konsole.{konsole_opening, rectangle_of, row_after, side}
+use Rattle.sixel_konsole.proofs.KonsoleMeasureLemmas.{greatest_push}
 use Rattle.sixel_judge.proofs.DrawLemmas.{has_columns}
 use Rattle.sixel_asked.specs.Asked.{breaks_past, leaves_box}
 use Rattle.sixel_field.proofs.KonsoleDrawingLemmas.{IsBody, asked_last, keeps_last, plain_of, plain_push}

@@ -21,13 +21,13 @@ use Rattle.sixel_model.proofs.PositionLemmas.{holds_before, holds_within, latest
 use Rattle.sixel_model.proofs.PositionLemmas.{since_push}
 use Rattle.sixel_model.proofs.RuleLemmas.{Keeps, is_false, keeps_at, none_before}
 use Rattle.sixel_model.proofs.StepLemmas.{raster_push}
-use Rattle.sixel_models.specs.declared.named.Named.TheVariants.{Konsole}
-use Rattle.sixel_models.specs.Konsole.{begins, counting, first_below, first_followed, has_begun, has_late}
-use Rattle.sixel_models.specs.Konsole.{has_unknown_system, is_stuck, konsole, konsole_drawing, may_count, moves_or_ends}
-use Rattle.sixel_models.specs.Readings.{drawn_by}
-use Rattle.sixel_models.proofs.FollowedLemmas.{any_followed_push, first_followed_push}
-use Rattle.sixel_models.proofs.KonsoleMeasureLemmas.{drawing_push}
-use Rattle.sixel_models.proofs.WordLemmas.{any_push}
+use Rattle.sixel_named_terminals.specs.declared.named.Named.TheVariants.{Konsole}
+use Rattle.sixel_konsole.specs.Konsole.{begins, counting, first_below, first_followed, has_begun, has_late}
+use Rattle.sixel_konsole.specs.Konsole.{has_unknown_system, is_stuck, konsole, konsole_drawing, may_count, moves_or_ends}
+use Rattle.sixel_emulator.specs.Readings.{drawn_by}
+use Rattle.sixel_konsole.proofs.FollowedLemmas.{any_followed_push, first_followed_push}
+use Rattle.sixel_konsole.proofs.KonsoleMeasureLemmas.{drawing_push}
+use Rattle.sixel_emulator.proofs.WordLemmas.{any_push}
 use Rattle.sixel_asked.specs.Asked.{breaks_dropped, is_droppable}
 use Rattle.sixel_field.proofs.AskedForms.{BreaksFor, BreaksNoneFor}
 use Rattle.sixel_field.proofs.KonsoleRuleLemmas.{IsAsked, drawn_plain, drops, plain, raster_draws}

@@ -15,8 +15,8 @@ use Rattle.sixel_model.specs.Positions.{earliest}
 use Rattle.sixel_model.specs.Rules.{BreaksNone, breaks_raster_first, raster_before}
 use Rattle.sixel_model.proofs.RuleLemmas.{Keeps}
 use Rattle.sixel_model.proofs.StepLemmas.{raster_push}
-use Rattle.sixel_models.specs.declared.named.Named.TheVariants.{Konsole}
-use Rattle.sixel_models.proofs.WordLemmas.{any_push}
+use Rattle.sixel_named_terminals.specs.declared.named.Named.TheVariants.{Konsole}
+use Rattle.sixel_emulator.proofs.WordLemmas.{any_push}
 use Rattle.sixel_asked.specs.Asked.{breaks_raster_late, breaks_rows}
 use Rattle.sixel_field.proofs.AskedForms.{BreaksNoneFor}
 use Rattle.sixel_field.proofs.KonsoleDrawingLemmas.{asked_here, front, is_start, keeps_here}

@@ -22,8 +22,9 @@ use Rattle.sixel_terminal.specs.Drawing.{defined_on, filled_on, height_of, inked
 use Rattle.sixel_terminal.specs.Drawing.{paint_at, selected_on, shown_on, stood_on, touches_on}
 use Rattle.sixel_terminal.specs.Limits.{display_of, plain_screen}
 use Rattle.sixel_terminal.proofs.ClipLemmas.{at_origin}
-use Rattle.sixel_models.specs.Settings.{konsole_colours, plain_choices}
-use Rattle.sixel_models.proofs.WordLemmas.{or_default}
+use Rattle.sixel_konsole.specs.Settings.{konsole_colours}
+use Rattle.sixel_emulator.specs.Settings.{plain_choices}
+use Rattle.sixel_emulator.proofs.WordLemmas.{or_default}
 use Rattle.sixel_field.proofs.FallLemmas.{falls_nowhere}
 use Rattle.sixel_field.proofs.InkLemmas.{last_at_same, one_row}
 use Rattle.sixel_field.proofs.KonsoleBoxLemmas.{IsPlace, place_drawn, place_event, place_same}

@@ -17,9 +17,9 @@ use Rattle.sixel_model.specs.Rules.{breaks_register, breaks_repeat_zero, breaks_
 use Rattle.sixel_model.specs.Rules.{raster_before}
 use Rattle.sixel_model.proofs.RuleLemmas.{Keeps, none_before, none_push}
 use Rattle.sixel_model.proofs.StepLemmas.{covered_push, raster_push}
-use Rattle.sixel_models.specs.Konsole.{counting, has_begun, konsole, konsole_drawing}
-use Rattle.sixel_models.specs.Readings.{drawn_by}
-use Rattle.sixel_models.proofs.KonsoleMeasureLemmas.{drawing_push}
+use Rattle.sixel_konsole.specs.Konsole.{counting, has_begun, konsole, konsole_drawing}
+use Rattle.sixel_emulator.specs.Readings.{drawn_by}
+use Rattle.sixel_konsole.proofs.KonsoleMeasureLemmas.{drawing_push}
 use Rattle.sixel_judge.proofs.CoverLemmas.{one_box}
 use Rattle.sixel_asked.specs.Asked.{is_droppable}
 use Rattle.sixel_field.proofs.FallLemmas.{falls_nowhere}

@@ -18,12 +18,12 @@ use Rattle.sixel_model.specs.Events.{Attributes, is_return}
 use Rattle.sixel_model.specs.Rules.{breaks_box_size, breaks_colour_value, breaks_ratio, breaks_register}
 use Rattle.sixel_model.specs.Rules.{breaks_repeat_zero, colour_by, gives_colour}
 use Rattle.sixel_model.proofs.RuleLemmas.{Keeps}
-use Rattle.sixel_models.specs.declared.reading.Reads.{Reads}
-use Rattle.sixel_models.specs.declared.reading.Reads.TheVariants.{Nothing, Draws, Unsaid}
-use Rattle.sixel_models.specs.Konsole.{colour_and_select, counting, has_begun, is_above, is_dropped, is_stuck, is_whole}
-use Rattle.sixel_models.specs.Konsole.{konsole, konsole_move, may_count, moves_or_ends}
-use Rattle.sixel_models.specs.Readings.{drawn_by}
-use Rattle.sixel_models.specs.Words.{defining, nearest}
+use Rattle.sixel_emulator.specs.declared.reading.Reads.{Reads}
+use Rattle.sixel_emulator.specs.declared.reading.Reads.TheVariants.{Nothing, Draws, Unsaid}
+use Rattle.sixel_konsole.specs.Konsole.{colour_and_select, counting, has_begun, is_above, is_dropped, is_stuck, is_whole}
+use Rattle.sixel_konsole.specs.Konsole.{konsole, konsole_move, may_count, moves_or_ends}
+use Rattle.sixel_emulator.specs.Readings.{drawn_by}
+use Rattle.sixel_emulator.specs.Words.{defining, nearest}
 use Rattle.sixel_judge.proofs.ColourLemmas.{given, made}
 use Rattle.sixel_asked.specs.Asked.{breaks_dropped, breaks_past, breaks_raster_late, breaks_rows, is_droppable}
 use Rattle.sixel_field.proofs.PenLemmas.{nearest_same}

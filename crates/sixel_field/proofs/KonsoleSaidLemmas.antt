@@ -7,9 +7,9 @@ use Rattle.sixel_model.specs.Events.{is_eight_bit}
 use Rattle.sixel_model.specs.Rules.{BreaksNone, last_rule}
 use Rattle.sixel_model.proofs.LastLemmas.{item_there}
 use Rattle.sixel_model.proofs.RuleLemmas.{keeps_at, none_drawn, seven_bits_at}
-use Rattle.sixel_models.specs.Konsole.{konsole_model}
-use Rattle.sixel_models.specs.Readings.{IsSaid, IsUnsaid, is_unsaid_control}
-use Rattle.sixel_models.specs.Readings.IsUnsaid.{Control, Behaviour}
+use Rattle.sixel_konsole.specs.Konsole.{konsole_model}
+use Rattle.sixel_emulator.specs.Readings.{IsSaid, IsUnsaid, is_unsaid_control}
+use Rattle.sixel_emulator.specs.Readings.IsUnsaid.{Control, Behaviour}
 use Rattle.sixel_field.proofs.KonsoleRuleLemmas.{says}
 
 seven_bits : (e : Event) → is_eight_bit e ≡ false → is_unsaid_control konsole_model e ≡ true → ⊥

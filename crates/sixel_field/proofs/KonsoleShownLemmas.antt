@@ -22,11 +22,11 @@ use Rattle.sixel_model.proofs.RuleLemmas.{none_before, none_drawn, seven_bits_at
 use Rattle.sixel_model.proofs.StepLemmas.{covered_push}
 use Rattle.sixel_terminal.specs.Displays.{registers_of}
 use Rattle.sixel_terminal.specs.Drawing.{IsPainted, is_seen_on, shown_on, stood_on}
-use Rattle.sixel_models.specs.declared.named.Named.TheVariants.{Konsole}
-use Rattle.sixel_models.specs.Konsole.{konsole_drawing, konsole_opening}
-use Rattle.sixel_models.specs.Named.{tall_in}
-use Rattle.sixel_models.specs.Settings.{konsole_colours, konsole_display, konsole_start}
-use Rattle.sixel_models.proofs.KonsoleReadLemmas.{konsole_read}
+use Rattle.sixel_named_terminals.specs.declared.named.Named.TheVariants.{Konsole}
+use Rattle.sixel_konsole.specs.Konsole.{konsole_drawing, konsole_opening}
+use Rattle.sixel_named_terminals.specs.Named.{tall_in}
+use Rattle.sixel_konsole.specs.Settings.{konsole_colours, konsole_display, konsole_start}
+use Rattle.sixel_konsole.proofs.KonsoleReadLemmas.{konsole_read}
 use Rattle.sixel_judge.specs.Portable.{Shows}
 use Rattle.sixel_judge.proofs.CoverLemmas.{all_covered}
 use Rattle.sixel_judge.proofs.ShownLemmas.{shows_left, size_left}

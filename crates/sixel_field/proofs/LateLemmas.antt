@@ -27,11 +27,11 @@ use Rattle.sixel_judge.proofs.DecideLemmas.{broken_decided, broken_or_none}
 use Rattle.sixel_judge.proofs.OnePixel.{second_of}
 use Rattle.sixel_judge.proofs.SearchLemmas.{decide_true, least_here, least_more, least_below, in_row}
 use Rattle.sixel_judge.proofs.SearchLemmas.{row_decided, first_point}
-use Rattle.sixel_models.specs.Foot.{foot_model}
-use Rattle.sixel_models.specs.Readings.{IsReading}
-use Rattle.sixel_models.specs.Settings.{foot_display}
-use Rattle.sixel_models.specs.Words.{after_each, after_first}
-use Rattle.sixel_models.proofs.NamedLemmas.{reading_once}
+use Rattle.sixel_foot.specs.Foot.{foot_model}
+use Rattle.sixel_emulator.specs.Readings.{IsReading}
+use Rattle.sixel_foot.specs.Settings.{foot_display}
+use Rattle.sixel_emulator.specs.Words.{after_each, after_first}
+use Rattle.sixel_named_terminals.proofs.NamedLemmas.{reading_once}
 use Rattle.sixel_field.specs.Laws.{LateDefinitionsCanDiffer, late_red}
 use Rattle.sixel_field.proofs.DrawingLemmas.{drawing_is_reading, foot_drawing}
 use Rattle.sixel_field.proofs.SaidLemmas.{all_is_said}

@@ -16,10 +16,10 @@ use Rattle.sixel_model.specs.Rules.{is_covered, raster_before}
 use Rattle.sixel_model.proofs.CoverLemmas.{idle_covered, lies_under}
 use Rattle.sixel_model.proofs.RuleLemmas.{Keeps}
 use Rattle.sixel_model.proofs.StepLemmas.{band_push, covered_push, raster_push}
-use Rattle.sixel_models.specs.Words.{after_each, after_first}
-use Rattle.sixel_models.proofs.WordLemmas.{each_push}
-use Rattle.sixel_models.specs.MlTerm.{Buffer, buffer_with, data_sides, is_past_all, mlterm_buffer, no_buffer, resized}
-use Rattle.sixel_models.specs.MlTerm.{rows_to, wanted_height, with_data, with_line}
+use Rattle.sixel_emulator.specs.Words.{after_each, after_first}
+use Rattle.sixel_emulator.proofs.WordLemmas.{each_push}
+use Rattle.sixel_mlterm.specs.MlTerm.{Buffer, buffer_with, data_sides, is_past_all, mlterm_buffer, no_buffer, resized}
+use Rattle.sixel_mlterm.specs.MlTerm.{rows_to, wanted_height, with_data, with_line}
 use Rattle.sixel_asked.specs.Asked.{breaks_far, ends_right, is_deep}
 use Rattle.sixel_field.proofs.KeptLemmas.{IsGoodBox, good_box, not_above, not_zero}
 use Rattle.sixel_field.proofs.MlTermMissedLemmas.{IsMissed}

@@ -18,7 +18,7 @@ use Rattle.sixel_model.proofs.RuleLemmas.{Keeps}
 use Rattle.sixel_model.proofs.StepLemmas.{band_push, column_push}
 use Rattle.sixel_terminal.specs.Displays.{registers_of}
 use Rattle.sixel_terminal.specs.Drawing.{defined_on, map_on, selected_on}
-use Rattle.sixel_models.specs.Settings.{mlterm_display}
+use Rattle.sixel_mlterm.specs.Settings.{mlterm_display}
 use Rattle.sixel_judge.proofs.OptionLemmas.{some_value}
 use Rattle.sixel_judge.proofs.ShownLemmas.{falls_known}
 use Rattle.sixel_field.proofs.FollowLemmas.{IsQuiet, quiet_column, quiet_line, same_if}

@@ -23,13 +23,13 @@ use Rattle.sixel_model.specs.Rules.{BreaksNone, breaks_colour_value, breaks_regi
 use Rattle.sixel_model.specs.Rules.{raster_before}
 use Rattle.sixel_model.proofs.KnownLemmas.{latest_each}
 use Rattle.sixel_model.proofs.RuleLemmas.{Keeps, is_false}
-use Rattle.sixel_models.specs.declared.named.Named.TheVariants.{MlTerm}
-use Rattle.sixel_models.specs.declared.reading.Reads.{Reads}
-use Rattle.sixel_models.specs.declared.reading.Reads.TheVariants.{Nothing, DrawsTwo, Unsaid}
-use Rattle.sixel_models.specs.MlTerm.{Buffer, define_and_select, is_chance, is_lost, is_past_all, is_said_colour}
-use Rattle.sixel_models.specs.MlTerm.{mixes, mlterm, mlterm_buffer, mlterm_data, mlterm_register, mlterm_selected}
-use Rattle.sixel_models.specs.MlTerm.{rows_to, said_by, wanted_height}
-use Rattle.sixel_models.specs.Words.{nearest}
+use Rattle.sixel_named_terminals.specs.declared.named.Named.TheVariants.{MlTerm}
+use Rattle.sixel_emulator.specs.declared.reading.Reads.{Reads}
+use Rattle.sixel_emulator.specs.declared.reading.Reads.TheVariants.{Nothing, DrawsTwo, Unsaid}
+use Rattle.sixel_mlterm.specs.MlTerm.{Buffer, define_and_select, is_chance, is_lost, is_past_all, is_said_colour}
+use Rattle.sixel_mlterm.specs.MlTerm.{mixes, mlterm, mlterm_buffer, mlterm_data, mlterm_register, mlterm_selected}
+use Rattle.sixel_mlterm.specs.MlTerm.{rows_to, said_by, wanted_height}
+use Rattle.sixel_emulator.specs.Words.{nearest}
 use Rattle.sixel_judge.proofs.ColourLemmas.{IsSound, each_sound, made}
 use Rattle.sixel_judge.proofs.CoverLemmas.{box_at_data}
 use Rattle.sixel_judge.proofs.OptionLemmas.{some_value}

@@ -16,9 +16,9 @@ use Rattle.sixel_model.specs.Rules.{BreaksNone, picture_left, raster_before}
 use Rattle.sixel_model.proofs.PositionLemmas.{and_false}
 use Rattle.sixel_model.proofs.RuleLemmas.{Keeps, keeps_at, none_drawn}
 use Rattle.sixel_terminal.specs.Drawing.{IsPainted, inked_on, map_on, selected_on, shown_on, stood_on}
-use Rattle.sixel_models.specs.declared.named.Named.TheVariants.{MlTerm}
-use Rattle.sixel_models.specs.MlTerm.{mlterm, mlterm_model}
-use Rattle.sixel_models.specs.Settings.{mlterm_colours, mlterm_display, mlterm_start}
+use Rattle.sixel_named_terminals.specs.declared.named.Named.TheVariants.{MlTerm}
+use Rattle.sixel_mlterm.specs.MlTerm.{mlterm, mlterm_model}
+use Rattle.sixel_mlterm.specs.Settings.{mlterm_colours, mlterm_display, mlterm_start}
 use Rattle.sixel_judge.specs.Portable.{Shows}
 use Rattle.sixel_judge.proofs.CoverLemmas.{box_there}
 use Rattle.sixel_judge.proofs.OptionLemmas.{some_value}

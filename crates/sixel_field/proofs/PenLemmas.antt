@@ -20,9 +20,9 @@ use Rattle.sixel_model.proofs.LatestLemmas.{latest_same, latest_then}
 use Rattle.sixel_model.proofs.PositionLemmas.{latest_push}
 use Rattle.sixel_terminal.specs.Displays.{Display, registers_of}
 use Rattle.sixel_terminal.specs.Drawing.{defined_on, map_on, selected_on}
-use Rattle.sixel_models.specs.Foot.{foot_colour, foot_gives, foot_register}
-use Rattle.sixel_models.specs.Settings.{foot_display}
-use Rattle.sixel_models.specs.Words.{defining, nearest}
+use Rattle.sixel_foot.specs.Foot.{foot_colour, foot_gives, foot_register}
+use Rattle.sixel_foot.specs.Settings.{foot_display}
+use Rattle.sixel_emulator.specs.Words.{defining, nearest}
 use Rattle.sixel_judge.proofs.ColourLemmas.{IsSound, definition_good, each_sound, given, made}
 
 -- ---- the plain terminal

@@ -8,13 +8,13 @@ use Rattle.std.proofs.lemmas.Grind.{flat_map-append}
 use Rattle.sixel_grammar.specs.declared.command.Event.{Event}
 use Rattle.sixel_model.proofs.LastLemmas.{item_there}
 use Rattle.sixel_model.proofs.LatestLemmas.{take_one_more}
-use Rattle.sixel_models.specs.declared.reading.Reads.{Reads}
-use Rattle.sixel_models.specs.declared.reading.Reads.TheVariants.{Nothing, Draws, DrawsTwo, Stops, Unsaid}
-use Rattle.sixel_models.specs.Readings.{IsReading, IsSaid, IsUnsaid, Model, Rule, drawn_by, is_stop, is_unsaid_control}
-use Rattle.sixel_models.specs.Readings.{read_at}
-use Rattle.sixel_models.specs.Readings.IsUnsaid.{Control, Behaviour}
-use Rattle.sixel_models.specs.Words.{after_each, after_first}
-use Rattle.sixel_models.proofs.WordLemmas.{each_push}
+use Rattle.sixel_emulator.specs.declared.reading.Reads.{Reads}
+use Rattle.sixel_emulator.specs.declared.reading.Reads.TheVariants.{Nothing, Draws, DrawsTwo, Stops, Unsaid}
+use Rattle.sixel_emulator.specs.Readings.{IsReading, IsSaid, IsUnsaid, Model, Rule, drawn_by, is_stop, is_unsaid_control}
+use Rattle.sixel_emulator.specs.Readings.{read_at}
+use Rattle.sixel_emulator.specs.Readings.IsUnsaid.{Control, Behaviour}
+use Rattle.sixel_emulator.specs.Words.{after_each, after_first}
+use Rattle.sixel_emulator.proofs.WordLemmas.{each_push}
 use Rattle.sixel_field.proofs.DrawingLemmas.{range_then}
 
 -- ---- the drawing

@@ -14,11 +14,11 @@ use Rattle.sixel_model.specs.Rules.{BreaksNone, last_rule, raster_before}
 use Rattle.sixel_model.proofs.LastLemmas.{item_there}
 use Rattle.sixel_model.proofs.LatestLemmas.{take_one_more}
 use Rattle.sixel_model.proofs.RuleLemmas.{Keeps, keeps_at, none_drawn, seven_bits_at}
-use Rattle.sixel_models.specs.declared.reading.Reads.TheVariants.{Nothing, Draws, Unsaid}
-use Rattle.sixel_models.specs.Foot.{counts_on_foot, cuts_on_foot, foot, foot_colour, foot_model, foot_register}
-use Rattle.sixel_models.specs.Foot.{foot_select, foot_size, has_begun_on_foot, is_last, spoils_on_foot}
-use Rattle.sixel_models.specs.Readings.{IsSaid, IsUnsaid, is_unsaid_control}
-use Rattle.sixel_models.specs.Readings.IsUnsaid.{Control, Behaviour}
+use Rattle.sixel_emulator.specs.declared.reading.Reads.TheVariants.{Nothing, Draws, Unsaid}
+use Rattle.sixel_foot.specs.Foot.{counts_on_foot, cuts_on_foot, foot, foot_colour, foot_model, foot_register}
+use Rattle.sixel_foot.specs.Foot.{foot_select, foot_size, has_begun_on_foot, is_last, spoils_on_foot}
+use Rattle.sixel_emulator.specs.Readings.{IsSaid, IsUnsaid, is_unsaid_control}
+use Rattle.sixel_emulator.specs.Readings.IsUnsaid.{Control, Behaviour}
 use Rattle.sixel_field.proofs.SizeLemmas.{IsSized, raster_first, sized_none, sized_push}
 
 pub sized_start : IsSized [] (raster_before [])

@@ -12,13 +12,13 @@ use Rattle.sixel_model.specs.Positions.{last_at, last_below, latest}
 use Rattle.sixel_model.specs.Rules.{BreaksNone, picture_left, raster_before}
 use Rattle.sixel_model.proofs.RuleLemmas.{Keeps, none_drawn}
 use Rattle.sixel_terminal.specs.Drawing.{IsPainted, inked_on, is_seen_on, shown_on, stood_on}
-use Rattle.sixel_models.specs.Settings.{foot_colours, foot_display}
+use Rattle.sixel_foot.specs.Settings.{foot_colours, foot_display}
 use Rattle.sixel_judge.specs.Portable.{Shows}
 use Rattle.sixel_judge.proofs.CoverLemmas.{box_there}
 use Rattle.sixel_judge.proofs.OptionLemmas.{some_value}
 use Rattle.sixel_judge.proofs.ShownLemmas.{shows_left, size_left}
 use Rattle.sixel_judge.proofs.WithinLemmas.{none_painted_outside}
-use Rattle.sixel_models.specs.declared.named.Named.TheVariants.{Foot}
+use Rattle.sixel_named_terminals.specs.declared.named.Named.TheVariants.{Foot}
 use Rattle.sixel_field.specs.Laws.{ShowsPortable}
 use Rattle.sixel_asked.specs.Stale.{IsStale}
 use Rattle.sixel_field.specs.Stale.{NoneIsStale}

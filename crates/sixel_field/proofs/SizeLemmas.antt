@@ -16,10 +16,10 @@ use Rattle.sixel_model.specs.Rules.{BreaksOutside, breaks_raster_first, breaks_r
 use Rattle.sixel_model.proofs.CoverLemmas.{LiesUnder, lies_under}
 use Rattle.sixel_model.proofs.RuleLemmas.{Keeps}
 use Rattle.sixel_model.proofs.StepLemmas.{band_push, raster_push}
-use Rattle.sixel_models.specs.Foot.{Size, counts_on_foot, foot_grows, foot_rows, foot_size, has_begun_on_foot}
-use Rattle.sixel_models.specs.Words.{after_each, after_first}
-use Rattle.sixel_models.proofs.FootLemmas.{size_push}
-use Rattle.sixel_models.proofs.WordLemmas.{any_push}
+use Rattle.sixel_foot.specs.Foot.{Size, counts_on_foot, foot_grows, foot_rows, foot_size, has_begun_on_foot}
+use Rattle.sixel_emulator.specs.Words.{after_each, after_first}
+use Rattle.sixel_foot.proofs.FootLemmas.{size_push}
+use Rattle.sixel_emulator.proofs.WordLemmas.{any_push}
 use Rattle.sixel_judge.proofs.CoverLemmas.{box_at_data}
 use Rattle.sixel_judge.proofs.OptionLemmas.{some_value}
 

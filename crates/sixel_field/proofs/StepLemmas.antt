@@ -15,11 +15,11 @@ use Rattle.sixel_model.specs.Events.{is_data_command, select_of}
 use Rattle.sixel_model.specs.Rules.{BreaksNone, breaks_register, raster_before}
 use Rattle.sixel_model.proofs.RuleLemmas.{Keeps}
 use Rattle.sixel_terminal.specs.Drawing.{defined_on}
-use Rattle.sixel_models.specs.declared.reading.Reads.TheVariants.{Nothing, Draws}
-use Rattle.sixel_models.specs.Foot.{foot, foot_colour, foot_register, foot_rows, foot_select}
-use Rattle.sixel_models.specs.Readings.{drawn_by}
-use Rattle.sixel_models.specs.Settings.{foot_display}
-use Rattle.sixel_models.specs.Words.{defining, kept}
+use Rattle.sixel_emulator.specs.declared.reading.Reads.TheVariants.{Nothing, Draws}
+use Rattle.sixel_foot.specs.Foot.{foot, foot_colour, foot_register, foot_rows, foot_select}
+use Rattle.sixel_emulator.specs.Readings.{drawn_by}
+use Rattle.sixel_foot.specs.Settings.{foot_display}
+use Rattle.sixel_emulator.specs.Words.{defining, kept}
 use Rattle.sixel_asked.specs.Stale.{IsStale}
 use Rattle.sixel_field.proofs.DrawingLemmas.{raster_drawn}
 use Rattle.sixel_field.proofs.FallLemmas.{IsCell, IsSameCell, kept_is_same, repeat_cell, sixel_cell}

@@ -17,20 +17,21 @@ use Rattle.sixel_model.proofs.LeftLemmas.{left_at}
 use Rattle.sixel_terminal.specs.Displays.{Display}
 use Rattle.sixel_terminal.specs.Drawing.{IsPainted, height_of, is_kept_on, is_seen_on, map_on, paints_on, selected_on}
 use Rattle.sixel_terminal.specs.Drawing.{shown_on, touches_on}
-use Rattle.sixel_models.specs.declared.named.Named.{Named}
-use Rattle.sixel_models.specs.declared.named.Named.TheVariants.{XTerm, MlTerm, Foot, Konsole}
-use Rattle.sixel_models.specs.declared.reading.Reads.TheVariants.{Unsaid}
-use Rattle.sixel_models.specs.Konsole.{any_followed, counting, first_below, first_followed, greatest_at, greatest_below}
-use Rattle.sixel_models.specs.Konsole.{has_begun, has_late, is_stuck, konsole_drawing, konsole_model, konsole_opening}
-use Rattle.sixel_models.specs.MlTerm.{is_said_colour, mlterm_model}
-use Rattle.sixel_models.specs.XTerm.{xterm_model}
-use Rattle.sixel_models.specs.Named.{model_of, terminal_on}
-use Rattle.sixel_models.specs.Readings.{IsReading, IsSaid, Model, StopsNowhereBelow, is_stop, read_at}
-use Rattle.sixel_models.specs.Readings.IsUnsaid.{Behaviour}
-use Rattle.sixel_models.specs.Settings.{konsole_colours, xterm_colours}
-use Rattle.sixel_models.specs.Words.{after_each, after_first, greatest}
-use Rattle.sixel_models.proofs.KonsoleReadLemmas.{konsole_read}
-use Rattle.sixel_models.proofs.NamedLemmas.{reading_once}
+use Rattle.sixel_named_terminals.specs.declared.named.Named.{Named}
+use Rattle.sixel_named_terminals.specs.declared.named.Named.TheVariants.{XTerm, MlTerm, Foot, Konsole}
+use Rattle.sixel_emulator.specs.declared.reading.Reads.TheVariants.{Unsaid}
+use Rattle.sixel_konsole.specs.Konsole.{any_followed, counting, first_below, first_followed, greatest_at, greatest_below}
+use Rattle.sixel_konsole.specs.Konsole.{has_begun, has_late, is_stuck, konsole_drawing, konsole_model, konsole_opening}
+use Rattle.sixel_mlterm.specs.MlTerm.{is_said_colour, mlterm_model}
+use Rattle.sixel_xterm.specs.XTerm.{xterm_model}
+use Rattle.sixel_named_terminals.specs.Named.{model_of, terminal_on}
+use Rattle.sixel_emulator.specs.Readings.{IsReading, IsSaid, Model, StopsNowhereBelow, is_stop, read_at}
+use Rattle.sixel_emulator.specs.Readings.IsUnsaid.{Behaviour}
+use Rattle.sixel_konsole.specs.Settings.{konsole_colours}
+use Rattle.sixel_xterm.specs.Settings.{xterm_colours}
+use Rattle.sixel_emulator.specs.Words.{after_each, after_first, greatest}
+use Rattle.sixel_konsole.proofs.KonsoleReadLemmas.{konsole_read}
+use Rattle.sixel_named_terminals.proofs.NamedLemmas.{reading_once}
 use Rattle.sixel_judge.specs.Portable.{IsInBoxOn, Shows}
 use Rattle.sixel_check.specs.Differences.{white}
 use Rattle.sixel_asked.specs.declared.rule.AskedRule.{AskedRule}

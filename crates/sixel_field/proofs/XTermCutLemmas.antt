@@ -9,8 +9,8 @@ use Rattle.sixel_grammar.specs.declared.command.Event.TheVariants.{Step}
 use Rattle.sixel_model.specs.Events.{bits_of, columns_of, is_data_command}
 use Rattle.sixel_model.specs.Geometry.{band, column, covers, falls, touches}
 use Rattle.sixel_model.proofs.CoverLemmas.{LiesUnder, covers_under, lies_under}
-use Rattle.sixel_models.specs.Words.{kept, upper}
-use Rattle.sixel_models.specs.XTerm.{xterm_painting}
+use Rattle.sixel_emulator.specs.Words.{kept, upper}
+use Rattle.sixel_xterm.specs.XTerm.{xterm_painting}
 use Rattle.sixel_field.proofs.FallLemmas.{IsCell, low_bit, same_bool, set_bit}
 
 -- two columns are the same, or both are past the last one that is painted

@@ -20,9 +20,9 @@ use Rattle.sixel_model.proofs.PositionLemmas.{last_at_push, latest_push}
 use Rattle.sixel_model.proofs.StepLemmas.{band_push, column_push, raster_push}
 use Rattle.sixel_terminal.specs.Displays.{Display, registers_of}
 use Rattle.sixel_terminal.specs.Drawing.{defined_on, selected_on}
-use Rattle.sixel_models.specs.Settings.{xterm_display}
-use Rattle.sixel_models.specs.XTerm.{xterm_box}
-use Rattle.sixel_models.proofs.WordLemmas.{any_push}
+use Rattle.sixel_xterm.specs.Settings.{xterm_display}
+use Rattle.sixel_xterm.specs.XTerm.{xterm_box}
+use Rattle.sixel_emulator.proofs.WordLemmas.{any_push}
 use Rattle.sixel_field.proofs.FallLemmas.{falls_nowhere}
 use Rattle.sixel_field.proofs.FollowLemmas.{IsQuiet, data_column, data_line, quiet_column, quiet_line}
 use Rattle.sixel_field.proofs.PlainLemmas.{paint_of}

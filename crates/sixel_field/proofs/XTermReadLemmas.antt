@@ -12,8 +12,8 @@ use Rattle.sixel_grammar.specs.declared.command.Event.{Event}
 use Rattle.sixel_grammar.specs.declared.command.Event.TheVariants.{Start, Step, Finish}
 use Rattle.sixel_model.specs.Rules.{breaks_colour_value, breaks_register, breaks_repeat_zero, gives_colour}
 use Rattle.sixel_model.proofs.RuleLemmas.{Keeps, is_false}
-use Rattle.sixel_models.specs.declared.named.Named.TheVariants.{XTerm}
-use Rattle.sixel_models.specs.XTerm.{fills_xterm, xterm, xterm_box, xterm_data, xterm_define, xterm_painting}
+use Rattle.sixel_named_terminals.specs.declared.named.Named.TheVariants.{XTerm}
+use Rattle.sixel_xterm.specs.XTerm.{fills_xterm, xterm, xterm_box, xterm_data, xterm_define, xterm_painting}
 use Rattle.sixel_judge.proofs.ColourLemmas.{made}
 use Rattle.sixel_asked.specs.Asked.{breaks_hue, breaks_large}
 use Rattle.sixel_field.proofs.AskedForms.{BreaksFor}

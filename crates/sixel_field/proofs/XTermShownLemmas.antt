@@ -23,10 +23,11 @@ use Rattle.sixel_terminal.specs.declared.choices.Ground.TheVariants.{Kept}
 use Rattle.sixel_terminal.specs.Displays.{Display}
 use Rattle.sixel_terminal.specs.Drawing.{IsPainted, inked_on, map_on, selected_on, shown_on, stood_on}
 use Rattle.sixel_terminal.specs.Limits.{display_of, plain_screen}
-use Rattle.sixel_models.specs.declared.named.Named.TheVariants.{XTerm}
-use Rattle.sixel_models.specs.Readings.{is_unsaid_control}
-use Rattle.sixel_models.specs.Settings.{plain_choices, xterm_colours, xterm_display, xterm_start}
-use Rattle.sixel_models.specs.XTerm.{xterm, xterm_model}
+use Rattle.sixel_named_terminals.specs.declared.named.Named.TheVariants.{XTerm}
+use Rattle.sixel_emulator.specs.Readings.{is_unsaid_control}
+use Rattle.sixel_emulator.specs.Settings.{plain_choices}
+use Rattle.sixel_xterm.specs.Settings.{xterm_colours, xterm_display, xterm_start}
+use Rattle.sixel_xterm.specs.XTerm.{xterm, xterm_model}
 use Rattle.sixel_judge.specs.Portable.{Shows}
 use Rattle.sixel_judge.proofs.CoverLemmas.{all_covered, box_there}
 use Rattle.sixel_judge.proofs.OptionLemmas.{some_value}

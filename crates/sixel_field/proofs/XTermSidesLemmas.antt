@@ -12,9 +12,9 @@ use Rattle.sixel_model.specs.Positions.{earliest}
 use Rattle.sixel_model.specs.Rules.{raster_before}
 use Rattle.sixel_model.proofs.RuleLemmas.{Keeps}
 use Rattle.sixel_model.proofs.StepLemmas.{raster_push}
-use Rattle.sixel_models.specs.Words.{greatest}
-use Rattle.sixel_models.specs.XTerm.{height_of, width_of}
-use Rattle.sixel_models.proofs.WordLemmas.{greatest_push}
+use Rattle.sixel_emulator.specs.Words.{greatest}
+use Rattle.sixel_xterm.specs.XTerm.{height_of, width_of}
+use Rattle.sixel_emulator.proofs.WordLemmas.{greatest_push}
 use Rattle.sixel_asked.specs.Asked.{breaks_large}
 use Rattle.sixel_field.proofs.SizeLemmas.{none_other, placed}
 

@@ -14,8 +14,8 @@ use Rattle.sixel_model.specs.Events.{Attributes, is_data_command, is_in_box}
 use Rattle.sixel_model.specs.Geometry.{falls}
 use Rattle.sixel_model.specs.Rules.{raster_before}
 use Rattle.sixel_model.proofs.RuleLemmas.{Keeps}
-use Rattle.sixel_models.specs.Words.{second_parameter}
-use Rattle.sixel_models.specs.XTerm.{fills_xterm, xterm_box, xterm_painting}
+use Rattle.sixel_emulator.specs.Words.{second_parameter}
+use Rattle.sixel_xterm.specs.XTerm.{fills_xterm, xterm_box, xterm_painting}
 use Rattle.sixel_judge.proofs.CoverLemmas.{box_at_data}
 use Rattle.sixel_judge.proofs.OptionLemmas.{some_value}
 use Rattle.sixel_field.proofs.FallLemmas.{IsCell, repeat_cell, sixel_cell}

@@ -13,12 +13,12 @@ use Rattle.sixel_model.specs.Positions.{HoldsNowhere}
 use Rattle.sixel_model.specs.Rules.{BreaksNone, last_rule, picture_left}
 use Rattle.sixel_terminal.specs.Displays.{Display, HasRoom, IsInClass}
 use Rattle.sixel_terminal.specs.Drawing.{shown_on}
-use Rattle.sixel_models.specs.declared.named.Named.{Named}
-use Rattle.sixel_models.specs.declared.named.Named.TheVariants.{XTerm, MlTerm, Foot, Konsole}
-use Rattle.sixel_models.specs.Foot.{foot_model}
-use Rattle.sixel_models.specs.Named.{model_of, terminal_on}
-use Rattle.sixel_models.specs.Readings.{IsReading, IsSaid}
-use Rattle.sixel_models.specs.Settings.{foot_display}
+use Rattle.sixel_named_terminals.specs.declared.named.Named.{Named}
+use Rattle.sixel_named_terminals.specs.declared.named.Named.TheVariants.{XTerm, MlTerm, Foot, Konsole}
+use Rattle.sixel_foot.specs.Foot.{foot_model}
+use Rattle.sixel_named_terminals.specs.Named.{model_of, terminal_on}
+use Rattle.sixel_emulator.specs.Readings.{IsReading, IsSaid}
+use Rattle.sixel_foot.specs.Settings.{foot_display}
 use Rattle.sixel_judge.specs.Portable.{Shows}
 use Rattle.sixel_encode.specs.Canon.{canon}
 use Rattle.sixel_asked.specs.Asked.{BreaksAsked, asks}

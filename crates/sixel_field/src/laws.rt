@@ -3,7 +3,7 @@
 ghost use Rattle.std.specs.Prelude.{ℕ};
 ghost use Rattle.sixel_model.specs.Profiles.{count_of};
 ghost use Rattle.sixel_model.specs.declared.profile.Profile.{Profile};
-ghost use Rattle.sixel_models.specs.declared.named.Named.{Named};
+ghost use Rattle.sixel_named_terminals.specs.declared.named.Named.{Named};
 ghost use Rattle.sixel_field.specs.Laws.{CanonSuitsFoot, CanonSuitsKonsole, CanonSuitsMlTerm, CanonSuitsXTerm};
 ghost use Rattle.sixel_field.specs.Laws.{CanonDefinesFirst, CanonShownOnFoot, FirstIsNotStale, ShowsPortable};
 ghost use Rattle.sixel_field.specs.Laws.{EachWitnessIsShownWrong, LateDefinitionsCanDiffer};

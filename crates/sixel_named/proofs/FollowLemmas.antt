@@ -15,7 +15,7 @@ use Rattle.sixel_asked.specs.Asking.{HasAsked, HasAskedOn}
 use Rattle.sixel_asked.specs.declared.asking.Asking.{Asking}
 use Rattle.sixel_asked.specs.declared.terminals.Terminals.{Terminals}
 use Rattle.sixel_named.specs.Checking.{HaveTakenAll}
-use Rattle.sixel_models.specs.declared.both.Both.{Both}
+use Rattle.sixel_emulator.specs.declared.both.Both.{Both}
 
 abbrev pub Pair : Type 0
 Pair = Both CheckerValue Asking

@@ -6,8 +6,8 @@ use Rattle.sixel_grammar.specs.Document.{AreWhole}
 use Rattle.sixel_grammar.specs.declared.command.Event.{Event}
 use Rattle.sixel_model.specs.Pictures.{PictureValue}
 use Rattle.sixel_model.specs.Rules.{BreaksNone, last_rule, picture_left}
-use Rattle.sixel_models.specs.declared.named.Named.{Named}
-use Rattle.sixel_models.specs.declared.named.Named.TheVariants.{XTerm, MlTerm, Foot, Konsole}
+use Rattle.sixel_named_terminals.specs.declared.named.Named.{Named}
+use Rattle.sixel_named_terminals.specs.declared.named.Named.TheVariants.{XTerm, MlTerm, Foot, Konsole}
 use Rattle.sixel_asked.specs.Asked.{BreaksNoneAsked, asks, is_asked}
 use Rattle.sixel_asked.specs.declared.rule.AskedRule.{AskedRule}
 use Rattle.sixel_asked.specs.declared.terminals.Terminals.{Terminals}

@@ -14,7 +14,7 @@ use Rattle.sixel_asked.specs.Asking.{HasAsked}
 use Rattle.sixel_asked.specs.declared.asking.AskedFinding.{AskedFinding}
 use Rattle.sixel_asked.specs.declared.asking.Asking.{Asking}
 use Rattle.sixel_asked.specs.declared.terminals.Terminals.{Terminals}
-use Rattle.sixel_models.specs.declared.both.Both.{Both}
+use Rattle.sixel_emulator.specs.declared.both.Both.{Both}
 use Rattle.sixel_named.specs.declared.verdict.NamedOutcome.{NamedOutcome}
 use Rattle.sixel_named.specs.declared.verdict.NamedOutcome.TheVariants as outcome
 use Rattle.sixel_named.specs.declared.verdict.NamedVerdict.{NamedVerdict}

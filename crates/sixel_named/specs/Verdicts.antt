@@ -9,8 +9,8 @@ use Rattle.sixel_model.specs.Positions.{HoldsAtPosition}
 use Rattle.sixel_model.specs.Rules.{Breaks, BreaksNone, last_rule, picture_left}
 use Rattle.sixel_model.specs.declared.colour.Parts.{Parts}
 use Rattle.sixel_model.specs.declared.rule.Rule.{Rule}
-use Rattle.sixel_models.specs.declared.named.Named.{Named}
-use Rattle.sixel_models.specs.declared.named.Named.TheVariants.{XTerm, MlTerm, Foot, Konsole}
+use Rattle.sixel_named_terminals.specs.declared.named.Named.{Named}
+use Rattle.sixel_named_terminals.specs.declared.named.Named.TheVariants.{XTerm, MlTerm, Foot, Konsole}
 use Rattle.sixel_judge.specs.Portable.{IsPortable}
 use Rattle.sixel_judge.specs.Verdicts.{IsFinding}
 use Rattle.sixel_judge.specs.declared.verdict.Finding.{Finding}

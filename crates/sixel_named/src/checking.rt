@@ -13,11 +13,11 @@ use crate::joining::{join, join_outcome};
 use crate::verdict::{NamedOutcome, NamedVerdict};
 use sixel_asked::{Asking, Terminals};
 use sixel_check::{check_with, outcome_with};
+use sixel_emulator::Both;
 use sixel_grammar::{InputFault, follow_source};
 use sixel_io::{PIECE, Source};
 use sixel_judge::Checker;
 use sixel_model::Profile;
-use sixel_models::Both;
 use sixel_plane::{BandPlane, Cover, CoverPlane};
 use std::alloc::Global;
 

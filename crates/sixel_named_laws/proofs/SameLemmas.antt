@@ -23,11 +23,11 @@ use Rattle.sixel_model.proofs.RuleLemmas.{none_drawn}
 use Rattle.sixel_terminal.specs.Displays.{Display}
 use Rattle.sixel_terminal.specs.Drawing.{IsPainted, inked_on, screen_on, shown_on, stood_on}
 use Rattle.sixel_terminal.specs.Screens.{Shown}
-use Rattle.sixel_models.specs.declared.named.Named.{Named}
-use Rattle.sixel_models.specs.declared.named.Named.TheVariants.{XTerm, MlTerm, Foot, Konsole}
-use Rattle.sixel_models.specs.Named.{IsScreenOn, model_of, terminal_on}
-use Rattle.sixel_models.specs.Readings.{IsSaid}
-use Rattle.sixel_models.proofs.NamedLemmas.{reading_once, said_does_not_end}
+use Rattle.sixel_named_terminals.specs.declared.named.Named.{Named}
+use Rattle.sixel_named_terminals.specs.declared.named.Named.TheVariants.{XTerm, MlTerm, Foot, Konsole}
+use Rattle.sixel_named_terminals.specs.Named.{IsScreenOn, model_of, terminal_on}
+use Rattle.sixel_emulator.specs.Readings.{IsSaid}
+use Rattle.sixel_named_terminals.proofs.NamedLemmas.{reading_once, said_does_not_end}
 use Rattle.sixel_mend.specs.Sizes.{IsSize}
 use Rattle.sixel_judge.specs.Portable.{IsInBoxOn, Shows}
 use Rattle.sixel_judge.proofs.CoverLemmas.{box_there}

@@ -6,7 +6,7 @@ use crate::memory_folder::MemoryFolder;
 use sixel_asked::Terminals as NamedTerminals;
 use sixel_io::{FromRead, ToWrite};
 use sixel_model::{Colour, Profile};
-use sixel_models::Named;
+use sixel_named_terminals::Named;
 use sixel_program::{Peeked, Terminals, execute};
 use sixel_report::{Area, Exit, Lines, Request, Task};
 use std::alloc::Global;

@@ -3,7 +3,7 @@
 ghost use Rattle.sixel_report.specs.Outputs.{HasSides};
 
 use crate::ends::{CHECK, ENCODE, NO_TERMINALS, RENDER, SHOW, SHOW_BOX, exit_over, show_on};
-use sixel_models::Named;
+use sixel_named_terminals::Named;
 use sixel_report::{Exit, Task};
 use sixel_test_devices::Narrow;
 use std::alloc::Global;

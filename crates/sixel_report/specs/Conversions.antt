@@ -7,8 +7,8 @@ use Rattle.sixel_mend.specs.declared.mending.MendFault.{MendFault}
 use Rattle.sixel_mend.specs.declared.mending.MendFault.TheVariants as mend
 use Rattle.sixel_differ.specs.declared.fault.DifferFault.{DifferFault}
 use Rattle.sixel_differ.specs.declared.fault.DifferFault.TheVariants as differ
-use Rattle.sixel_models.specs.declared.showing.ShowFault.{ShowFault}
-use Rattle.sixel_models.specs.declared.showing.ShowFault.TheVariants as show
+use Rattle.sixel_named_terminals.specs.declared.showing.ShowFault.{ShowFault}
+use Rattle.sixel_named_terminals.specs.declared.showing.ShowFault.TheVariants as show
 use Rattle.sixel_scan.specs.declared.fault.ScanFault.{ScanFault}
 use Rattle.sixel_scan.specs.declared.fault.ScanFault.TheVariants as scan
 use Rattle.sixel_report.specs.declared.fault.RunFault.{RunFault}

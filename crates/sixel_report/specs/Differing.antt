@@ -1,8 +1,8 @@
 -- The lines of `differ`, and its status.
 use Rattle.std.specs.Prelude.{◌≡◌, ◌==◌, ◌+◌, ◌*◌, ◌&&◌, ◌++◌, ℕ, Bool, true, false, List, [], ◌∷◌, Some, None, ◌<◌, ⊤}
 use Rattle.std.specs.Prelude.{flat_map, map, if◌then◌else◌}
-use Rattle.sixel_models.specs.declared.named.Named.{Named}
-use Rattle.sixel_models.specs.declared.named.Named.TheVariants.{XTerm}
+use Rattle.sixel_named_terminals.specs.declared.named.Named.{Named}
+use Rattle.sixel_named_terminals.specs.declared.named.Named.TheVariants.{XTerm}
 use Rattle.sixel_differ.specs.declared.comparison.Comparison.{Comparison}
 use Rattle.sixel_differ.specs.declared.comparison.Standing.{Standing}
 use Rattle.sixel_differ.specs.declared.comparison.Standing.TheVariants.{First, Differs, Like, Unmodelled}

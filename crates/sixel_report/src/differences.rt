@@ -15,7 +15,7 @@ use crate::task::Status;
 use arrayvec::ArrayVec;
 use sixel_asked::Terminals;
 use sixel_differ::{Comparison, Standing};
-use sixel_models::Named;
+use sixel_named_terminals::Named;
 
 /// Named terminals with equal screens.
 #[derive(Clone, Copy, Debug, PartialEq, Eq)]

@@ -4,7 +4,7 @@ use sixel_differ::DifferFault;
 use sixel_grammar::{Fault, Halt, InputFault};
 use sixel_io::DeviceFault;
 use sixel_mend::MendFault;
-use sixel_models::ShowFault;
+use sixel_named_terminals::ShowFault;
 use sixel_ppm::{PpmFault, PpmReason};
 use sixel_scan::ScanFault;
 use std::alloc::AllocError;

@@ -12,8 +12,8 @@ use crate::survey_lines::{asked_entry_line, entry_line};
 use arrayvec::ArrayVec;
 use sixel_asked::{AskedEntry, AskedFinding};
 use sixel_check::Outcome;
-use sixel_models::Named;
 use sixel_named::{NamedOutcome, NamedSurvey};
+use sixel_named_terminals::Named;
 use sixel_scan::Scanned;
 use sixel_survey::Entry;
 

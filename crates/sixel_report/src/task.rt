@@ -4,8 +4,8 @@ use crate::rule_set::RuleSet;
 use sixel_asked::{AskedFinding, Terminals};
 use sixel_check::Finding;
 use sixel_model::{Colour, Profile};
-use sixel_models::Named;
 use sixel_named::NamedFinding;
+use sixel_named_terminals::Named;
 
 /// The greatest side of a screen, in pixels.
 pub const MOST_SCREEN_SIDE: u32 = 4096;

@@ -7,7 +7,7 @@ ghost use Rattle.sixel_report.specs.Outputs.{HasSides, HasSidesIn};
 use crate::format::RowFault;
 use sixel_asked::Terminals;
 use sixel_model::{Colour, Profile};
-use sixel_models::Named;
+use sixel_named_terminals::Named;
 use sixel_report::{Area, MOST_SCREEN_SIDE, Task};
 
 /// The options of a row.

@@ -17,7 +17,7 @@ use Rattle.sixel_ppm.specs.PpmTables.{samples_from}
 use Rattle.sixel_terminal.specs.declared.pixel.Ink.{Ink}
 use Rattle.sixel_terminal.specs.Pixels.{bytes_of, is_rgb_ink}
 use Rattle.sixel_terminal.specs.Screens.{colour_in_ink}
-use Rattle.sixel_models.specs.declared.named.Named.{Named}
+use Rattle.sixel_named_terminals.specs.declared.named.Named.{Named}
 use Rattle.sixel_differ.specs.declared.view.View.{View}
 use Rattle.sixel_differ.specs.declared.view.View.TheVariants.{Screen, Unmodelled as Ends}
 use Rattle.sixel_differ.specs.declared.view.Views.{Views}

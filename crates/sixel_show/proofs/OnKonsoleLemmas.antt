@@ -10,15 +10,15 @@ use Rattle.sixel_grammar.proofs.StandLemmas.{read_complete}
 use Rattle.sixel_grammar.proofs.UniqueLemmas.{complete_stays}
 use Rattle.sixel_model.specs.declared.colour.Parts.{Parts}
 use Rattle.sixel_terminal.proofs.FollowLemmas.{events_then}
-use Rattle.sixel_models.specs.declared.both.Both.{Both}
-use Rattle.sixel_models.specs.declared.konsole.Konsole.{Konsole}
-use Rattle.sixel_models.specs.declared.measuring.Measuring.{Measuring}
-use Rattle.sixel_models.specs.declared.modelled.Modelled.{Modelled}
-use Rattle.sixel_models.specs.declared.named.Named.{Named}
-use Rattle.sixel_models.specs.Konsole.{konsole_model}
-use Rattle.sixel_models.specs.KonsoleSeen.{HasSeenKonsole}
-use Rattle.sixel_models.specs.Measuring.{HasTakenAll, HasTakenOn}
-use Rattle.sixel_models.specs.Modelled.{HasFollowedOn}
+use Rattle.sixel_emulator.specs.declared.both.Both.{Both}
+use Rattle.sixel_konsole.specs.declared.konsole.Konsole.{Konsole}
+use Rattle.sixel_konsole.specs.declared.measuring.Measuring.{Measuring}
+use Rattle.sixel_emulator.specs.declared.modelled.Modelled.{Modelled}
+use Rattle.sixel_named_terminals.specs.declared.named.Named.{Named}
+use Rattle.sixel_konsole.specs.Konsole.{konsole_model}
+use Rattle.sixel_konsole.specs.KonsoleSeen.{HasSeenKonsole}
+use Rattle.sixel_konsole.specs.Measuring.{HasTakenAll, HasTakenOn}
+use Rattle.sixel_emulator.specs.Modelled.{HasFollowedOn}
 use Rattle.sixel_report.specs.declared.fault.RunFault.{RunFault}
 use Rattle.sixel_report.specs.declared.fault.RunFault.TheVariants.{Grammar, NoBox, OutOfMemory, Read, Unmodelled, Write}
 use Rattle.sixel_show.specs.declared.on_konsole.Kept.{Kept}

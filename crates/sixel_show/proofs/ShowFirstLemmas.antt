@@ -17,9 +17,9 @@ use Rattle.sixel_grammar.specs.Reading.{NoFaultBefore}
 use Rattle.sixel_grammar.proofs.PrefixLemmas.{nothing}
 use Rattle.sixel_grammar.proofs.ViableLemmas.{complete}
 use Rattle.sixel_model.specs.declared.colour.Parts.{Parts}
-use Rattle.sixel_models.specs.declared.named.Named.{Named}
-use Rattle.sixel_models.specs.declared.named.Named.TheVariants.{Konsole}
-use Rattle.sixel_models.specs.FirstPiece.{with_first}
+use Rattle.sixel_named_terminals.specs.declared.named.Named.{Named}
+use Rattle.sixel_named_terminals.specs.declared.named.Named.TheVariants.{Konsole}
+use Rattle.sixel_emulator.specs.FirstPiece.{with_first}
 use Rattle.sixel_report.specs.declared.fault.RunFault.{RunFault}
 use Rattle.sixel_report.specs.declared.fault.RunFault.TheVariants.{Grammar, NotRgb, NoBox, OutOfMemory, Read}
 use Rattle.sixel_report.specs.declared.fault.RunFault.TheVariants.{Unmodelled, Write}

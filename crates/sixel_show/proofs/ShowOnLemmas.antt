@@ -20,14 +20,14 @@ use Rattle.sixel_ppm.specs.declared.ppm.PpmFault.{PpmFault}
 use Rattle.sixel_ppm.specs.declared.ppm.PpmFault.TheVariants as ppm
 use Rattle.sixel_ppm.specs.Ppm.{WritesPpm, are_rgb, ppm_text}
 use Rattle.sixel_terminal.specs.Screens.{Shown}
-use Rattle.sixel_models.specs.declared.named.Named.{Named}
-use Rattle.sixel_models.specs.declared.named.Named.TheVariants.{XTerm, MlTerm, Foot, Konsole}
-use Rattle.sixel_models.specs.declared.showing.ShowFault.{ShowFault}
-use Rattle.sixel_models.specs.declared.showing.ShowFault.TheVariants as show
-use Rattle.sixel_models.specs.Modelled.{EndsAtPlace, HasPlace}
-use Rattle.sixel_models.specs.Named.{GivesScreen, IsScreenOn, ShowsDocument, ShowsOn, model_of, terminal_on}
-use Rattle.sixel_models.specs.Readings.{EndsAt, IsSaid, Model}
-use Rattle.sixel_models.proofs.NamedLemmas.{end_once, said_does_not_end, said_or_ends, screen_once, shows_or_ends}
+use Rattle.sixel_named_terminals.specs.declared.named.Named.{Named}
+use Rattle.sixel_named_terminals.specs.declared.named.Named.TheVariants.{XTerm, MlTerm, Foot, Konsole}
+use Rattle.sixel_named_terminals.specs.declared.showing.ShowFault.{ShowFault}
+use Rattle.sixel_named_terminals.specs.declared.showing.ShowFault.TheVariants as show
+use Rattle.sixel_emulator.specs.Modelled.{EndsAtPlace, HasPlace}
+use Rattle.sixel_named_terminals.specs.Named.{GivesScreen, IsScreenOn, ShowsDocument, ShowsOn, model_of, terminal_on}
+use Rattle.sixel_emulator.specs.Readings.{EndsAt, IsSaid, Model}
+use Rattle.sixel_named_terminals.proofs.NamedLemmas.{end_once, said_does_not_end, said_or_ends, screen_once, shows_or_ends}
 use Rattle.sixel_report.specs.declared.fault.RunFault.{RunFault}
 use Rattle.sixel_report.specs.declared.fault.RunFault.TheVariants.{Grammar, NotRgb, NoBox, OutOfMemory, Unmodelled}
 use Rattle.sixel_report.specs.declared.task.Area.{Area}

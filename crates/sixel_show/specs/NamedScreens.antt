@@ -7,17 +7,17 @@ use Rattle.sixel_grammar.specs.Document.{Document, events_of}
 use Rattle.sixel_grammar.specs.Faults.{IsFaultOf}
 use Rattle.sixel_grammar.specs.Standing.{StandsAfter}
 use Rattle.sixel_model.specs.declared.colour.Parts.{Parts}
-use Rattle.sixel_models.specs.declared.both.Both.{Both}
-use Rattle.sixel_models.specs.declared.konsole.Konsole.{Konsole}
-use Rattle.sixel_models.specs.declared.measuring.Measuring.{Measuring}
-use Rattle.sixel_models.specs.declared.modelled.Modelled.{Modelled}
-use Rattle.sixel_models.specs.declared.named.Named.{Named}
-use Rattle.sixel_models.specs.Konsole.{StaysLow, konsole_model}
-use Rattle.sixel_models.specs.KonsoleSeen.{HasSeenKonsole}
-use Rattle.sixel_models.specs.Measuring.{HasTakenAll}
-use Rattle.sixel_models.specs.Modelled.{EndsAtPlace, HasFollowed, opening_of}
-use Rattle.sixel_models.specs.Named.{IsScreenOn, model_of}
-use Rattle.sixel_models.specs.Readings.{IsSaid}
+use Rattle.sixel_emulator.specs.declared.both.Both.{Both}
+use Rattle.sixel_konsole.specs.declared.konsole.Konsole.{Konsole}
+use Rattle.sixel_konsole.specs.declared.measuring.Measuring.{Measuring}
+use Rattle.sixel_emulator.specs.declared.modelled.Modelled.{Modelled}
+use Rattle.sixel_named_terminals.specs.declared.named.Named.{Named}
+use Rattle.sixel_konsole.specs.Konsole.{StaysLow, konsole_model}
+use Rattle.sixel_konsole.specs.KonsoleSeen.{HasSeenKonsole}
+use Rattle.sixel_konsole.specs.Measuring.{HasTakenAll}
+use Rattle.sixel_emulator.specs.Modelled.{EndsAtPlace, HasFollowed, opening_of}
+use Rattle.sixel_named_terminals.specs.Named.{IsScreenOn, model_of}
+use Rattle.sixel_emulator.specs.Readings.{IsSaid}
 use Rattle.sixel_terminal.specs.Screens.{Shown}
 use Rattle.sixel_report.specs.declared.fault.RunFault.{RunFault}
 use Rattle.sixel_report.specs.declared.fault.RunFault.TheVariants.{Grammar, NoBox, OutOfMemory, Unmodelled}

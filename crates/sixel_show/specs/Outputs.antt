@@ -11,10 +11,10 @@ use Rattle.sixel_ppm.specs.Ppm.{are_rgb, ppm_text}
 use Rattle.sixel_terminal.specs.Displays.{Display}
 use Rattle.sixel_terminal.specs.Drawing.{screen_on}
 use Rattle.sixel_terminal.specs.Screens.{Shown}
-use Rattle.sixel_models.specs.declared.named.Named.{Named}
-use Rattle.sixel_models.specs.Modelled.{EndsAtPlace}
-use Rattle.sixel_models.specs.Named.{IsScreenOn, model_of}
-use Rattle.sixel_models.specs.Readings.{IsSaid}
+use Rattle.sixel_named_terminals.specs.declared.named.Named.{Named}
+use Rattle.sixel_emulator.specs.Modelled.{EndsAtPlace}
+use Rattle.sixel_named_terminals.specs.Named.{IsScreenOn, model_of}
+use Rattle.sixel_emulator.specs.Readings.{IsSaid}
 use Rattle.sixel_report.specs.declared.fault.RunFault.{RunFault}
 use Rattle.sixel_report.specs.declared.fault.RunFault.TheVariants.{Grammar, NotRgb, NoBox, Unmodelled}
 use Rattle.sixel_report.specs.declared.task.Area.{Area}

@@ -5,13 +5,13 @@ ghost use Rattle.sixel_grammar.specs.declared.command.Placed.{Placed as Place};
 ghost use Rattle.sixel_grammar.specs.Document.{Document, IsDocument, events_of};
 ghost use Rattle.sixel_grammar.specs.declared.fault.InputFault.TheVariants.{Read as ReadFault};
 ghost use Rattle.sixel_grammar.specs.Reading.{Explains, NoFaultBefore, failures_after};
-ghost use Rattle.sixel_models.specs.FirstPiece.{IsFirst, with_first};
+ghost use Rattle.sixel_emulator.specs.FirstPiece.{IsFirst, with_first};
 ghost use Rattle.sixel_show.specs.Watching.{HasWatched};
 
 use crate::watched::Watched;
+use sixel_emulator::follow_rest;
 use sixel_grammar::{InputFault, follow_source};
 use sixel_io::{PIECE, Source};
-use sixel_models::follow_rest;
 
 /// Reads the source to its end, and draws the events of its document. It keeps none of them.
 pub fn draw<S: Source>(

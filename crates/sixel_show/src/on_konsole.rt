@@ -5,24 +5,23 @@ ghost use Rattle.sixel_grammar.specs.declared.command.Event.{Event as AnEvent};
 ghost use Rattle.sixel_grammar.specs.declared.fault.InputFault.TheVariants.{Read as ReadFault};
 ghost use Rattle.sixel_grammar.specs.Reading.{Explains, NoFaultBefore, failures_after};
 ghost use Rattle.sixel_terminal.specs.Limits.{is_screen_side};
-ghost use Rattle.sixel_models.specs.FirstPiece.{IsFirst, with_first};
-ghost use Rattle.sixel_models.specs.Konsole.{konsole_model};
-ghost use Rattle.sixel_models.specs.KonsoleSeen.{HasSeenKonsole};
-ghost use Rattle.sixel_models.specs.Measuring.{HasTakenAll};
-ghost use Rattle.sixel_models.specs.Modelled.{HasFollowed};
-ghost use Rattle.sixel_models.specs.Settings.{konsole_display};
+ghost use Rattle.sixel_emulator.specs.FirstPiece.{IsFirst, with_first};
+ghost use Rattle.sixel_konsole.specs.Konsole.{konsole_model};
+ghost use Rattle.sixel_konsole.specs.KonsoleSeen.{HasSeenKonsole};
+ghost use Rattle.sixel_konsole.specs.Measuring.{HasTakenAll};
+ghost use Rattle.sixel_emulator.specs.Modelled.{HasFollowed};
+ghost use Rattle.sixel_konsole.specs.Settings.{konsole_display};
 ghost use Rattle.sixel_report.specs.declared.task.Area.{Area as AnArea};
 ghost use Rattle.sixel_show.specs.NamedScreens.{IsDrawnOf, ShowsIn, Suffices};
 
 use crate::kept::kept_with;
 use crate::show_box::follow;
+use sixel_emulator::{Both, Modelled};
 use sixel_grammar::{InputFault, Reader};
 use sixel_io::{PIECE, Source};
+use sixel_konsole::{Konsole, Measuring, as_konsole_at_once, konsole_terminal};
 use sixel_model::Colour;
-use sixel_models::{
-    Both, Konsole, Measuring, Modelled, Named, as_konsole_at_once, konsole_screen,
-    konsole_terminal, low_konsole_screen,
-};
+use sixel_named_terminals::{Named, konsole_screen, low_konsole_screen};
 use sixel_report::RunFault;
 use sixel_terminal::{Drawing, Screen};
 use std::alloc::{AllocError, Global};

@@ -10,7 +10,7 @@ ghost use Rattle.sixel_grammar.specs.Document.{Document, IsDocument, events_of};
 ghost use Rattle.sixel_grammar.specs.declared.fault.InputFault.TheVariants.{Read as ReadFault};
 ghost use Rattle.sixel_grammar.specs.Reading.{Explains, NoFaultBefore, failures_after};
 ghost use Rattle.sixel_terminal.specs.Limits.{is_screen_side};
-ghost use Rattle.sixel_models.specs.FirstPiece.{IsFirst, with_first};
+ghost use Rattle.sixel_emulator.specs.FirstPiece.{IsFirst, with_first};
 ghost use Rattle.sixel_report.specs.declared.fault.RunFault.TheVariants.{Read};
 ghost use Rattle.sixel_report.specs.declared.task.Area.{Area as AnArea};
 ghost use Rattle.sixel_show.specs.Boxes.{box_in};
@@ -24,10 +24,12 @@ use crate::kept::follow_kept;
 use crate::on_konsole::{begin_konsole, follow_on_konsole, screen_by};
 use crate::screen::write_ppm_screen;
 use crate::show_box::{follow, sides_of_box};
+use sixel_emulator::Both;
 use sixel_grammar::{Command, InputFault, Reader};
 use sixel_io::{DeviceFault, PIECE, Sink, Source};
+use sixel_konsole::Measuring;
 use sixel_model::Colour;
-use sixel_models::{Both, Measuring, Named};
+use sixel_named_terminals::Named;
 use sixel_report::{Area, RunFault, Status};
 use sixel_terminal::Screen;
 use std::alloc::Global;
@@ -229,7 +231,7 @@ fn show_at_once<S: Source, K: Sink>(
         (NoFaultBefore (S.state input.new).remaining) }
     ensures writes { CountsWrites result (K.state output.old).failures (K.state output.new).failures }
 {
-    match sixel_models::show_at_once(alloc, named, background, width, height, input, piece, read) {
+    match sixel_named_terminals::show_at_once(alloc, named, background, width, height, input, piece, read) {
         Ok(Ok(screen)) => {
             write_ppm_screen(&screen, output)?;
             Ok(Status::Done)
@@ -430,11 +432,11 @@ fn shown(
 {
     let Measures { declared, opening } = measures;
     match sides_of(declared) {
-        Some((width, height)) => Ok(sixel_models::show_on(
+        Some((width, height)) => Ok(sixel_named_terminals::show_on(
             alloc, named, background, width, height, opening, bytes,
         )?),
         None => {
-            sixel_models::show_on(alloc, named, background, 1, 1, opening, bytes)?;
+            sixel_named_terminals::show_on(alloc, named, background, 1, 1, opening, bytes)?;
             Err(RunFault::NoBox)
         }
     }

@@ -17,7 +17,7 @@ use Rattle.clap.specs.declared.parser.matches.ValueSource.{ValueSource}
 use Rattle.clap.proofs.WalkLemmas.{find_row}
 use Rattle.clap.specs.declared.parser.matches.SubCommand.{SubCommand}
 use Rattle.clap.specs.declared.parser.matches.ArgMatches.TheViews.{out-SubCommand}
-use Rattle.sixel_models.specs.declared.named.Named.{Named}
+use Rattle.sixel_named_terminals.specs.declared.named.Named.{Named}
 use Rattle.sixel_report.specs.declared.task.Area.{Area}
 use Rattle.sixel_report.specs.declared.task.Area.TheVariants.{Box, Sides}
 use Rattle.sixel_report.specs.declared.task.Task.{Task}

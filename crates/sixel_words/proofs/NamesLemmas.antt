@@ -5,8 +5,8 @@ use Rattle.std.specs.Str.{bytes_eq}
 use Rattle.std.proofs.lemmas.Slice.Eq.{bytes_eq-Decides}
 use Rattle.clap.specs.Walk.{Row, Text, first_of}
 use Rattle.sixel_asked.specs.declared.terminals.Terminals.{Terminals}
-use Rattle.sixel_models.specs.declared.named.Named.{Named}
-use Rattle.sixel_models.specs.declared.named.Named.TheVariants.{XTerm, MlTerm, Foot, Konsole}
+use Rattle.sixel_named_terminals.specs.declared.named.Named.{Named}
+use Rattle.sixel_named_terminals.specs.declared.named.Named.TheVariants.{XTerm, MlTerm, Foot, Konsole}
 use Rattle.sixel_report.specs.declared.task.Task.{Task}
 use Rattle.sixel_report.specs.declared.task.Task.TheVariants.{List as Listing, Check, Differ, DifferSheet, Encode, Mend}
 use Rattle.sixel_report.specs.declared.task.Task.TheVariants.{Render, Scan, Show, ShowBox, ShowOn, Survey}

@@ -3,7 +3,7 @@
 ghost use Rattle.std.specs.Prelude.{◌≡◌, IfSome, IsNone, None, Some, codes, true};
 ghost use Rattle.clap.specs.Walk.{first_of, rows_of};
 ghost use Rattle.clap.specs.Matches.{found_of};
-ghost use Rattle.sixel_models.specs.declared.named.Named.{Named as ANamed};
+ghost use Rattle.sixel_named_terminals.specs.declared.named.Named.{Named as ANamed};
 ghost use Rattle.sixel_report.specs.declared.task.Area.{Area as AnArea};
 ghost use Rattle.sixel_report.specs.declared.task.Task.{Task as ATask};
 ghost use Rattle.sixel_report.specs.Outputs.{HasSides};
@@ -11,7 +11,7 @@ ghost use Rattle.sixel_words.specs.Words.{HasArea, IsTask, describes, is_given, 
 
 use crate::options::{colour_in, flag_of, is_named, profile_of, side_of};
 use clap::ArgMatches;
-use sixel_models::Named;
+use sixel_named_terminals::Named;
 use sixel_report::{Area, Task};
 
 /// The task of `show` with these options: of a terminal that they describe, or of one that `--on` names.

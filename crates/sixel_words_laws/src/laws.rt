@@ -7,7 +7,7 @@ ghost use Rattle.clap.specs.Takes.{takes};
 ghost use Rattle.clap.specs.declared.error.kind.ErrorKind.TheVariants.{DisplayHelp, DisplayVersion, MissingSubcommand};
 ghost use Rattle.clap.specs.declared.error.kind.ErrorKind.TheVariants.{UnknownArgument, ValueValidation};
 ghost use Rattle.sixel_explain.specs.declared.explanations.Topic.{Topic};
-ghost use Rattle.sixel_models.specs.declared.named.Named.TheVariants.{Konsole, XTerm};
+ghost use Rattle.sixel_named_terminals.specs.declared.named.Named.TheVariants.{Konsole, XTerm};
 ghost use Rattle.sixel_report.specs.declared.task.Area.TheVariants.{Box, Sides};
 ghost use Rattle.sixel_report.specs.declared.task.Task.{Task};
 ghost use Rattle.sixel_report.specs.declared.task.Task.TheVariants.{Check, List as Listing, Mend, Scan, Show, ShowBox};

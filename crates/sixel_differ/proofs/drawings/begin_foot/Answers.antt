@@ -1,8 +1,8 @@
 use Rattle.std.proofs.Common.{◌≡◌, ◌∙◌, subst}
 use Rattle.std.specs.Prelude.{IfOk}
 use Rattle.sixel_terminal.specs.Displays.{Display}
-use Rattle.sixel_models.specs.declared.named.Named.TheVariants.{Foot}
-use Rattle.sixel_models.specs.FootSeen.{HasSeenFoot}
+use Rattle.sixel_named_terminals.specs.declared.named.Named.TheVariants.{Foot}
+use Rattle.sixel_foot.specs.FootSeen.{HasSeenFoot}
 use Rattle.sixel_differ.proofs.DrawingLemmas.{drawn_if_ok}
 use Rattle.sixel_differ.proofs.drawings.begin_foot.Goals as goal
 

@@ -1,9 +1,9 @@
 use Rattle.std.proofs.Common.{refl, subst, sym}
 use Rattle.sixel_grammar.specs.Document.{Document}
-use Rattle.sixel_models.specs.declared.named.Named.TheVariants.{XTerm, MlTerm, Foot}
-use Rattle.sixel_models.specs.FootSeen.{HasSeenFoot}
-use Rattle.sixel_models.specs.MlTermSeen.{HasSeenMlTerm}
-use Rattle.sixel_models.specs.XTermSeen.{HasSeenXTerm}
+use Rattle.sixel_named_terminals.specs.declared.named.Named.TheVariants.{XTerm, MlTerm, Foot}
+use Rattle.sixel_foot.specs.FootSeen.{HasSeenFoot}
+use Rattle.sixel_mlterm.specs.MlTermSeen.{HasSeenMlTerm}
+use Rattle.sixel_xterm.specs.XTermSeen.{HasSeenXTerm}
 use Rattle.sixel_differ.proofs.DrawingLemmas.{drawn_on, konsole_drawn_on}
 use Rattle.sixel_differ.proofs.drawings.draw_all.Goals as goal
 

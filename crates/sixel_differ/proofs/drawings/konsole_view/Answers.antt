@@ -1,7 +1,7 @@
 use Rattle.std.proofs.Common.{Err, subst}
-use Rattle.sixel_models.specs.declared.named.Named.TheVariants.{Konsole}
-use Rattle.sixel_models.specs.declared.showing.ShowFault.{ShowFault}
-use Rattle.sixel_models.specs.Named.{ShowsDocument}
+use Rattle.sixel_named_terminals.specs.declared.named.Named.TheVariants.{Konsole}
+use Rattle.sixel_named_terminals.specs.declared.showing.ShowFault.{ShowFault}
+use Rattle.sixel_named_terminals.specs.Named.{ShowsDocument}
 use Rattle.sixel_differ.proofs.DrawingLemmas.{konsole_ended, konsole_shown}
 use Rattle.sixel_differ.proofs.drawings.konsole_view.Goals as goal
 

@@ -1,7 +1,7 @@
 use Rattle.std.proofs.Common.{[], ◌∙◌, subst, sym}
 use Rattle.sixel_grammar.specs.Document.{events_of}
-use Rattle.sixel_models.specs.Modelled.{EndsAtPlace, HasFollowed, IsDrawingOf}
-use Rattle.sixel_models.specs.Readings.{Model}
+use Rattle.sixel_emulator.specs.Modelled.{EndsAtPlace, HasFollowed, IsDrawingOf}
+use Rattle.sixel_emulator.specs.Readings.{Model}
 use Rattle.sixel_differ.proofs.DrawingLemmas.{screen_drawn}
 use Rattle.sixel_differ.proofs.drawings.view_of.Goals as goal
 

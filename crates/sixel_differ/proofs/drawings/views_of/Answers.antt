@@ -1,7 +1,7 @@
 use Rattle.std.proofs.Common.{ℕ, List, refl, subst}
 use Rattle.sixel_grammar.specs.declared.command.Placed.{Placed}
 use Rattle.sixel_grammar.proofs.UniqueLemmas.{document_once}
-use Rattle.sixel_models.specs.declared.named.Named.TheVariants.{XTerm, MlTerm, Foot}
+use Rattle.sixel_named_terminals.specs.declared.named.Named.TheVariants.{XTerm, MlTerm, Foot}
 use Rattle.sixel_differ.specs.declared.view.Views.{Views}
 use Rattle.sixel_differ.specs.Drawings.{HaveDrawn}
 use Rattle.sixel_differ.proofs.ShowingLemmas.{each_view}

@@ -11,7 +11,7 @@ use Rattle.sixel_asked.specs.Tallies.{AreAskedEntries}
 use Rattle.sixel_asked.specs.declared.tallying.Tallying.{Tallying}
 use Rattle.sixel_asked.specs.declared.terminals.Terminals.{Terminals}
 use Rattle.sixel_named.specs.Surveys.{SurveysOn}
-use Rattle.sixel_models.specs.declared.both.Both.{Both}
+use Rattle.sixel_emulator.specs.declared.both.Both.{Both}
 use Rattle.sixel_named.proofs.SurveyingLemmas.{HaveTaken, all_taken, begin, declare_in, joined}
 use Rattle.sixel_named.proofs.surveying.survey_both.Goals as goal
 

@@ -1,7 +1,7 @@
 use Rattle.std.proofs.Common.{◌++◌, refl}
 use Rattle.std.proofs.lemmas.Result.{err_from_is_err_and}
 use Rattle.sixel_io.proofs.SinkLemmas.{PutThrough, through-cut, through-next, through-stopped, through-then}
-use Rattle.sixel_models.specs.declared.named.Named.TheVariants.{XTerm, MlTerm, Foot, Konsole}
+use Rattle.sixel_named_terminals.specs.declared.named.Named.TheVariants.{XTerm, MlTerm, Foot, Konsole}
 use Rattle.sixel_sheet.proofs.SheetLemmas.{has_row, part_1, part_2, part_3, part_4, row_from_1, row_from_2, row_from_3}
 use Rattle.sixel_sheet.proofs.sheet.put_row.Goals as goal
 

@@ -3,7 +3,7 @@ use Rattle.std.specs.Io.KnownBytes.{Consumes}
 use Rattle.sixel_grammar.specs.Document.{events_of}
 use Rattle.sixel_grammar.specs.Following.{AreFollowed}
 use Rattle.sixel_grammar.specs.Standing.{left_of}
-use Rattle.sixel_models.specs.FirstPiece.{IsFirst, with_first}
+use Rattle.sixel_emulator.specs.FirstPiece.{IsFirst, with_first}
 use Rattle.sixel_show.specs.NamedScreens.{Suffices}
 use Rattle.sixel_show.proofs.OnKonsoleLemmas.{HasTakenOnKonsole}
 use Rattle.sixel_show.proofs.on_konsole.follow_on_konsole.Given as goal

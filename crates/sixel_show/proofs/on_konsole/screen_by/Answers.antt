@@ -1,7 +1,7 @@
 use Rattle.std.proofs.Common.{◌≡◌, ◌∙◌, ℕ, List, subst}
 use Rattle.std.specs.Prelude.{Err}
 use Rattle.std.proofs.lemmas.Result.{err_from_is_err_and}
-use Rattle.sixel_models.specs.declared.named.Named.TheVariants.{Konsole}
+use Rattle.sixel_named_terminals.specs.declared.named.Named.TheVariants.{Konsole}
 use Rattle.sixel_report.specs.declared.task.Area.TheVariants as area
 use Rattle.sixel_report.specs.Conversions.{of_show}
 use Rattle.sixel_show.specs.NamedScreens.{ShowsIn}

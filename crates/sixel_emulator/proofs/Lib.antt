@@ -1,0 +1,9 @@
+pub mod PositionLemmas
+pub mod PlaceLemmas
+pub mod PlainLemmas
+pub mod WordLemmas
+pub mod CourseLemmas
+pub mod ProgressLemmas
+pub mod ModelledLemmas
+pub mod CutLemmas
+pub mod FirstPieceLemmas

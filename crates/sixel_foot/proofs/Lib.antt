@@ -1,0 +1,3 @@
+pub mod FootLemmas
+pub mod FootColourLemmas
+pub mod SettingLemmas

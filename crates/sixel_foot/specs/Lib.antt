@@ -1,0 +1,3 @@
+pub mod Foot
+pub mod FootSeen
+pub mod Settings

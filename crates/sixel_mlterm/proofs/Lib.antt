@@ -1,0 +1,2 @@
+pub mod MlTermLemmas
+pub mod SettingLemmas

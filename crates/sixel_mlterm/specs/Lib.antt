@@ -1,0 +1,3 @@
+pub mod MlTerm
+pub mod MlTermSeen
+pub mod Settings

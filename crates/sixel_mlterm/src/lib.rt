@@ -1,0 +1,10 @@
+//! The model of mlterm: what it makes of the events of a string, and the plain terminal that draws that.
+#![tactic(auto)]
+
+mod begun;
+mod mlterm;
+mod settings;
+
+pub use begun::as_mlterm;
+pub use mlterm::{MlTerm, mixes};
+pub use settings::mlterm_terminal;

@@ -1,5 +1,0 @@
-use Rattle.sixel_models.proofs.FootLemmas.{grown_none}
-use Rattle.sixel_models.proofs.foot.size.Growing.new.Goals as goal
-
-pub returns : goal.returns
-returns c = grown_none c.new.result (c.new.ensures 1)

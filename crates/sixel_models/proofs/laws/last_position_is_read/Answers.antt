@@ -1,6 +1,0 @@
-use Rattle.std.proofs.Common.{[]}
-use Rattle.sixel_models.proofs.PositionLemmas.{read_there}
-use Rattle.sixel_models.proofs.laws.last_position_is_read.Goals as goal
-
-pub returns : goal.returns
-returns c = λ m before e. read_there m before [] e

@@ -1,6 +1,0 @@
-use Rattle.std.proofs.Common.{◌∷◌}
-use Rattle.sixel_models.proofs.PositionLemmas.{read_there}
-use Rattle.sixel_models.proofs.laws.positions_are_read.Goals as goal
-
-pub returns : goal.returns
-returns c = λ m before rest e next. read_there m before (next ∷ rest) e

@@ -1,7 +1,0 @@
-use Rattle.sixel_models.proofs.mlterm.MlTermReading.read.Goals as goal
-
-pub returns : goal.returns
-returns c = record {
-  reads = λ before s. c.reads-reads.ensures before _ s;
-  seen = λ before s. c.see.ensures before s;
-}

@@ -1,5 +1,0 @@
-use Rattle.sixel_models.proofs.AloneLemmas.{mlterm_alone}
-use Rattle.sixel_models.proofs.mlterm.MlTermReading.waits.Goals as goal
-
-pub returns : goal.returns
-returns c = λ is before next. mlterm_alone before c.args._event.now next

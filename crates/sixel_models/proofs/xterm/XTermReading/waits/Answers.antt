@@ -1,5 +1,0 @@
-use Rattle.sixel_models.proofs.AloneLemmas.{xterm_alone}
-use Rattle.sixel_models.proofs.xterm.XTermReading.waits.Goals as goal
-
-pub returns : goal.returns
-returns c = λ is before next. xterm_alone before c.args._event.now next

@@ -1,0 +1,3 @@
+pub mod NamedLemmas
+pub mod ShowingLemmas
+pub mod AtOnceLemmas

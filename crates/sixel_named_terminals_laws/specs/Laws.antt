@@ -1,0 +1,202 @@
+-- Strings that were shown on the real terminals, between ESC P and ESC \, and what the rules make of each; and laws
+-- about any string.
+use Rattle.std.specs.Prelude.{◌≡◌, ℕ, ◌+◌, ◌*◌, ◌++◌, false, List, [], ◌∷◌, Option, Some, None, is_some}
+use Rattle.std.specs.Prelude.{◌⊎◌, length}
+use Rattle.std.specs.List.{list_any}
+use Rattle.sixel_grammar.specs.declared.command.Command.TheVariants.{Sixel, Repeat, Raster, Select, Define, NextLine}
+use Rattle.sixel_grammar.specs.declared.command.Event.{Event}
+use Rattle.sixel_grammar.specs.declared.command.Event.TheVariants.{Step, Finish}
+use Rattle.sixel_emulator.specs.declared.reading.Reads.{Reads}
+use Rattle.sixel_emulator.specs.declared.reading.Reads.TheVariants.{Nothing, Draws, DrawsTwo, Stops, Unsaid}
+use Rattle.sixel_emulator.specs.declared.course.Course.TheVariants.{Goes, Stopped, Ended}
+use Rattle.sixel_emulator.specs.Readings.{EndsAt, IsReading, IsSaid, Model, Rule, read_at}
+use Rattle.sixel_emulator.specs.Courses.{IsCourse}
+use Rattle.sixel_model.specs.declared.colour.Parts.{Parts}
+use Rattle.sixel_model.specs.Events.{raster_of}
+use Rattle.sixel_model.specs.Geometry.{band, band_rows}
+use Rattle.sixel_terminal.specs.Screens.{Shown}
+use Rattle.sixel_named_terminals.specs.declared.named.Named.{Named}
+use Rattle.sixel_named_terminals.specs.Named.{IsScreenOn, model_of}
+use Rattle.sixel_foot.specs.Foot.{foot, foot_size}
+use Rattle.sixel_konsole.specs.Konsole.{konsole_drawing, konsole_model, konsole_opening}
+use Rattle.sixel_mlterm.specs.MlTerm.{mlterm}
+use Rattle.sixel_xterm.specs.XTerm.{xterm}
+
+-- whatever comes next
+abbrev pub ReadsAs : Rule → List Event → Event → Reads → Type 0
+ReadsAs rule before e reads = (next : Option Event) → rule before e next ≡ reads
+
+-- ---- xterm
+
+-- q#1@"1;1;1001;6@ keeps the first sixel
+abbrev pub LargeSideStops : Type 0
+LargeSideStops = ReadsAs xterm (Step (Select 1) ∷ Step (Sixel 1) ∷ []) (Step (Raster 1 1 1001 6)) Stops
+
+-- q#1@"1;1;0;12@ keeps it, too
+abbrev pub NoWidthStops : Type 0
+NoWidthStops = ReadsAs xterm (Step (Select 1) ∷ Step (Sixel 1) ∷ []) (Step (Raster 1 1 0 12)) Stops
+
+-- q"1;1;29;1"1;1;6;18#1@ fills 29 by 18
+abbrev pub GreatestSidesFill : Type 0
+GreatestSidesFill = ReadsAs xterm (Step (Raster 1 1 29 1) ∷ Step (Raster 1 1 6 18) ∷ Step (Select 1) ∷ [])
+    (Step (Sixel 1)) (DrawsTwo (Raster 1 1 29 18) (Sixel 1))
+
+-- q?"1;1;12;12@ fills nothing
+abbrev pub BlankSixelIsFirst : Type 0
+BlankSixelIsFirst = ReadsAs xterm (Step (Sixel 0) ∷ Step (Raster 1 1 12 12) ∷ []) (Step (Sixel 1)) (Draws (Sixel 1))
+
+-- q#1!65535~ paints the first 1,000 columns
+abbrev pub FarColumnsAreLost : Type 0
+FarColumnsAreLost =
+    ReadsAs xterm (Step (Select 1) ∷ []) (Step (Repeat 65535 63)) (DrawsTwo (Raster 1 1 0 0) (Repeat 1000 63))
+
+-- ---- foot
+
+-- q"1;1;5;3~ has six rows
+abbrev pub NarrowBoxDoesNotCount : Type 0
+NarrowBoxDoesNotCount = ReadsAs foot (Step (Raster 1 1 5 3) ∷ []) (Step (Sixel 63)) (Draws (Sixel 63))
+
+-- q"1;1;6;3~ has three
+abbrev pub WideBoxCuts : Type 0
+WideBoxCuts = ReadsAs foot (Step (Raster 1 1 6 3) ∷ []) (Step (Sixel 63)) (Draws (Repeat 1 7))
+
+-- q"1;1;6;1#1;2;100;0;0#1!7~ is one row, though it ends past the width
+abbrev pub DataPastTheWidthIsCut : Type 0
+DataPastTheWidthIsCut =
+    ReadsAs foot (Step (Raster 1 1 6 1) ∷ Step (Define 1 2 100 0 0) ∷ Step (Select 1) ∷ []) (Step (Repeat 7 63))
+    (Draws (Repeat 7 1))
+
+-- q#1;2;100;0;0#1!31~"1;1;29;40!31~ loses two columns that are painted
+abbrev pub LateBoxIsUnsaid : Type 0
+LateBoxIsUnsaid =
+    foot (Step (Define 1 2 100 0 0) ∷ Step (Select 1) ∷ Step (Repeat 31 63) ∷ []) (Step (Raster 1 1 29 40))
+    (Some (Step (Repeat 31 63))) ≡ Unsaid
+
+-- q"1;1;1;1#1#1;2;100;0;0@ isn't red
+abbrev pub PenKeepsItsColour : Type 0
+PenKeepsItsColour =
+    ReadsAs foot (Step (Raster 1 1 1 1) ∷ []) (Step (Select 1)) (Draws (Select 1))
+    × ReadsAs foot (Step (Raster 1 1 1 1) ∷ Step (Select 1) ∷ []) (Step (Define 1 2 100 0 0)) Nothing
+
+-- ---- mlterm
+
+-- q#1022n has a colour of chance
+abbrev pub ChanceIsUnsaid : Type 0
+ChanceIsUnsaid = ReadsAs mlterm (Step (Select 1022) ∷ []) (Step (Sixel 47)) Unsaid
+
+-- q#1;3;100;0;0#2~ has a colour of samples, and paints in another; with a sixel right after the definition it is seen
+abbrev pub SamplesAreUnsaid : Type 0
+SamplesAreUnsaid =
+    ReadsAs mlterm (Step (Define 1 3 100 0 0) ∷ Step (Select 2) ∷ []) (Step (Sixel 63)) (Draws (Sixel 63))
+    × ReadsAs mlterm (Step (Define 1 3 100 0 0) ∷ []) (Step (Sixel 63)) Unsaid
+
+-- q"1;1;8;6-!31@: the repeat is right of the buffer in a band below it, which is read past its block of memory
+abbrev pub CornerIsUnsaid : Type 0
+CornerIsUnsaid = ReadsAs mlterm (Step (Raster 1 1 8 6) ∷ Step NextLine ∷ []) (Step (Repeat 31 1)) Unsaid
+
+-- q"1;1;1;1#0@!32767? ends the terminal
+abbrev pub FarBlankIsUnsaid : Type 0
+FarBlankIsUnsaid =
+    ReadsAs mlterm (Step (Raster 1 1 1 1) ∷ Step (Select 0) ∷ Step (Sixel 1) ∷ []) (Step (Repeat 32767 0)) Unsaid
+
+-- q-"3;2;12;8-"2;2;13;5 ends it: the wider buffer has fewer rows than are copied
+abbrev pub TwoBoxesBelowAreUnsaid : Type 0
+TwoBoxesBelowAreUnsaid =
+    ReadsAs mlterm (Step NextLine ∷ Step (Raster 3 2 12 8) ∷ Step NextLine ∷ []) (Step (Raster 2 2 13 5)) Unsaid
+
+-- q#2~: a register that was never defined paints
+abbrev pub UndefinedIsDrawn : Type 0
+UndefinedIsDrawn = ReadsAs mlterm (Step (Select 2) ∷ []) (Step (Sixel 63)) (Draws (Sixel 63))
+
+-- ---- konsole
+
+-- q#1 fills 30 by 6, though the select is dropped
+abbrev pub DroppedSelectOpens : Type 0
+DroppedSelectOpens = konsole_opening (Step (Select 1) ∷ Finish false ∷ []) ≡ Step (Raster 1 1 30 6) ∷ []
+
+-- q#256"1;1;6;6~ fills 30 by 6, too: the raster attributes are late
+abbrev pub LateRasterDoesNotCount : Type 0
+LateRasterDoesNotCount =
+    konsole_opening (Step (Select 256) ∷ Step (Raster 1 1 6 6) ∷ Step (Sixel 63) ∷ Finish false ∷ [])
+    ≡ Step (Raster 1 1 30 6) ∷ []
+
+-- q"1;1;12;12 shows nothing
+abbrev pub DroppedRasterOpensNothing : Type 0
+DroppedRasterOpensNothing = konsole_opening (Step (Raster 1 1 12 12) ∷ Finish false ∷ []) ≡ []
+
+-- q"2;1;12;13#1~ has 26 rows
+abbrev pub RatioIsTall : Type 0
+RatioIsTall =
+    konsole_opening (Step (Raster 2 1 12 13) ∷ Step (Select 1) ∷ Step (Sixel 63) ∷ Finish false ∷ [])
+    ≡ Step (Raster 2 1 12 26) ∷ []
+
+-- q#1;3;100;0;0~#2~-!40~: all is dropped up to the new line
+abbrev pub UnknownSystemSticks : Type 0
+UnknownSystemSticks =
+    konsole_opening (Step (Define 1 3 100 0 0) ∷ Step (Sixel 63) ∷ Step (Select 2) ∷ Step (Sixel 63) ∷ Step NextLine
+    ∷ Step (Repeat 40 63) ∷ Finish false ∷ [])
+    ≡ Step (Raster 1 1 40 12) ∷ []
+
+-- ---- any model
+
+-- each event is read with the one after it: at its position, whatever comes later
+abbrev pub PositionsAreRead : Type 0
+PositionsAreRead = (m : Model) (before rest : List Event) (e next : Event)
+    → read_at m (before ++ e ∷ next ∷ rest) (length before) ≡ m.rule before e (Some next)
+
+-- the last one is read without
+abbrev pub LastPositionIsRead : Type 0
+LastPositionIsRead = (m : Model) (before : List Event) (e : Event)
+    → read_at m (before ++ e ∷ []) (length before) ≡ m.rule before e None
+
+-- foot's picture is as high as its bands, if there are no raster attributes
+abbrev pub BandsAreTheHeight : Type 0
+BandsAreTheHeight =
+    (events : List Event) → list_any (λ e. is_some (raster_of e)) events ≡ false
+    → (foot_size events).height ≡ band_rows * band events + band_rows
+
+-- ---- courses
+
+-- a model that goes on to the end says all, and its reading is what all events give
+abbrev pub GoesToTheEnd : Type 0
+GoesToTheEnd = (m : Model) (events : List Event) → IsCourse m events (length events) Goes
+    → IsSaid m events × IsReading m events (reading_below m events (length events))
+
+-- one that has stopped says all, and its reading is what the events before give
+abbrev pub StopsAtAnEvent : Type 0
+StopsAtAnEvent = (m : Model) (events : List Event) → IsCourse m events (length events) Stopped
+    → IsSaid m events × ((n : ℕ) × IsReading m events (reading_below m events n))
+
+-- one that has ended ends at a position
+abbrev pub EndsAtAnEvent : Type 0
+EndsAtAnEvent = (m : Model) (events : List Event) → IsCourse m events (length events) Ended
+    → (i : ℕ) × EndsAt m events i
+
+-- ---- any string on konsole
+
+-- the reading is the rectangle, and then what each event gives
+abbrev pub KonsoleIsRead : Type 0
+KonsoleIsRead = (events : List Event)
+    → IsReading konsole_model events (konsole_opening events ++ konsole_drawing events None)
+
+-- ---- named terminals
+
+-- a screen that a named terminal shows of the events is the only one
+abbrev pub ShowsOneScreen : Type 0
+ShowsOneScreen = (named : Named) (background : Parts) (sides : ℕ × ℕ) (events : List Event) (a b : Shown)
+    → IsScreenOn named background sides events a → IsScreenOn named background sides events b → a ≡ b
+
+-- a model ends at no other position
+abbrev pub EndsAtOnePosition : Type 0
+EndsAtOnePosition = (m : Model) (events : List Event) (i j : ℕ) → EndsAt m events i → EndsAt m events j → i ≡ j
+
+-- where a screen is shown the model doesn't end
+abbrev pub ShownDoesNotEnd : Type 0
+ShownDoesNotEnd = (named : Named) (background : Parts) (sides : ℕ × ℕ) (events : List Event) (screen : Shown) (i : ℕ)
+    → IsScreenOn named background sides events screen → ¬ EndsAt (model_of named) events i
+
+-- each named terminal shows a screen of any events, or its model ends
+abbrev pub ShowsOrEnds : Type 0
+ShowsOrEnds = (named : Named) (background : Parts) (sides : ℕ × ℕ) (events : List Event)
+    → ((i : ℕ) × EndsAt (model_of named) events i)
+    ⊎ ((screen : Shown) × IsScreenOn named background sides events screen)

@@ -1,0 +1,3 @@
+pub mod XTermLemmas
+pub mod CutLemmas
+pub mod SettingLemmas

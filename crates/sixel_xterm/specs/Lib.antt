@@ -1,0 +1,3 @@
+pub mod XTerm
+pub mod XTermSeen
+pub mod Settings
