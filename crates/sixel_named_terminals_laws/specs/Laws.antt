@@ -9,7 +9,7 @@ use Rattle.sixel_grammar.specs.declared.command.Event.TheVariants.{Step, Finish}
 use Rattle.sixel_emulator.specs.declared.reading.Reads.{Reads}
 use Rattle.sixel_emulator.specs.declared.reading.Reads.TheVariants.{Nothing, Draws, DrawsTwo, Stops, Unsaid}
 use Rattle.sixel_emulator.specs.declared.course.Course.TheVariants.{Goes, Stopped, Ended}
-use Rattle.sixel_emulator.specs.Readings.{EndsAt, IsReading, IsSaid, Model, Rule, read_at}
+use Rattle.sixel_emulator.specs.Readings.{EndsAt, IsReading, IsSaid, Model, Rule, read_at, reading_below}
 use Rattle.sixel_emulator.specs.Courses.{IsCourse}
 use Rattle.sixel_model.specs.declared.colour.Parts.{Parts}
 use Rattle.sixel_model.specs.Events.{raster_of}
