@@ -44,11 +44,11 @@ use Rattle.sixel_field.proofs.XTermShownLemmas.{xterm_shows}
 use Rattle.sixel_differ.specs.declared.view.View.{View}
 use Rattle.sixel_differ.specs.declared.view.View.TheVariants.{Screen, Unmodelled as Ends}
 use Rattle.sixel_differ.specs.declared.view.Views.{Views}
-use Rattle.sixel_differ.specs.Laws.{AreAllAlike}
+use Rattle.sixel_differ_laws.specs.Laws.{AreAllAlike}
 use Rattle.sixel_differ.specs.Pixels.{colour_at}
 use Rattle.sixel_differ.specs.Views.{AreViews, IsView, Shows as ShowsIn, view_in}
-use Rattle.sixel_differ.proofs.GroupLemmas.{one_group_where_alike}
-use Rattle.sixel_differ.proofs.OnceLemmas.{some_mending}
+use Rattle.sixel_differ_laws.proofs.GroupLemmas.{one_group_where_alike}
+use Rattle.sixel_differ_laws.proofs.OnceLemmas.{some_mending}
 use Rattle.sixel_differ.proofs.ShowingLemmas.{have_sides}
 use Rattle.sixel_named_laws.specs.Laws.{PortableOnAllIsTheSame, all_terminals}
 

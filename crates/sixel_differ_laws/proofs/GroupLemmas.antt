@@ -10,7 +10,7 @@ use Rattle.sixel_differ.specs.declared.view.View.{View}
 use Rattle.sixel_differ.specs.declared.view.View.TheVariants.{Screen, Unmodelled as Ends}
 use Rattle.sixel_differ.specs.declared.view.Views.{Views}
 use Rattle.sixel_differ.specs.Comparisons.{IsComparison, StandsAfter, StandsWith, one_group, rank, standing_in}
-use Rattle.sixel_differ.specs.Laws.{AreAllAlike, OneGroupWhereAlike}
+use Rattle.sixel_differ_laws.specs.Laws.{AreAllAlike, OneGroupWhereAlike}
 use Rattle.sixel_differ.specs.Pixels.{AreAlike}
 use Rattle.sixel_differ.specs.Views.{HaveSides, Shows, view_in}
 

@@ -28,9 +28,9 @@ use Rattle.sixel_differ.specs.declared.fault.DifferFault.TheVariants.{Grammar, E
 use Rattle.sixel_differ.specs.declared.view.View.{View}
 use Rattle.sixel_differ.specs.declared.view.View.TheVariants.{Screen, Unmodelled as Ends}
 use Rattle.sixel_differ.specs.declared.view.Views.{Views}
-use Rattle.sixel_differ.specs.Laws.{SomeFault, ViewsOrFault}
+use Rattle.sixel_differ_laws.specs.Laws.{SomeFault, ViewsOrFault}
 use Rattle.sixel_differ.specs.Views.{AreViews, IsInBands, IsView}
-use Rattle.sixel_differ.proofs.OnceLemmas.{some_mending}
+use Rattle.sixel_differ_laws.proofs.OnceLemmas.{some_mending}
 use Rattle.sixel_differ.proofs.ShowingLemmas.{each_view}
 
 -- ---- the size

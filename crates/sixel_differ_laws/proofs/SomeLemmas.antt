@@ -19,10 +19,10 @@ use Rattle.sixel_differ.specs.declared.view.View.TheVariants.{Screen, Unmodelled
 use Rattle.sixel_differ.specs.declared.view.Views.{Views}
 use Rattle.sixel_differ.specs.Comparisons.{IsComparison, IsLikeNone, IsUnlikeFirst, NoneShows, StandsAfter, StandsWith}
 use Rattle.sixel_differ.specs.Comparisons.{rank, standing_in}
-use Rattle.sixel_differ.specs.Laws.{SomeComparison}
+use Rattle.sixel_differ_laws.specs.Laws.{SomeComparison}
 use Rattle.sixel_differ.specs.Pixels.{AreAlike, DifferFirstAt, colour_at}
 use Rattle.sixel_differ.specs.Views.{HasSides, HaveSides, IsUnmodelled, Shows, view_in}
-use Rattle.sixel_differ.proofs.OnceLemmas.{none_shows, not_both, one_named, shown_once}
+use Rattle.sixel_differ_laws.proofs.OnceLemmas.{none_shows, not_both, one_named, shown_once}
 use Rattle.sixel_differ.proofs.PixelLemmas.{index_below, some_width}
 
 -- ---- the first difference of two lists of colours

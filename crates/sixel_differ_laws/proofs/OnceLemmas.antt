@@ -25,7 +25,7 @@ use Rattle.sixel_differ.specs.declared.view.View.TheVariants.{Screen, Unmodelled
 use Rattle.sixel_differ.specs.declared.view.Views.{Views}
 use Rattle.sixel_differ.specs.Comparisons.{IsComparison, IsLeader, IsUnlikeFirst, NoneShows, StandsAfter, StandsWith}
 use Rattle.sixel_differ.specs.Comparisons.{rank, standing_in}
-use Rattle.sixel_differ.specs.Laws.{OneComparison, OneSetOfViews}
+use Rattle.sixel_differ_laws.specs.Laws.{OneComparison, OneSetOfViews}
 use Rattle.sixel_differ.specs.Pixels.{ComesBefore, DifferFirstAt}
 use Rattle.sixel_differ.specs.Views.{AreViews, IsInBands, IsView, Shows, view_in}
 
