@@ -26,14 +26,14 @@ use Rattle.sixel_model.specs.declared.rule.Rule.{Rule}
 use Rattle.sixel_model.specs.declared.rule.Rule.TheVariants.{Outside, Uncovered, EightBit}
 use Rattle.sixel_judge.specs.declared.verdict.Finding.{Finding}
 use Rattle.sixel_judge.specs.Alarms.{HasRoomFor, IsPaintedUnlessClipped}
-use Rattle.sixel_check.specs.Differences.{IsFound, SomeEightBitDiffer, SomeOutsideDiffer, SomeUncoveredDiffer, black}
-use Rattle.sixel_check.specs.Differences.{other_than, witness_terminal, shown_at, stood_at, white}
+use Rattle.sixel_check_laws.specs.Differences.{IsFound, SomeEightBitDiffer, SomeOutsideDiffer, SomeUncoveredDiffer, black}
+use Rattle.sixel_check_laws.specs.Differences.{other_than, witness_terminal, shown_at, stood_at, white}
 use Rattle.sixel_judge.specs.Verdicts.{IsPixel, capped, greatest}
 use Rattle.sixel_judge.proofs.AlarmLemmas.{finish_last}
 use Rattle.sixel_judge.proofs.CoverLemmas.{box_there}
 use Rattle.sixel_judge.proofs.DifferenceLemmas.{and_some, box_of_prefix, box_sides, small_point, unbroken_but_last}
 use Rattle.sixel_judge.proofs.OptionLemmas.{same_value, some_value}
-use Rattle.sixel_check.proofs.PairLemmas.{eight_bit_differs, outside_differs, promised, uncovered_differs}
+use Rattle.sixel_check_laws.proofs.PairLemmas.{eight_bit_differs, outside_differs, promised, uncovered_differs}
 use Rattle.sixel_judge.proofs.ShownLemmas.{painted_shows, size_left}
 
 some_registers : (profile : Profile) → 0 < count_of profile

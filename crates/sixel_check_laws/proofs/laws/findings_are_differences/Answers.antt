@@ -1,6 +1,6 @@
 use Rattle.sixel_model.specs.Profiles.{count_of}
-use Rattle.sixel_check.proofs.PairLemmas.{eight_bit_differs, outside_differs, uncovered_differs}
-use Rattle.sixel_check.proofs.laws.findings_are_differences.Goals as goal
+use Rattle.sixel_check_laws.proofs.PairLemmas.{eight_bit_differs, outside_differs, uncovered_differs}
+use Rattle.sixel_check_laws.proofs.laws.findings_are_differences.Goals as goal
 
 pub returns : goal.returns
 returns c = record {

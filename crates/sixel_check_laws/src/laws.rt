@@ -1,8 +1,8 @@
 //! Laws about findings, for pictures of each profile. Each function's contract is the law.
 
-ghost use Rattle.sixel_check.specs.Differences.{CoordinatesAreExact, EightBitDiffers, OutsideDiffers};
-ghost use Rattle.sixel_check.specs.Differences.{SomeEightBitDiffer, SomeOutsideDiffer, SomeUncoveredDiffer};
-ghost use Rattle.sixel_check.specs.Differences.{UncoveredDiffers};
+ghost use Rattle.sixel_check_laws.specs.Differences.{CoordinatesAreExact, EightBitDiffers, OutsideDiffers};
+ghost use Rattle.sixel_check_laws.specs.Differences.{SomeEightBitDiffer, SomeOutsideDiffer, SomeUncoveredDiffer};
+ghost use Rattle.sixel_check_laws.specs.Differences.{UncoveredDiffers};
 ghost use Rattle.sixel_model.specs.Profiles.{count_of};
 ghost use Rattle.sixel_model.specs.declared.profile.Profile.{Profile};
 

@@ -20,7 +20,7 @@ use Rattle.sixel_model.specs.Rules.{FallsOutside, raster_before}
 use Rattle.sixel_model.proofs.KnownLemmas.{each_before, each_there}
 use Rattle.sixel_model.specs.declared.rule.Rule.{Rule}
 use Rattle.sixel_model.specs.declared.rule.Rule.TheVariants.{Outside}
-use Rattle.sixel_check.specs.Differences.{CoordinatesAreExact}
+use Rattle.sixel_check_laws.specs.Differences.{CoordinatesAreExact}
 use Rattle.sixel_judge.specs.Verdicts.{IsPixel, capped, greatest}
 use Rattle.sixel_judge.proofs.DecideLemmas.{falls_left}
 use Rattle.sixel_judge.proofs.DifferenceLemmas.{and_some}

@@ -13,7 +13,7 @@ use Rattle.sixel_model.specs.declared.rule.Rule.TheVariants.{Outside, Uncovered,
 use Rattle.sixel_judge.specs.declared.verdict.Finding.{Finding}
 use Rattle.sixel_judge.specs.Alarms.{HasRoomFor, IsPaintedUnlessClipped, WhatTerminalsDo, IsUnseenWithoutEightBits}
 use Rattle.sixel_judge.specs.Alarms.{StaysOnEach}
-use Rattle.sixel_check.specs.Differences.{EightBitDiffers, IsFound, OutsideDiffers, UncoveredDiffers}
+use Rattle.sixel_check_laws.specs.Differences.{EightBitDiffers, IsFound, OutsideDiffers, UncoveredDiffers}
 use Rattle.sixel_judge.specs.Verdicts.{greatest}
 use Rattle.sixel_judge.proofs.DifferenceLemmas.{found_truly}
 
