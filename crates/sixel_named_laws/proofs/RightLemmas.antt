@@ -16,7 +16,7 @@ use Rattle.sixel_field.proofs.KonsoleShownLemmas.{konsole_shows}
 use Rattle.sixel_field.proofs.MlTermShownLemmas.{mlterm_shows}
 use Rattle.sixel_field.proofs.ShownLemmas.{foot_shows}
 use Rattle.sixel_field.proofs.XTermShownLemmas.{xterm_shows}
-use Rattle.sixel_named.specs.Verdicts.{IsNamed, IsShownOnEach}
+use Rattle.sixel_named_laws.specs.Shown.{IsNamed, IsShownOnEach}
 
 -- what a terminal of the set asks for is asked for
 asked_by : (t : Terminals) (named : Named) (rule : AskedRule) → IsNamed t named → IsTrue (asks named rule)
