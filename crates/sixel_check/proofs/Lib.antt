@@ -1,4 +1,1 @@
 pub mod FollowLemmas
-pub mod PairLemmas
-pub mod WitnessLemmas
-pub mod ExactLemmas

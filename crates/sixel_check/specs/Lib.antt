@@ -15,4 +15,3 @@ pub use Rattle.sixel_survey.specs.Declaring
 pub use Rattle.sixel_survey.specs.Answers as SurveyAnswers
 pub mod Answers
 pub mod Checking
-pub mod Differences

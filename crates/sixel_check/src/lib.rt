@@ -3,7 +3,6 @@
 #![tactic(auto)]
 
 mod checking;
-pub mod laws;
 
 pub use checking::{check, check_bytes, check_with, outcome_with};
 pub use sixel_judge::{Checker, Finding, Outcome, Rule, Verdict};

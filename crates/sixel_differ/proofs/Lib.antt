@@ -1,9 +1,5 @@
-mod PixelLemmas
+pub mod PixelLemmas
 mod ViewLemmas
-pub mod GroupLemmas
 pub mod FaultLemmas
 pub mod DrawingLemmas
 pub mod ShowingLemmas
-pub mod OnceLemmas
-mod SomeLemmas
-mod AnswerLemmas

@@ -3,4 +3,3 @@ pub mod Views
 pub mod Drawings
 pub mod Comparisons
 pub mod Faults
-pub mod Laws

@@ -5,7 +5,6 @@ mod apart;
 mod comparison;
 mod drawings;
 mod fault;
-pub mod laws;
 mod pixels;
 mod showing;
 mod view;

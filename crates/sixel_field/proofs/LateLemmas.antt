@@ -1,5 +1,5 @@
 -- A list in which a definition comes after a select.
-use Rattle.std.proofs.Common.{◌≡◌, ℕ, List, [], ◌∷◌, refl, ap, ◌∙◌, lit≤}
+use Rattle.std.proofs.Common.{◌≡◌, ◌*◌, ℕ, true, false, List, [], ◌∷◌, replicate, refl, ap, ◌∙◌, lit≤}
 use Rattle.sixel_grammar.specs.declared.command.Command.TheVariants.{Define, Select, Sixel}
 use Rattle.sixel_grammar.specs.declared.command.Event.{Event}
 use Rattle.sixel_grammar.specs.declared.command.Event.TheVariants.{Step}
@@ -16,10 +16,12 @@ use Rattle.sixel_model.specs.Positions.{passes_at, since}
 use Rattle.sixel_model.specs.Profiles.{count_of}
 use Rattle.sixel_model.specs.declared.profile.Profile.{Profile}
 use Rattle.sixel_model.specs.declared.profile.Profile.TheVariants.{Registers16, Registers256}
+use Rattle.sixel_terminal.specs.declared.choices.Choices.{Choices}
+use Rattle.sixel_terminal.specs.declared.choices.Ground.{Ground}
+use Rattle.sixel_terminal.specs.declared.choices.Ground.TheVariants.{Kept}
 use Rattle.sixel_terminal.specs.Displays.{Display, IsInClass}
 use Rattle.sixel_terminal.specs.Drawing.{height_of, is_kept_on, is_seen_on, map_on, paints_on, selected_on, shown_on}
 use Rattle.sixel_terminal.specs.Drawing.{touches_on}
-use Rattle.sixel_check.specs.Differences.{white, witness_terminal}
 use Rattle.sixel_judge.proofs.DecideLemmas.{decided_by, falls_searchable, blank_searchable, first_of, outside_first}
 use Rattle.sixel_judge.proofs.DecideLemmas.{blank_first, outside_decided, blank_somewhere, both_decided}
 use Rattle.sixel_judge.proofs.DecideLemmas.{uncovered_decided, rule_decided, held_decided, position_decided}
@@ -49,9 +51,34 @@ unfolding decided_by falls_searchable blank_searchable first_of outside_first bl
 unbroken Registers16 = second_of (broken_or_none 16 late_red) refl
 unbroken Registers256 = second_of (broken_or_none 256 late_red) refl
 
--- a terminal with one white pixel, whose registers are black at the start
+abbrev pub white : Parts
+white = Rgb 100 100 100
+
+-- it keeps its ground, doesn't clip, has 8-bit controls, and draws from the top left of a screen of one pixel
+abbrev one_pixel : Choices
+one_pixel = let ground : Ground = Kept in record {
+  binds_at_showing = false;
+  selects = false;
+  ground = ground;
+  selected = 0;
+  zero = 0;
+  clamps = false;
+  tall = 1;
+  clips = false;
+  eight_bit = true;
+  screen_width = 1;
+  screen_height = 1;
+  origin_x = 0;
+  origin_y = 0;
+}
+
+-- a terminal with these choices and one white pixel, whose registers are black at the start
 abbrev one_white : ℕ → Display
-one_white registers = witness_terminal registers 1 1 white
+one_white registers = record {
+  choices = one_pixel;
+  colours = replicate registers (Rgb 0 0 0);
+  screen = replicate (1 * 1) white;
+}
 
 in_class : (profile : Profile) → IsInClass (count_of profile) (one_white (count_of profile))
 in_class Registers16 = record {

@@ -33,7 +33,6 @@ use Rattle.sixel_emulator.specs.Words.{after_each, after_first, greatest}
 use Rattle.sixel_konsole.proofs.KonsoleReadLemmas.{konsole_read}
 use Rattle.sixel_named_terminals.proofs.NamedLemmas.{reading_once}
 use Rattle.sixel_judge.specs.Portable.{IsInBoxOn, Shows}
-use Rattle.sixel_check.specs.Differences.{white}
 use Rattle.sixel_asked.specs.declared.rule.AskedRule.{AskedRule}
 use Rattle.sixel_asked.specs.declared.rule.AskedRule.TheVariants.{RasterLate, Dropped, Stale, Large, Rows, Past, Hue}
 use Rattle.sixel_asked.specs.declared.rule.AskedRule.TheVariants.{Far, Mixed}
@@ -41,7 +40,7 @@ use Rattle.sixel_asked.specs.Witnesses.{witness_of}
 use Rattle.sixel_asked.proofs.WitnessLemmas.{none_below}
 use Rattle.sixel_field.specs.Laws.{EachWitnessIsShownWrong, IsShownOn, IsShownRight}
 use Rattle.sixel_field.proofs.DrawingLemmas.{drawing_is_reading, foot_drawing}
-use Rattle.sixel_field.proofs.LateLemmas.{black_on_foot}
+use Rattle.sixel_field.proofs.LateLemmas.{black_on_foot, white}
 
 -- ---- the model doesn't say all
 

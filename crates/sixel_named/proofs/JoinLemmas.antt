@@ -4,7 +4,6 @@ use Rattle.std.specs.Prelude.{nat_lt, if◌then◌else◌}
 use Rattle.std.proofs.lemmas.Bool.{lt-ltb, ltb-true}
 use Rattle.sixel_grammar.specs.Document.{Document, events_of}
 use Rattle.sixel_grammar.specs.declared.command.Placed.{Placed}
-use Rattle.sixel_grammar.proofs.TotalLemmas.{document_whole}
 use Rattle.sixel_judge.specs.Outcomes.{IsOutcome}
 use Rattle.sixel_judge.specs.Portable.{IsShownEverywhere}
 use Rattle.sixel_judge.specs.Verdicts.{IsFinding, IsVerdict, outcome_of}
@@ -17,12 +16,23 @@ use Rattle.sixel_asked.specs.declared.asking.AskedFinding.{AskedFinding}
 use Rattle.sixel_asked.specs.declared.terminals.Terminals.{Terminals}
 use Rattle.sixel_asked.proofs.LawLemmas.{none_is_exact}
 use Rattle.sixel_named.specs.Answers.{AnswersOn, AnswersOutcomeOn}
-use Rattle.sixel_named.specs.Checking.{broken_or, broken_outcome_or, earlier_than, joined, joined_outcome}
+use Rattle.sixel_named.specs.Checking.{broken_outcome_or, earlier_than, joined_outcome}
 use Rattle.sixel_named.specs.Verdicts.{IsRightOn, IsVerdictOn, named_outcome_of}
+use Rattle.sixel_named.specs.declared.verdict.NamedVerdict.{NamedVerdict}
+use Rattle.sixel_named.specs.declared.verdict.NamedVerdict.TheVariants as named
 use Rattle.sixel_named.proofs.FirstLemmas.{asked_alone, asked_first, broken_alone, broken_first}
-use Rattle.sixel_named.proofs.RightLemmas.{shown_on_each}
 
 -- ---- the verdict
+
+abbrev pub broken_or : Finding → Option AskedFinding → NamedVerdict
+broken_or f None = named.Broken f
+broken_or f (Some asked) = named.Asked asked
+
+-- the first of both findings; at the same place that of portable pictures
+abbrev pub joined : Verdict → Option AskedFinding → NamedVerdict
+joined (Portable picture) None = named.Portable picture
+joined (Portable picture) (Some asked) = named.Asked asked
+joined (Broken f) asked = broken_or f (earlier_than f asked)
 
 by_place : (registers : ℕ) (t : Terminals) (placed : List Placed) (bytes : List ℕ) (f : Finding) (i : ℕ)
     (a : AskedFinding) (k : ℕ) (early : Bool) → nat_lt a.place f.place ≡ early → registers ≤ 256
@@ -47,25 +57,18 @@ joined_is registers t placed bytes (Broken f) None few document is answer =
 joined_is registers t placed bytes (Broken f) (Some a) few document is answer =
     by_place registers t placed bytes f is.0 a answer.0 (nat_lt a.place f.place) refl few document is.1 answer.1
 
--- ---- what the terminals show
+-- ---- what each terminal of the class shows
 
-broken_right : (registers : ℕ) (t : Terminals) (placed : List Placed) (f : Finding) (o : Option AskedFinding)
-    → IsRightOn registers t (events_of placed) (broken_or f o)
-broken_right registers t placed f None = tt
-broken_right registers t placed f (Some a) = tt
+broken_right : (registers : ℕ) (placed : List Placed) (f : Finding) (o : Option AskedFinding)
+    → IsRightOn registers (events_of placed) (broken_or f o)
+broken_right registers placed f None = tt
+broken_right registers placed f (Some a) = tt
 
-pub joined_right : (registers : ℕ) (t : Terminals) (placed : List Placed) (bytes : List ℕ) (v : Verdict)
-    (o : Option AskedFinding) → registers ≤ 256 → Document placed bytes → IsVerdict registers placed v
-    → IsShownEverywhere registers (events_of placed) v → IsAnswer t placed o
-    → IsRightOn registers t (events_of placed) (joined v o)
-joined_right registers t placed bytes (Portable p) None few document is everywhere answer = (
-  everywhere,
-  shown_on_each registers t (events_of placed) p few (document_whole placed bytes document) is.0
-      (none_is_exact registers t placed few is.0 answer) is.1,
-)
-joined_right registers t placed bytes (Portable p) (Some a) few document is everywhere answer = tt
-joined_right registers t placed bytes (Broken f) o few document is everywhere answer =
-    broken_right registers t placed f (earlier_than f o)
+joined_right : (registers : ℕ) (placed : List Placed) (v : Verdict) (o : Option AskedFinding)
+    → IsShownEverywhere registers (events_of placed) v → IsRightOn registers (events_of placed) (joined v o)
+joined_right registers placed (Portable p) None everywhere = everywhere
+joined_right registers placed (Portable p) (Some a) everywhere = tt
+joined_right registers placed (Broken f) o everywhere = broken_right registers placed f (earlier_than f o)
 
 -- ---- without the picture
 
@@ -81,7 +84,7 @@ joined_same (Broken f) o = broken_same f (earlier_than f o)
 
 -- ---- the answers
 
-pub answers_joined : (registers : ℕ) (t : Terminals) (placed : List Placed) (bytes : List ℕ) (v : Verdict)
+answers_joined : (registers : ℕ) (t : Terminals) (placed : List Placed) (bytes : List ℕ) (v : Verdict)
     (o : Option AskedFinding) → registers ≤ 256 → Document placed bytes → IsVerdict registers placed v
     → IsShownEverywhere registers (events_of placed) v → IsAnswer t placed o
     → AnswersOn registers t (Ok (joined v o)) bytes
@@ -89,7 +92,7 @@ answers_joined registers t placed bytes v o few document is everywhere answer = 
   placed,
   document,
   joined_is registers t placed bytes v o few document is answer,
-  joined_right registers t placed bytes v o few document is everywhere answer,
+  joined_right registers placed v o everywhere,
 )
 
 pub answers_outcome : (registers : ℕ) (t : Terminals) (placed : List Placed) (bytes : List ℕ) (outcome : Outcome)

@@ -1,5 +1,4 @@
 pub mod FirstLemmas
-pub mod RightLemmas
 pub mod JoinLemmas
 pub mod FollowLemmas
 pub mod NoneLemmas

@@ -3,41 +3,22 @@ use Rattle.std.proofs.Common.{◌≡◌, ℕ, List, None, Ok, refl}
 use Rattle.sixel_check.specs.Answers.{Answers, AnswersOutcome}
 use Rattle.sixel_grammar.specs.Document.{events_of}
 use Rattle.sixel_grammar.specs.declared.command.Event.{Event}
-use Rattle.sixel_model.specs.Pictures.{PictureValue}
-use Rattle.sixel_named_terminals.specs.declared.named.Named.{Named}
-use Rattle.sixel_named_terminals.specs.declared.named.Named.TheVariants.{XTerm, MlTerm, Foot, Konsole}
 use Rattle.sixel_asked.specs.Asked.{BreaksNoneAsked}
 use Rattle.sixel_judge.specs.declared.verdict.Outcome.{Outcome}
 use Rattle.sixel_judge.specs.declared.verdict.Verdict.{Verdict}
 use Rattle.sixel_judge.specs.declared.verdict.Verdict.TheVariants.{Portable, Broken}
 use Rattle.sixel_named.specs.Answers.{AnswersOn, AnswersOutcomeOn}
-use Rattle.sixel_named.specs.Checking.{joined, joined_outcome}
+use Rattle.sixel_named.specs.Checking.{joined_outcome}
 use Rattle.sixel_named.specs.Laws.{SameAsCheck, named_verdict, none}
-use Rattle.sixel_named.specs.Verdicts.{IsNamed, IsShownOnEach}
-use Rattle.sixel_named.proofs.JoinLemmas.{joined_same}
-
-no_name : (named : Named) → ¬ IsNamed none named
-no_name XTerm is = cc
-no_name MlTerm is = cc
-no_name Foot is = cc
-no_name Konsole is = cc
+use Rattle.sixel_named.proofs.JoinLemmas.{joined, joined_same}
 
 -- no terminal asks for a rule
 pub none_asked : (events : List Event) → BreaksNoneAsked none events
 none_asked events rule asked = cc
 
--- and each shows what there is
-shown_on_none : (events : List Event) (p : PictureValue) → IsShownOnEach none events p
-shown_on_none events p named background width height is across down = absurd (no_name named is)
-
 pub same_as_check : (registers : ℕ) → SameAsCheck registers
 same_as_check registers bytes (Portable p) h =
-    let events : List Event = events_of h.0 in (
-      h.0,
-      h.1,
-      (h.2.0, none_asked events, h.2.1),
-      (h.3, shown_on_none events p),
-    )
+    let events : List Event = events_of h.0 in (h.0, h.1, (h.2.0, none_asked events, h.2.1), h.3)
 same_as_check registers bytes (Broken f) h = (
   h.0,
   h.1,

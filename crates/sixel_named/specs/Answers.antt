@@ -9,12 +9,12 @@ use Rattle.sixel_named.specs.Verdicts.{IsRightOn, IsVerdictOn, named_outcome_of}
 use Rattle.sixel_named.specs.declared.verdict.NamedOutcome.{NamedOutcome}
 use Rattle.sixel_named.specs.declared.verdict.NamedVerdict.{NamedVerdict}
 
--- Ok: the bytes are a document, the verdict is that on its events, and a picture is portable and shown by each terminal
--- of the set; Err: a grammar fault is the fault of these bytes
+-- Ok: the bytes are a document, the verdict is that on its events, and a picture is portable; Err: a grammar fault is
+-- the fault of these bytes. Each terminal of the set shows the picture, by a law of `sixel_named_laws`
 abbrev pub AnswersOn : ℕ → Terminals → Result NamedVerdict InputFault → List ℕ → Type 0
 AnswersOn registers t (Ok verdict) bytes =
     (events : List Placed) × Document events bytes × IsVerdictOn registers t events verdict
-    × IsRightOn registers t (events_of events) verdict
+    × IsRightOn registers (events_of events) verdict
 AnswersOn registers t (Err fault) bytes = Explains fault bytes
 
 -- the same without the picture: the outcome is that of a verdict that answers

@@ -8,8 +8,6 @@ use Rattle.sixel_judge.specs.Standing.{CheckerValue, StandsAfter}
 use Rattle.sixel_judge.specs.declared.verdict.Finding.{Finding}
 use Rattle.sixel_judge.specs.declared.verdict.Outcome.{Outcome}
 use Rattle.sixel_judge.specs.declared.verdict.Outcome.TheVariants as size
-use Rattle.sixel_judge.specs.declared.verdict.Verdict.{Verdict}
-use Rattle.sixel_judge.specs.declared.verdict.Verdict.TheVariants as verdict
 use Rattle.sixel_asked.specs.Asking.{HasAsked}
 use Rattle.sixel_asked.specs.declared.asking.AskedFinding.{AskedFinding}
 use Rattle.sixel_asked.specs.declared.asking.Asking.{Asking}
@@ -17,8 +15,6 @@ use Rattle.sixel_asked.specs.declared.terminals.Terminals.{Terminals}
 use Rattle.sixel_emulator.specs.declared.both.Both.{Both}
 use Rattle.sixel_named.specs.declared.verdict.NamedOutcome.{NamedOutcome}
 use Rattle.sixel_named.specs.declared.verdict.NamedOutcome.TheVariants as outcome
-use Rattle.sixel_named.specs.declared.verdict.NamedVerdict.{NamedVerdict}
-use Rattle.sixel_named.specs.declared.verdict.NamedVerdict.TheVariants.{Portable, Broken, Asked}
 
 -- the checker has seen these events, and the asking has taken them for these terminals
 pub record HaveTaken (registers : ℕ) (t : Terminals) (both : Both CheckerValue Asking) (placed : List Placed) :
@@ -40,21 +36,11 @@ abbrev pub earlier_than : Finding → Option AskedFinding → Option AskedFindin
 earlier_than f None = None
 earlier_than f (Some asked) = if nat_lt asked.place f.place then Some asked else None
 
-abbrev pub broken_or : Finding → Option AskedFinding → NamedVerdict
-broken_or f None = Broken f
-broken_or f (Some asked) = Asked asked
-
 abbrev pub broken_outcome_or : Finding → Option AskedFinding → NamedOutcome
 broken_outcome_or f None = outcome.Broken f
 broken_outcome_or f (Some asked) = outcome.Asked asked
 
--- the first of both findings; at the same place that of portable pictures
-abbrev pub joined : Verdict → Option AskedFinding → NamedVerdict
-joined (verdict.Portable picture) None = Portable picture
-joined (verdict.Portable picture) (Some asked) = Asked asked
-joined (verdict.Broken f) asked = broken_or f (earlier_than f asked)
-
--- the same without the picture
+-- the first of both findings, or the size of the picture; at the same place that of portable pictures
 abbrev pub joined_outcome : Outcome → Option AskedFinding → NamedOutcome
 joined_outcome (size.Portable width height) None = outcome.Portable width height
 joined_outcome (size.Portable width height) (Some asked) = outcome.Asked asked

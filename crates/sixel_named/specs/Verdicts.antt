@@ -4,13 +4,9 @@ use Rattle.std.specs.Option.{option_map}
 use Rattle.sixel_grammar.specs.declared.command.Event.{Event}
 use Rattle.sixel_grammar.specs.declared.command.Placed.{Placed}
 use Rattle.sixel_grammar.specs.Document.{events_of}
-use Rattle.sixel_model.specs.Pictures.{PictureValue}
 use Rattle.sixel_model.specs.Positions.{HoldsAtPosition}
 use Rattle.sixel_model.specs.Rules.{Breaks, BreaksNone, last_rule, picture_left}
-use Rattle.sixel_model.specs.declared.colour.Parts.{Parts}
 use Rattle.sixel_model.specs.declared.rule.Rule.{Rule}
-use Rattle.sixel_named_terminals.specs.declared.named.Named.{Named}
-use Rattle.sixel_named_terminals.specs.declared.named.Named.TheVariants.{XTerm, MlTerm, Foot, Konsole}
 use Rattle.sixel_judge.specs.Portable.{IsPortable}
 use Rattle.sixel_judge.specs.Verdicts.{IsFinding}
 use Rattle.sixel_judge.specs.declared.verdict.Finding.{Finding}
@@ -18,18 +14,10 @@ use Rattle.sixel_asked.specs.Asked.{BreaksAsked, BreaksNoneAsked, IsFirstAsked, 
 use Rattle.sixel_asked.specs.declared.asking.AskedFinding.{AskedFinding}
 use Rattle.sixel_asked.specs.declared.rule.AskedRule.{AskedRule}
 use Rattle.sixel_asked.specs.declared.terminals.Terminals.{Terminals}
-use Rattle.sixel_field.specs.Laws.{IsShownOn}
 use Rattle.sixel_named.specs.declared.verdict.NamedOutcome.{NamedOutcome}
 use Rattle.sixel_named.specs.declared.verdict.NamedOutcome.TheVariants as outcome
 use Rattle.sixel_named.specs.declared.verdict.NamedVerdict.{NamedVerdict}
 use Rattle.sixel_named.specs.declared.verdict.NamedVerdict.TheVariants.{Portable, Broken, Asked}
-
--- the terminal is one of the set
-abbrev pub IsNamed : Terminals → Named → Type 0
-IsNamed t XTerm = IsTrue t.xterm
-IsNamed t MlTerm = IsTrue t.mlterm
-IsNamed t Foot = IsTrue t.foot
-IsNamed t Konsole = IsTrue t.konsole
 
 -- the finding is the first broken rule of those of portable pictures, its event has position i, and no rule that is
 -- asked for is broken earlier
@@ -53,17 +41,11 @@ IsVerdictOn registers t placed (Portable picture) =
 IsVerdictOn registers t placed (Broken f) = (i : ℕ) × IsFindingOn registers t placed f i
 IsVerdictOn registers t placed (Asked f) = (i : ℕ) × IsAskedOn registers t placed f i
 
--- each terminal of the set shows the picture on each screen of one colour with room
-abbrev pub IsShownOnEach : Terminals → List Event → PictureValue → Type 0
-IsShownOnEach t events p =
-    (named : Named) (background : Parts) (width height : ℕ) → IsNamed t named → p.width ≤ width → p.height ≤ height
-    → IsShownOn named background (width, height) events p
-
--- each terminal of the class with room shows the picture of a verdict, and so does each terminal of the set
-abbrev pub IsRightOn : ℕ → Terminals → List Event → NamedVerdict → Type 0
-IsRightOn registers t events (Portable picture) = IsPortable registers events picture × IsShownOnEach t events picture
-IsRightOn registers t events (Broken f) = Unit {0}
-IsRightOn registers t events (Asked f) = Unit {0}
+-- the picture of a verdict is portable
+abbrev pub IsRightOn : ℕ → List Event → NamedVerdict → Type 0
+IsRightOn registers events (Portable picture) = IsPortable registers events picture
+IsRightOn registers events (Broken f) = Unit {0}
+IsRightOn registers events (Asked f) = Unit {0}
 
 -- what is left of a verdict without the picture: its size, or the finding
 abbrev pub named_outcome_of : NamedVerdict → NamedOutcome

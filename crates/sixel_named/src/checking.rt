@@ -5,20 +5,20 @@ ghost use Rattle.sixel_model.specs.Profiles.{count_of};
 ghost use Rattle.sixel_judge.specs.Growth.{MayGrowIn};
 ghost use Rattle.sixel_check.specs.Checking.{IsWhole};
 ghost use Rattle.sixel_survey.specs.Reads.{ReadsDocument};
-ghost use Rattle.sixel_named.specs.Answers.{AnswersOn, AnswersOutcomeOn};
+ghost use Rattle.sixel_named.specs.Answers.{AnswersOutcomeOn};
 ghost use Rattle.sixel_named.specs.Checking.{HaveTakenAll};
 ghost use Rattle.sixel_named.specs.Laws.{none};
 
-use crate::joining::{join, join_outcome};
-use crate::verdict::{NamedOutcome, NamedVerdict};
+use crate::joining::join_outcome;
+use crate::verdict::NamedOutcome;
 use sixel_asked::{Asking, Terminals};
-use sixel_check::{check_with, outcome_with};
+use sixel_check::outcome_with;
 use sixel_emulator::Both;
 use sixel_grammar::{InputFault, follow_source};
 use sixel_io::{PIECE, Source};
 use sixel_judge::Checker;
 use sixel_model::Profile;
-use sixel_plane::{BandPlane, Cover, CoverPlane};
+use sixel_plane::CoverPlane;
 use std::alloc::Global;
 
 /// Whether there is none.
@@ -30,13 +30,13 @@ pub(crate) fn are_none(terminals: Terminals) -> bool
 
 /// Reads a source to its end. Returns a checker and an asking that have taken the events of the document.
 #[inline(always)]
-fn read_document<S: Source, P: Cover>(
+fn read_document<S: Source>(
     alloc: Global,
     profile: Profile,
     terminals: Terminals,
     input: &mut S,
     piece: &mut [u8; PIECE],
-) -> Result<Both<Checker<P>, Asking>, InputFault>
+) -> Result<Both<Checker<CoverPlane>, Asking>, InputFault>
     ensures reads { ReadsDocument (HaveTakenAll (count_of profile) terminals) (MayGrowIn (count_of profile)) result
         (S.state input.old) (S.state input.new) }
     ensures whole { IfOk result (λ both. IsWhole both.one) }
@@ -49,31 +49,8 @@ fn read_document<S: Source, P: Cover>(
 }
 
 /// Checks the document that the source gives, with the registers of the profile, by the rules of portable pictures and
-/// by those that the terminals ask for. It reads as `sixel_check::check_with` does, takes as much memory, and has the
-/// same faults. Without a terminal it is that check.
-pub fn check_on<S: Source>(
-    alloc: Global,
-    profile: Profile,
-    terminals: Terminals,
-    input: &mut S,
-    piece: &mut [u8; PIECE],
-) -> Result<NamedVerdict, InputFault>
-    ensures { ReadsDocument (AnswersOn (count_of profile) terminals) (MayGrowIn (count_of profile)) result
-        (S.state input.old) (S.state input.new) }
-{
-    if are_none(terminals) {
-        let verdict = check_with(alloc, profile, input, piece)?;
-        return Ok(join(verdict, None));
-    }
-    let both: Both<Checker<BandPlane>, Asking> = read_document(
-        alloc, profile, terminals, input, piece,
-    )?;
-    let asked = both.other.finding();
-    Ok(join(both.one.finish()?, asked))
-}
-
-/// As `check_on`, without the picture: its size, or the first broken rule. What is painted of the box takes a seventh of
-/// the memory.
+/// by those that the terminals ask for: the size of its picture, or the first broken rule. It reads as
+/// `sixel_check::outcome_with` does, takes as much memory, and has the same faults. Without a terminal it is that check.
 pub fn outcome_on<S: Source>(
     alloc: Global,
     profile: Profile,
@@ -88,9 +65,7 @@ pub fn outcome_on<S: Source>(
         let outcome = outcome_with(alloc, profile, input, piece)?;
         return Ok(join_outcome(outcome, None));
     }
-    let both: Both<Checker<CoverPlane>, Asking> = read_document(
-        alloc, profile, terminals, input, piece,
-    )?;
+    let both = read_document(alloc, profile, terminals, input, piece)?;
     let asked = both.other.finding();
     Ok(join_outcome(both.one.outcome(), asked))
 }

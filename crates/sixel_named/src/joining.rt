@@ -1,11 +1,11 @@
 //! What is made of the answer of a checker and that of an asking.
 
 ghost use Rattle.std.specs.Prelude.{◌≡◌};
-ghost use Rattle.sixel_named.specs.Checking.{earlier_than, joined, joined_outcome};
+ghost use Rattle.sixel_named.specs.Checking.{earlier_than, joined_outcome};
 
-use crate::verdict::{NamedOutcome, NamedVerdict};
+use crate::verdict::NamedOutcome;
 use sixel_asked::AskedFinding;
-use sixel_judge::{Finding, Outcome, Verdict};
+use sixel_judge::{Finding, Outcome};
 
 /// The finding of the rules that are asked for, if its place is before that of the other.
 fn asked_before(finding: &Finding, asked: Option<AskedFinding>) -> Option<AskedFinding>
@@ -17,23 +17,7 @@ fn asked_before(finding: &Finding, asked: Option<AskedFinding>) -> Option<AskedF
     }
 }
 
-/// The first of both findings. At the same place it is that of portable pictures.
-pub fn join(verdict: Verdict, asked: Option<AskedFinding>) -> NamedVerdict
-    ensures { result ≡ joined verdict asked }
-{
-    match verdict {
-        Verdict::Portable(picture) => match asked {
-            None => NamedVerdict::Portable(picture),
-            Some(asked) => NamedVerdict::Asked(asked),
-        },
-        Verdict::Broken(finding) => match asked_before(&finding, asked) {
-            None => NamedVerdict::Broken(finding),
-            Some(asked) => NamedVerdict::Asked(asked),
-        },
-    }
-}
-
-/// The same without the picture.
+/// The first of both findings, or the size of the picture. At the same place it is that of portable pictures.
 pub fn join_outcome(outcome: Outcome, asked: Option<AskedFinding>) -> NamedOutcome
     ensures { result ≡ joined_outcome outcome asked }
 {

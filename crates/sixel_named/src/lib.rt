@@ -8,7 +8,7 @@ mod rule;
 mod surveying;
 mod verdict;
 
-pub use checking::{check_on, outcome_on};
+pub use checking::outcome_on;
 pub use rule::{ALL_NAMED_RULES, NAMED_RULE_COUNT, NamedRule};
 pub use surveying::{NamedSurvey, survey_on};
 pub use verdict::{NamedFinding, NamedOutcome, NamedVerdict};

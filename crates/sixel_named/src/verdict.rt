@@ -30,7 +30,8 @@ impl NamedFinding {
     }
 }
 
-/// The picture that a document leaves, or the first rule that it breaks.
+/// The picture that a document leaves, or the first rule that it breaks. The definitions speak of it; what a check answers
+/// is what is left without the picture.
 #[derive(Debug, Drop)]
 pub enum NamedVerdict {
     /// No rule is broken. Every terminal of the class with room for the picture shows it, and so do the named terminals.

@@ -1,1 +1,3 @@
+pub mod RightLemmas
+pub mod ShownLemmas
 pub mod SameLemmas

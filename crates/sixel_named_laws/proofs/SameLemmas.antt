@@ -3,7 +3,7 @@ use Rattle.std.proofs.Common.{◌≡◌, ℕ, ◌+◌, ◌*◌, ◌≤◌, ◌<�
 use Rattle.std.proofs.Common.{replicate, refl, sym, ap, ap₂, subst, ◌∙◌, arith}
 use Rattle.std.specs.Prelude.{IsSome, get_or, nat_lt, slice_get, unwrap_or, if◌then◌else◌}
 use Rattle.std.specs.Option.{option_map_or}
-use Rattle.std.proofs.lemmas.Bool.{and_from, and_parts, cond-false, cond-true, lt-ltb, ltb-true, or_left, or_right}
+use Rattle.std.proofs.lemmas.Bool.{and_from, and_parts, cond-false, cond-true, lt-ltb, ltb-true}
 use Rattle.std.proofs.lemmas.List.{get_or-replicate}
 use Rattle.std.proofs.lemmas.Nat.{mul-add-lt}
 use Rattle.sixel_grammar.specs.declared.command.Event.{Event}
@@ -33,35 +33,27 @@ use Rattle.sixel_judge.specs.Portable.{IsInBoxOn, Shows}
 use Rattle.sixel_judge.proofs.CoverLemmas.{box_there}
 use Rattle.sixel_judge.proofs.OptionLemmas.{some_value}
 use Rattle.sixel_judge.proofs.ShownLemmas.{size_left}
-use Rattle.sixel_asked.specs.Asked.{BreaksNoneAsked, asks, is_asked}
-use Rattle.sixel_asked.specs.declared.rule.AskedRule.{AskedRule}
-use Rattle.sixel_field.specs.Laws.{BreaksNoneOf, IsShownOn}
+use Rattle.sixel_asked.specs.Asked.{BreaksNoneAsked}
+use Rattle.sixel_field.specs.Laws.{IsShownOn}
 use Rattle.sixel_field.proofs.InkLemmas.{inked_painted}
-use Rattle.sixel_field.proofs.KonsoleShownLemmas.{konsole_shows}
-use Rattle.sixel_field.proofs.MlTermShownLemmas.{mlterm_shows}
-use Rattle.sixel_field.proofs.ShownLemmas.{foot_shows}
-use Rattle.sixel_field.proofs.XTermShownLemmas.{xterm_shows}
 use Rattle.sixel_differ.specs.declared.view.View.{View}
 use Rattle.sixel_differ.specs.declared.view.View.TheVariants.{Screen, Unmodelled as Ends}
 use Rattle.sixel_differ.specs.declared.view.Views.{Views}
-use Rattle.sixel_differ.specs.Laws.{AreAllAlike}
+use Rattle.sixel_differ_laws.specs.Laws.{AreAllAlike}
 use Rattle.sixel_differ.specs.Pixels.{colour_at}
 use Rattle.sixel_differ.specs.Views.{AreViews, IsView, Shows as ShowsIn, view_in}
-use Rattle.sixel_differ.proofs.GroupLemmas.{one_group_where_alike}
-use Rattle.sixel_differ.proofs.OnceLemmas.{some_mending}
+use Rattle.sixel_differ_laws.proofs.GroupLemmas.{one_group_where_alike}
+use Rattle.sixel_differ_laws.proofs.OnceLemmas.{some_mending}
 use Rattle.sixel_differ.proofs.ShowingLemmas.{have_sides}
 use Rattle.sixel_named_laws.specs.Laws.{PortableOnAllIsTheSame, all_terminals}
+use Rattle.sixel_named_laws.specs.Shown.{IsNamed, IsShownOnEach}
+use Rattle.sixel_named_laws.proofs.RightLemmas.{shown_on_each}
 
--- ---- the rules of each terminal
-
-is_asked_by : (named : Named) (rule : AskedRule) → asks named rule ≡ true → is_asked all_terminals rule ≡ true
-is_asked_by XTerm rule h = or_left _ _ (or_left _ _ h)
-is_asked_by MlTerm rule h = or_left _ _ (or_right _ _ h)
-is_asked_by Foot rule h = or_right _ _ (or_left _ _ h)
-is_asked_by Konsole rule h = or_right _ _ (or_right _ _ h)
-
-none_of : (named : Named) (events : List Event) → BreaksNoneAsked all_terminals events → BreaksNoneOf named events
-none_of named events none rule asked = none rule (is_asked_by named rule asked)
+is_one : (named : Named) → IsNamed all_terminals named
+is_one XTerm = refl
+is_one MlTerm = refl
+is_one Foot = refl
+is_one Konsole = refl
 
 -- ---- the terminal's screen
 
@@ -211,21 +203,6 @@ room n background bytes v are none =
       down = omega (arith, high, size.1, are.banded.enough);
     }
 
-shown_on_each : (n : ℕ) (background : Parts) (v : Views) (events : List Event) (named : Named) → n ≤ 256
-    → AreWhole events → BreaksNone n last_rule events → BreaksNoneAsked all_terminals events
-    → HasRoomIn (picture_left n events) v
-    → IsShownOn named background (v.width, v.height) events (picture_left n events)
-shown_on_each n background v events XTerm few whole none asked fits =
-    xterm_shows n few background v.width v.height events whole none (none_of XTerm events asked) fits.across fits.down
-shown_on_each n background v events MlTerm few whole none asked fits =
-    mlterm_shows n few background v.width v.height events whole none (none_of MlTerm events asked) fits.across fits.down
-shown_on_each n background v events Foot few whole none asked fits =
-    foot_shows n (omega (arith, few)) background v.width v.height events whole none (none_of Foot events asked)
-    fits.across fits.down
-shown_on_each n background v events Konsole few whole none asked fits =
-    konsole_shows n few background v.width v.height events whole none (none_of Konsole events asked) fits.across
-    fits.down
-
 each_screen : (n : ℕ) (background : Parts) (bytes : List ℕ) (v : Views) (are : AreViews background bytes v)
     (named : Named)
     → IsShownOn named background (v.width, v.height) (events_of are.placed) (picture_left n (events_of are.placed))
@@ -262,9 +239,11 @@ of_views : (n : ℕ) (background : Parts) (bytes : List ℕ) (v : Views) (are : 
     → AreAllAlike v
 of_views n background bytes v are few none asked =
     let fits : HasRoomIn (picture_left n (events_of are.placed)) v = room n background bytes v are none in
+    let shown : IsShownOnEach all_terminals (events_of are.placed) (picture_left n (events_of are.placed)) =
+    shown_on_each n all_terminals (events_of are.placed) _ few (document_whole are.placed bytes are.document) none asked
+    refl in
     all_alike n background bytes v are (λ named.
-    shown_on_each n background v (events_of are.placed) named few (document_whole are.placed bytes are.document) none
-    asked fits)
+    shown named background v.width v.height (is_one named) fits.across fits.down)
 
 pub portable_on_all : (n : ℕ) → n ≤ 256 → PortableOnAllIsTheSame n
 portable_on_all n few background placed bytes v c document none asked are is =

@@ -1,6 +1,0 @@
-use Rattle.sixel_model.specs.Profiles.{count_of}
-use Rattle.sixel_check.proofs.ExactLemmas as exact
-use Rattle.sixel_check.proofs.laws.coordinates_are_exact.Goals as goal
-
-pub returns : goal.returns
-returns c = λ profile. exact.coordinates_are_exact (count_of profile)

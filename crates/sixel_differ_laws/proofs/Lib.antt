@@ -1,0 +1,4 @@
+pub mod GroupLemmas
+pub mod OnceLemmas
+pub mod SomeLemmas
+pub mod AnswerLemmas
