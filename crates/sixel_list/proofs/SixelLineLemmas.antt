@@ -10,7 +10,7 @@ use Rattle.std.proofs.lemmas.List.{append-nil, drop-take, drop_at, length-take-l
 use Rattle.itoa.proofs.Decimal.{decimal_pair, decimal_two}
 use Rattle.sixel_grammar.specs.declared.command.Command.TheVariants.{Sixel}
 use Rattle.sixel_grammar.specs.declared.command.Event.TheVariants.{Step}
-use Rattle.sixel_list.specs.SixelLines.{HasTail, tail_of, two_digits}
+use Rattle.sixel_list.specs.SixelTexts.{HasTail, tail_of, two_digits}
 use Rattle.sixel_report.specs.Texts.{command_parts, event_line, line, numbers, spaced}
 
 -- digits that end at `end`, with more after them

@@ -1,3 +1,4 @@
+pub mod SixelTexts
 pub mod SixelLines
 pub mod Outputs
 pub mod Listings

@@ -1,21 +1,8 @@
--- The lines that the program writes.
-use Rattle.std.specs.Prelude.{◌≡◌, ℕ, [], ◌∷◌, ◌++◌, ◌+◌, ◌*◌, ◌/◌, ◌%◌, if◌then◌else◌, length, take, slice_range}
-use Rattle.sixel_grammar.specs.declared.command.Command.TheVariants.{Sixel}
+-- The lines of sixels, selects and repeats, of which the digits of the offset's hundreds are kept from one to the next.
+use Rattle.std.specs.Prelude.{slice_range, take}
 use Rattle.sixel_list.specs.declared.sixel_line.SixelLine.{SixelLine}
 use Rattle.sixel_list.specs.declared.sixel_line.SixelLines.{SixelLines}
-use Rattle.sixel_report.specs.Texts.{Text, command_parts, spaced}
-
--- a number below 100 in two decimal digits
-abbrev pub two_digits : ℕ → Text
-two_digits n = (48 + n / 10) ∷ (48 + n % 10) ∷ []
-
--- what follows the offset in the line of a sixel
-abbrev pub tail_of : ℕ → Text
-tail_of bits = spaced (command_parts (Sixel bits)) ++ 10 ∷ []
-
--- from byte 16 * bits on the text has the tail of these bits
-abbrev pub HasTail : Text → ℕ → Type 0
-HasTail text bits = take (16 * bits + length (tail_of bits)) text ≡ take (16 * bits) text ++ tail_of bits
+use Rattle.sixel_report.specs.Texts.{Text}
 
 -- the line that was made last
 abbrev pub text_of : SixelLine → Text

@@ -8,7 +8,7 @@ ghost use Rattle.sixel_grammar.specs.Document.{most_bytes};
 ghost use Rattle.sixel_grammar.specs.Stretches.{sixels_from};
 ghost use Rattle.sixel_grammar.specs.declared.command.Command.TheVariants.{Repeat, Select, Sixel};
 ghost use Rattle.sixel_grammar.specs.declared.command.Event.TheVariants.{Step};
-ghost use Rattle.sixel_list.specs.SixelLines.{HasTail, tail_of, two_digits};
+ghost use Rattle.sixel_list.specs.SixelTexts.{HasTail, tail_of, two_digits};
 ghost use Rattle.sixel_report.specs.Texts.{event_line, list_text};
 ghost use Rattle.sixel_list.specs.declared.sixel_line.TheConstants.{LAST, MOST_TEXT, ROOM, SIXELS};
 

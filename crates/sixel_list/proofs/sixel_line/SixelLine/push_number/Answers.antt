@@ -1,7 +1,8 @@
 use Rattle.std.proofs.Common.{◌∙◌, ◌++◌, ◌+◌, ◌/◌, ◌%◌, ◌∷◌, [], List, ℕ, ap, append_assoc, sym}
 use Rattle.std.proofs.lemmas.Fmt.{decimal_digit}
 use Rattle.itoa.proofs.Decimal.{decimal_two}
-use Rattle.sixel_list.specs.SixelLines.{text_of, two_digits}
+use Rattle.sixel_list.specs.SixelLines.{text_of}
+use Rattle.sixel_list.specs.SixelTexts.{two_digits}
 use Rattle.sixel_list.proofs.SixelLineLemmas.{decimal_three}
 use Rattle.sixel_list.proofs.sixel_line.SixelLine.push_number.Goals as goal
 

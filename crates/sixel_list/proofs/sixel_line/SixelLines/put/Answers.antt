@@ -1,5 +1,5 @@
 use Rattle.std.proofs.Common.{◌∙◌, ◌∷◌, ◌+◌, ◌++◌, [], List, ℕ, ap, arith, take}
-use Rattle.sixel_list.specs.SixelLines.{tail_of}
+use Rattle.sixel_list.specs.SixelTexts.{tail_of}
 use Rattle.sixel_list.proofs.SixelLineLemmas.{sixel-joined, two-put}
 use Rattle.sixel_list.proofs.sixel_line.SixelLines.put.Goals as goal
 

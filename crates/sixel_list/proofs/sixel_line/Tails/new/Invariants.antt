@@ -1,5 +1,5 @@
 use Rattle.std.proofs.Common.{◌≡◌, ◌<◌, ℕ, length}
-use Rattle.sixel_list.specs.SixelLines.{HasTail}
+use Rattle.sixel_list.specs.SixelTexts.{HasTail}
 use Rattle.sixel_list.proofs.sixel_line.Tails.new.Given as goal
 
 abbrev pub invariant-loop-bits : goal.invariant-loop-bits
