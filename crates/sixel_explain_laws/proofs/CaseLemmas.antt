@@ -1,5 +1,5 @@
 -- A name in any case of letters.
-use Rattle.std.proofs.Common.{◌≡◌, ◌∙◌, ◌∷◌, [], Some, ap, append-nil}
+use Rattle.std.proofs.Common.{◌≡◌, ◌∙◌, ◌∷◌, [], Some, ap, append-nil, refl}
 use Rattle.std.specs.Str.{str_to_ascii_lowercase}
 use Rattle.std.proofs.lemmas.List.Elements.{All-contains}
 use Rattle.sixel_explain.specs.declared.explanations.Topic.{Topic}

@@ -31,7 +31,8 @@ use Rattle.sixel_report.proofs.DigitLemmas.{AreDigits, number, number_digits}
 use Rattle.sixel_explain.specs.declared.explanations.Topic.{Topic}
 use Rattle.sixel_explain.specs.declared.explanations.Topic.TheVariants as topic
 use Rattle.sixel_explain.specs.Explanations.{ends_in, is_line, is_mark, last_name, line_of, listed, listed_names}
-use Rattle.sixel_explain.specs.Explanations.{name_called, names_in, topic_name, topic_of, topic_of_end, words_of}
+use Rattle.sixel_explain.specs.Explanations.{name_called, name_in, names_in, topic_name, topic_of, topic_of_end}
+use Rattle.sixel_explain.specs.Explanations.{words_of}
 use Rattle.sixel_explain.proofs.LineLemmas.{by_end, by_word, last_of_both, no_name}
 use Rattle.sixel_explain_laws.specs.Laws.{ArePasted}
 use Rattle.sixel_explain.proofs.NameLemmas.{each, name_listed}

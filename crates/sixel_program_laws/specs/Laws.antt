@@ -15,7 +15,8 @@ use Rattle.sixel_report.specs.declared.item.Item.{Item}
 use Rattle.sixel_report.specs.declared.item.Item.TheVariants.{Asked, AskedEntry, Outcome, Entry, Group, Same, String}
 use Rattle.sixel_report.specs.declared.item.Item.TheVariants.{Unmodelled}
 use Rattle.sixel_report.specs.Texts.{Text}
-use Rattle.sixel_io.specs.Devices.{Appends, Change, SinkState}
+use Rattle.std.specs.Io.KnownBytes.{Appends}
+use Rattle.sixel_io.specs.Devices.{Change, SinkState}
 use Rattle.sixel_messages.specs.Json.{Member}
 
 -- ---- reading back
