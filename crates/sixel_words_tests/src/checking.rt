@@ -1,6 +1,6 @@
 //! What `check` and `survey` are asked for: the files, the terminals of `--on`, and hints.
 
-use crate::words::{ALL, FAILED, JSON, QUIET, QUIET_JSON, asks, refuses, says};
+use crate::words::{ALL, FAILED, JSON, QUIET, QUIET_JSON, asks, says};
 use std::test::Fail;
 
 pub const CHECK: &str = "Check { profile: Registers16, \
@@ -112,43 +112,6 @@ fn names_the_terminals(rt: HostRuntime) -> Result<(), Fail> {
             "{line}"
         );
     }
-    Ok(())
-}
-
-/// Only the four names in small letters, or `all` by itself.
-#[test]
-fn refuses_other_terminals(rt: HostRuntime) -> Result<(), Fail> {
-    for name in ["check", "survey"] {
-        for value in [
-            "kitty",
-            "XTerm",
-            "All",
-            "",
-            ",",
-            "xterm,",
-            ",foot",
-            "xterm,,foot",
-            "all,foot",
-            "foot,all",
-            "all,",
-            "xterm,kitty",
-            "xterm;foot",
-        ] {
-            let line = format!(in rt.alloc(); "sixel {name} --wide --on={value} a")?;
-            let text = format!(in rt.alloc();
-                "usage error: invalid value '{value}' for '--on <NAMES>'
-  [possible values: xterm, mlterm, foot, konsole with commas between them, or all]
-
-Usage: sixel {name} [OPTIONS] [FILE]..."
-            )?;
-            assert!(rt; refuses(&rt, line.as_str(), text.as_str())?, "{line}");
-        }
-    }
-    let again = "usage error: invalid value 'kitty' for '--on <NAMES>'
-  [possible values: xterm, mlterm, foot, konsole with commas between them, or all]
-
-Usage: sixel check [OPTIONS] [FILE]...";
-    assert!(rt; refuses(&rt, "sixel check --on xterm --on kitty", again)?);
     Ok(())
 }
 

@@ -1,6 +1,6 @@
 //! What `explain` is asked for.
 
-use crate::words::{refuses, says};
+use crate::words::says;
 use std::test::Fail;
 
 /// A name, in any case of letters, or a line that contains one.
@@ -128,73 +128,6 @@ fn asks_for_several_explanations(rt: HostRuntime) -> Result<(), Fail> {
     ];
     for (line, asked) in rows {
         assert!(rt; says(&rt, line, asked)?, "{line}");
-    }
-    Ok(())
-}
-
-/// The first word that is no name is said, with a tip if it is like a name.
-#[test]
-fn refuses_unknown_names(rt: HostRuntime) -> Result<(), Fail> {
-    let usage = "Usage: sixel explain [NAME]...";
-    for (line, word, similar) in [
-        ("sixel explain Rato", "Rato", "Ratio"),
-        ("sixel explain uncoverd", "uncoverd", "Uncovered"),
-        ("sixel explain ColorValue", "ColorValue", "ColourValue"),
-        ("sixel explain tooonlg", "tooonlg", "TooLong"),
-        ("sixel explain Ratio: 3", "Ratio:", "Ratio"),
-        ("sixel explain Ratio Rato", "Rato", "Ratio"),
-        ("sixel explain Rato Ratio", "Rato", "Ratio"),
-        ("sixel explain droped", "droped", "Dropped"),
-        ("sixel explain Ratio plot Uncovered", "plot", "Past"),
-    ] {
-        let text = format!(in rt.alloc();
-            "usage error: no rule or refusal has the name '{word}'; 'sixel explain' lists the names\n\n  \
-            tip: a similar name exists: '{similar}'\n\n{usage}"
-        )?;
-        assert!(rt; refuses(&rt, line, text.as_str())?, "{line}");
-    }
-    for (line, word) in [
-        ("sixel explain picture", "picture"),
-        ("sixel explain portable 70 46", "portable"),
-        ("sixel explain Ratio plotted Uncovered", "plotted"),
-        ("sixel explain Ratio  Uncovered", ""),
-        ("sixel explain plot.six Ratio", "plot.six"),
-    ] {
-        let text = format!(in rt.alloc();
-            "usage error: no rule or refusal has the name '{word}'; 'sixel explain' lists the names\n\n{usage}"
-        )?;
-        assert!(rt; refuses(&rt, line, text.as_str())?, "{line}");
-    }
-    Ok(())
-}
-
-#[test]
-fn shows_the_name_of_explain(rt: HostRuntime) -> Result<(), Fail> {
-    let explain = "help Explains rules and refusals by their names, or lists all names
-
-Usage: sixel explain [NAME]...
-
-Arguments:
-  [NAME]...  A name such as Uncovered or FieldCount, or a line that contains one
-
-Options:
-  -h, --help     Print help
-  -V, --version  Print version
-
-Reads nothing. Writes to standard output what each rule or refusal means, what
-breaks it and how to fix it; without NAME, one line for each name. Letters may
-be in any case. In place of names there may be a line of check that has broken,
-or one that says why an input was refused; put -- before a line that starts with
-a dash.
-
-Exit status: 0 done, 2 output failed, 3 usage error or unknown name.
-
-Examples: sixel explain Uncovered
-          sixel explain Ratio BoxSize
-          sixel explain plot.six: broken Register 227
-";
-    for line in ["sixel explain --help", "sixel help explain"] {
-        assert!(rt; says(&rt, line, explain)?, "{line}");
     }
     Ok(())
 }

@@ -1,6 +1,6 @@
 //! Backgrounds of `mend`.
 
-use crate::words::{ALL, asks, refuses};
+use crate::words::{ALL, asks};
 use std::alloc::AllocError;
 use std::test::Fail;
 
@@ -96,45 +96,5 @@ fn names_the_background(rt: HostRuntime) -> Result<(), Fail> {
         asks(&rt, "sixel mend a", task.as_str(), ALL, "[\"a\"]")?,
         "a file"
     );
-    Ok(())
-}
-
-/// A background is three percentages of one to three digits each, or `#` and three samples of two hexadecimal digits.
-#[test]
-fn refuses_other_backgrounds(rt: HostRuntime) -> Result<(), Fail> {
-    for value in [
-        "0,0,101",
-        "101,0,0",
-        "0,256,0",
-        "0,0",
-        "0,0,0,0",
-        "0",
-        "",
-        ",,",
-        "0,,0",
-        "0000,0,0",
-        "+1,0,0",
-        "0,0,-1",
-        "1.5,0,0",
-        "0;0;0",
-        "red",
-        "0,0,0,",
-        "#",
-        "#fff",
-        "#ff80000",
-        "#ff800",
-        "#gg0000",
-        "#+f0000",
-        "ff8000",
-        "#ff,80,00",
-        "##ff800",
-    ] {
-        let line = format!(in rt.alloc(); "sixel mend --background={value}")?;
-        let text = format!(in rt.alloc();
-            "usage error: invalid value '{value}' for '--background <COLOUR>': \
-            expected three percentages, as in 100,50,0, or samples, as in '#ff8000'\n\nUsage: sixel mend [OPTIONS] [FILE]"
-        )?;
-        assert!(rt; refuses(&rt, line.as_str(), text.as_str())?, "{line}");
-    }
     Ok(())
 }

@@ -56,7 +56,7 @@ fn unread(alloc: Global) -> Result<WordsFault, Fail> {
 }
 
 /// The help of `list`.
-pub(crate) const LIST_HELP: &str = "Lists the commands of the picture, one per line
+const LIST_HELP: &str = "Lists the commands of the picture, one per line
 
 Usage: sixel list [FILE]
 
