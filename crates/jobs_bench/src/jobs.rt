@@ -7,7 +7,7 @@ use crate::pixels::Content;
 use crate::session::{Files, Session};
 use crate::stock::{Form, Stock, ppm, put_picture};
 use crate::styles::Style;
-use sixel_asked::Terminals;
+use sixel_emulator_rules::Terminals;
 use sixel_model::{Colour, Profile};
 use sixel_report::Task;
 use std::alloc::{AllocError, Global};

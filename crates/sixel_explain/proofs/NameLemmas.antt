@@ -3,7 +3,7 @@ use Rattle.std.proofs.Common.{◌≡◌, ◌∷◌, List, [], arith, map, refl}
 use Rattle.std.specs.Prelude.{Contains}
 use Rattle.std.specs.List.{All}
 use Rattle.std.proofs.lemmas.List.Elements.{All-cons, All-nil}
-use Rattle.sixel_asked.specs.declared.rule.AskedRule.TheVariants as asked
+use Rattle.sixel_emulator_rules.specs.declared.rule.AskedRule.TheVariants as asked
 use Rattle.sixel_model.specs.declared.rule.Rule.TheVariants as rule
 use Rattle.sixel_grammar.specs.declared.fault.Reason.TheVariants as reason
 use Rattle.sixel_ppm.specs.declared.ppm.PpmReason.TheVariants as ppm

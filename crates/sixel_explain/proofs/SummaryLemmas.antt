@@ -2,7 +2,7 @@
 use Rattle.std.proofs.Common.{◌≡◌, ◌∙◌, ◌++◌, ◌==◌, ◌≤◌, ap, arith, drop, length, refl, subst, sym, take-append-drop}
 use Rattle.std.specs.Io.{StartsWith}
 use Rattle.std.specs.List.{after_first, before_first}
-use Rattle.sixel_asked.specs.declared.rule.AskedRule.TheVariants as asked
+use Rattle.sixel_emulator_rules.specs.declared.rule.AskedRule.TheVariants as asked
 use Rattle.sixel_grammar.specs.declared.fault.Reason.TheVariants as reason
 use Rattle.sixel_model.specs.declared.rule.Rule.TheVariants as rule
 use Rattle.sixel_ppm.specs.declared.ppm.PpmReason.TheVariants as ppm

@@ -3,12 +3,12 @@
 ghost use Rattle.std.specs.Prelude.{◌≡◌, IfSome, IsNone};
 ghost use Rattle.std.specs.Io.{StartsWith};
 ghost use Rattle.std.specs.Str.{str_to_ascii_lowercase};
-ghost use Rattle.sixel_asked.specs.Names.{name_of};
-ghost use Rattle.sixel_asked.specs.declared.rule.AskedRule.{AskedRule as AnAskedRule};
+ghost use Rattle.sixel_emulator_rules.specs.Names.{name_of};
+ghost use Rattle.sixel_emulator_rules.specs.declared.rule.AskedRule.{AskedRule as AnAskedRule};
 ghost use Rattle.sixel_explain.specs.declared.explanations.Topic.TheVariants as topic;
 ghost use Rattle.sixel_explain.specs.Explanations.{first_line};
 
-use sixel_asked::AskedRule;
+use sixel_emulator_rules::AskedRule;
 
 /// The rule whose name this is in small letters.
 pub fn asked_rule_named(name: &str) -> Option<AskedRule>

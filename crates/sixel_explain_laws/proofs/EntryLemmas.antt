@@ -3,8 +3,8 @@ use Rattle.std.proofs.Common.{◌≡◌, ◌∙◌, ◌∷◌, ◌++◌, ◌⊎�
 use Rattle.std.proofs.lemmas.List.{map-append}
 use Rattle.std.specs.Prelude.{decimal}
 use Rattle.std.specs.Char.{to_ascii_lowercase}
-use Rattle.sixel_asked.specs.Names.{name_of}
-use Rattle.sixel_asked.specs.declared.tally.AskedEntry.{AskedEntry}
+use Rattle.sixel_emulator_rules.specs.Names.{name_of}
+use Rattle.sixel_emulator_rules.specs.declared.tally.AskedEntry.{AskedEntry}
 use Rattle.sixel_survey.specs.declared.entry.Entry.{Entry}
 use Rattle.sixel_report.specs.Texts.{Text, asked_entry_line, entry_line, line, pixel_parts, rule_name, spaced}
 use Rattle.sixel_explain.specs.declared.explanations.Topic.{Topic}

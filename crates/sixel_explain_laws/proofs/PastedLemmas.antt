@@ -17,8 +17,8 @@ use Rattle.std.proofs.lemmas.List.Folds.{list_any-append}
 use Rattle.std.proofs.lemmas.List.Elements.{All-contains}
 use Rattle.std.proofs.lemmas.List.Splits.{slice_split-cons_no}
 use Rattle.std.proofs.lemmas.Slice.Eq.{ends_is}
-use Rattle.sixel_asked.specs.Names.{name_of}
-use Rattle.sixel_asked.specs.declared.asking.AskedFinding.{AskedFinding}
+use Rattle.sixel_emulator_rules.specs.Names.{name_of}
+use Rattle.sixel_emulator_rules.specs.declared.asking.AskedFinding.{AskedFinding}
 use Rattle.sixel_model.specs.declared.rule.Rule.{Rule as ARule}
 use Rattle.sixel_model.specs.declared.rule.Rule.TheVariants as rule
 use Rattle.sixel_judge.specs.declared.verdict.Finding.{Finding}

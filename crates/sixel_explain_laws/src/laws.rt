@@ -2,8 +2,8 @@
 
 ghost use Rattle.std.specs.Prelude.{◌≡◌, ◌∷◌, [], Contains, Some, List, Option};
 ghost use Rattle.std.specs.Str.{str_to_ascii_lowercase};
-ghost use Rattle.sixel_asked.specs.Names.{name_of};
-ghost use Rattle.sixel_asked.specs.declared.rule.AskedRule.{AskedRule};
+ghost use Rattle.sixel_emulator_rules.specs.Names.{name_of};
+ghost use Rattle.sixel_emulator_rules.specs.declared.rule.AskedRule.{AskedRule};
 ghost use Rattle.sixel_model.specs.declared.rule.Rule.{Rule};
 ghost use Rattle.sixel_explain.specs.declared.explanations.Topic.{Topic};
 ghost use Rattle.sixel_report.specs.declared.fault.RunFault.{RunFault};
@@ -21,8 +21,8 @@ ghost use Rattle.sixel_messages.specs.Formats.{empty_line};
 ghost use Rattle.sixel_messages.specs.Names.{unopened_line};
 ghost use Rattle.sixel_scan.specs.declared.answer.Answer.TheVariants.{Broken, Refused};
 ghost use Rattle.sixel_survey.specs.declared.entry.Entry.{Entry};
-ghost use Rattle.sixel_asked.specs.declared.asking.AskedFinding.{AskedFinding};
-ghost use Rattle.sixel_asked.specs.declared.tally.AskedEntry.{AskedEntry};
+ghost use Rattle.sixel_emulator_rules.specs.declared.asking.AskedFinding.{AskedFinding};
+ghost use Rattle.sixel_emulator_rules.specs.declared.tally.AskedEntry.{AskedEntry};
 ghost use Rattle.sixel_explain_laws.specs.Laws.{ArePasted};
 
 /// `explain` lists the name of each rule, also of those that named terminals ask for, and of each fault of a run.

@@ -13,10 +13,10 @@ use Rattle.std.proofs.lemmas.Map.Keys.{IsDistinct-push}
 use Rattle.std.proofs.lemmas.Map.Made.{length-le_from_is_member}
 use Rattle.sixel_grammar.specs.declared.fault.Reason.TheVariants as reason
 use Rattle.sixel_model.specs.declared.rule.Rule.TheVariants as rule
-use Rattle.sixel_asked.specs.declared.rule.AskedRule.TheVariants as asked
-use Rattle.sixel_asked.specs.declared.terminals.Terminals.{Terminals}
-use Rattle.sixel_named.specs.declared.rule.NamedRule.{NamedRule}
-use Rattle.sixel_named.specs.declared.rule.NamedRule.TheVariants.{Portable, Asked}
+use Rattle.sixel_emulator_rules.specs.declared.rule.AskedRule.TheVariants as asked
+use Rattle.sixel_emulator_rules.specs.declared.terminals.Terminals.{Terminals}
+use Rattle.sixel_emulator_check.specs.declared.rule.NamedRule.{NamedRule}
+use Rattle.sixel_emulator_check.specs.declared.rule.NamedRule.TheVariants.{Portable, Asked}
 use Rattle.sixel_messages.specs.declared.hints.Cause.{Cause}
 use Rattle.sixel_messages.specs.declared.hints.Cause.TheVariants.{Refusal, Rule}
 use Rattle.sixel_io.specs.Devices.{SinkState, change}
@@ -31,8 +31,8 @@ use Rattle.sixel_report.specs.declared.fault.RunFault.{RunFault}
 use Rattle.sixel_report.specs.declared.rule_set.RuleSet.{RuleSet}
 use Rattle.sixel_report.specs.declared.task.Status.{Status}
 use Rattle.sixel_report.specs.declared.task.Status.TheVariants.{Surveyed}
-use Rattle.sixel_named.specs.declared.verdict.NamedFinding.{NamedFinding}
-use Rattle.sixel_named.specs.Rules.{rule_of}
+use Rattle.sixel_emulator_check.specs.declared.verdict.NamedFinding.{NamedFinding}
+use Rattle.sixel_emulator_check.specs.Rules.{rule_of}
 use Rattle.sixel_messages.specs.Hints.{cause_name, causes_in, hints_of, is_same, with_cause, with_causes}
 use Rattle.sixel_messages.proofs.PutsLemmas.{one_put, put_then}
 

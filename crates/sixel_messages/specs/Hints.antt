@@ -9,8 +9,8 @@ use Rattle.sixel_messages.specs.declared.shown.Shown.{Shown}
 use Rattle.sixel_model.specs.declared.profile.Profile.{Profile}
 use Rattle.sixel_model.specs.declared.profile.Profile.TheVariants.{Registers16}
 use Rattle.sixel_model.specs.declared.rule.Rule.TheVariants as rule
-use Rattle.sixel_named.specs.Rules.{rule_of}
-use Rattle.sixel_named.specs.declared.rule.NamedRule.TheVariants.{Portable, Asked}
+use Rattle.sixel_emulator_check.specs.Rules.{rule_of}
+use Rattle.sixel_emulator_check.specs.declared.rule.NamedRule.TheVariants.{Portable, Asked}
 use Rattle.sixel_messages.specs.declared.hints.Cause.{Cause}
 use Rattle.sixel_messages.specs.declared.hints.Cause.TheVariants.{Rule, Refusal}
 use Rattle.sixel_report.specs.declared.fault.RunFault.{RunFault}

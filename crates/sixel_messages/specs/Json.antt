@@ -8,11 +8,11 @@ use Rattle.sixel_model.specs.declared.rule.Rule.TheVariants as rule
 use Rattle.sixel_judge.specs.declared.verdict.Finding.{Finding}
 use Rattle.sixel_judge.specs.declared.verdict.Outcome.{Outcome as AnOutcome}
 use Rattle.sixel_judge.specs.declared.verdict.Outcome.TheVariants as outcome
-use Rattle.sixel_asked.specs.declared.asking.AskedFinding.{AskedFinding}
-use Rattle.sixel_asked.specs.declared.rule.AskedRule.{AskedRule}
-use Rattle.sixel_asked.specs.declared.tally.AskedEntry.{AskedEntry as AnAskedEntry}
-use Rattle.sixel_named.specs.declared.rule.NamedRule.{NamedRule}
-use Rattle.sixel_named.specs.declared.rule.NamedRule.TheVariants as named
+use Rattle.sixel_emulator_rules.specs.declared.asking.AskedFinding.{AskedFinding}
+use Rattle.sixel_emulator_rules.specs.declared.rule.AskedRule.{AskedRule}
+use Rattle.sixel_emulator_rules.specs.declared.tally.AskedEntry.{AskedEntry as AnAskedEntry}
+use Rattle.sixel_emulator_check.specs.declared.rule.NamedRule.{NamedRule}
+use Rattle.sixel_emulator_check.specs.declared.rule.NamedRule.TheVariants as named
 use Rattle.sixel_survey.specs.declared.entry.Entry.{Entry as AnEntry}
 use Rattle.sixel_scan.specs.declared.answer.Answer.{Answer}
 use Rattle.sixel_scan.specs.declared.answer.Answer.TheVariants.{Portable, Broken, Refused}

@@ -12,10 +12,10 @@ ghost use Rattle.sixel_messages.specs.declared.hints.Cause.TheVariants.{Rule as 
 
 use crate::shown::Shown;
 use arrayvec::ArrayVec;
+use sixel_emulator_check::{ALL_NAMED_RULES, NamedRule};
 use sixel_grammar::Reason;
 use sixel_io::{Sink, put_all};
 use sixel_model::{Profile, Rule};
-use sixel_named::{ALL_NAMED_RULES, NamedRule};
 use sixel_report::{
     Lines, RuleSet, RunFault, Status, Task, is_quiet, named_rule_name, reason_name,
 };

@@ -11,9 +11,9 @@ use Rattle.sixel_model.specs.declared.rule.Rule.TheVariants as rule
 use Rattle.sixel_judge.specs.declared.verdict.Outcome.{Outcome}
 use Rattle.sixel_judge.specs.declared.verdict.Outcome.TheVariants.{Portable, Broken}
 use Rattle.sixel_survey.specs.declared.entry.Entry.{Entry}
-use Rattle.sixel_asked.specs.Names.{name_of}
-use Rattle.sixel_asked.specs.declared.rule.AskedRule.{AskedRule}
-use Rattle.sixel_asked.specs.declared.rule.AskedRule.TheVariants as asked
+use Rattle.sixel_emulator_rules.specs.Names.{name_of}
+use Rattle.sixel_emulator_rules.specs.declared.rule.AskedRule.{AskedRule}
+use Rattle.sixel_emulator_rules.specs.declared.rule.AskedRule.TheVariants as asked
 use Rattle.sixel_scan.specs.declared.answer.Answer.{Answer}
 use Rattle.sixel_scan.specs.declared.answer.Answer.TheVariants as scanned
 use Rattle.sixel_named_terminals.specs.declared.named.Named.{Named}

@@ -3,7 +3,7 @@
 ghost use Rattle.sixel_report.specs.Outputs.{HasSides};
 
 use crate::memory_folder::MemoryFolder;
-use sixel_asked::Terminals as NamedTerminals;
+use sixel_emulator_rules::Terminals as NamedTerminals;
 use sixel_io::{FromRead, ToWrite};
 use sixel_model::{Colour, Profile};
 use sixel_named_terminals::Named;

@@ -6,8 +6,8 @@ use Rattle.std.specs.Option.{option_map_or}
 use Rattle.std.proofs.lemmas.Bool.{and_from, and_parts, eq-eqb, eqb-true, lt-ltb, ltb-true, or_cases, or_left, or_right}
 use Rattle.std.proofs.lemmas.List.{take_more}
 use Rattle.std.proofs.lemmas.List.Elements.{All-nil, All-push, All-weaker, Contains-append_left, Contains-push}
-use Rattle.sixel_asked.specs.Asked.{number_of}
-use Rattle.sixel_asked.specs.declared.tally.AskedEntry.{AskedEntry}
+use Rattle.sixel_emulator_rules.specs.Asked.{number_of}
+use Rattle.sixel_emulator_rules.specs.declared.tally.AskedEntry.{AskedEntry}
 use Rattle.sixel_report.specs.Firsts.{IsFirstAskedEntry, asked_before}
 
 -- the first of the entries, if there are any

@@ -6,14 +6,14 @@ use Rattle.sixel_model.specs.declared.rule.Rule.{Rule}
 use Rattle.sixel_model.specs.declared.rule.Rule.TheVariants.{RasterFirst}
 use Rattle.sixel_model.specs.Rules.{number_of}
 use Rattle.sixel_model.proofs.RuleLemmas.{at_most_last}
-use Rattle.sixel_asked.specs.Asked as asked
-use Rattle.sixel_asked.specs.declared.rule.AskedRule.{AskedRule}
-use Rattle.sixel_asked.specs.declared.rule.AskedRule.TheVariants.{RasterLate}
-use Rattle.sixel_asked.specs.declared.tally.AskedEntry.{AskedEntry}
-use Rattle.sixel_asked.proofs.FirstLemmas.{at_least}
-use Rattle.sixel_named.specs.Rules.{all_named_rules, number_of_named}
-use Rattle.sixel_named.specs.declared.rule.NamedRule.{NamedRule}
-use Rattle.sixel_named.specs.declared.rule.NamedRule.TheVariants.{Portable, Asked}
+use Rattle.sixel_emulator_rules.specs.Asked as asked
+use Rattle.sixel_emulator_rules.specs.declared.rule.AskedRule.{AskedRule}
+use Rattle.sixel_emulator_rules.specs.declared.rule.AskedRule.TheVariants.{RasterLate}
+use Rattle.sixel_emulator_rules.specs.declared.tally.AskedEntry.{AskedEntry}
+use Rattle.sixel_emulator_rules.proofs.FirstLemmas.{at_least}
+use Rattle.sixel_emulator_check.specs.Rules.{all_named_rules, number_of_named}
+use Rattle.sixel_emulator_check.specs.declared.rule.NamedRule.{NamedRule}
+use Rattle.sixel_emulator_check.specs.declared.rule.NamedRule.TheVariants.{Portable, Asked}
 use Rattle.sixel_report.specs.declared.rule_set.RuleSet.{RuleSet}
 use Rattle.sixel_report.specs.RuleSets.{is_listed, rules_of, rules_where, with_rule}
 use Rattle.sixel_survey.specs.declared.entry.Entry.{Entry}

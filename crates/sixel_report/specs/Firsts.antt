@@ -1,9 +1,9 @@
 -- The first of the entries of a survey. Only contracts of private functions cite these.
 use Rattle.std.specs.Prelude.{◌≡◌, ◌==◌, ◌&&◌, ◌||◌, ◌≤◌, Bool, List, All, Contains, nat_lt}
-use Rattle.sixel_asked.specs.Asked.{number_of}
-use Rattle.sixel_asked.specs.declared.tally.AskedEntry.{AskedEntry}
-use Rattle.sixel_named.specs.declared.verdict.NamedFinding.{NamedFinding}
-use Rattle.sixel_named.specs.declared.verdict.NamedFinding.TheVariants.{Asked}
+use Rattle.sixel_emulator_rules.specs.Asked.{number_of}
+use Rattle.sixel_emulator_rules.specs.declared.tally.AskedEntry.{AskedEntry}
+use Rattle.sixel_emulator_check.specs.declared.verdict.NamedFinding.{NamedFinding}
+use Rattle.sixel_emulator_check.specs.declared.verdict.NamedFinding.TheVariants.{Asked}
 
 -- an entry has a smaller place than another, or the same place and a smaller number
 abbrev pub asked_before : AskedEntry → AskedEntry → Bool

@@ -2,11 +2,11 @@
 use Rattle.std.specs.Prelude.{◌==◌, ◌-◌, Bool, true, false, List, filter, map, slice_index_or, slice_set}
 use Rattle.std.specs.List.{list_any}
 use Rattle.sixel_model.specs.Rules.{number_of}
-use Rattle.sixel_asked.specs.Asked as asked
-use Rattle.sixel_asked.specs.declared.tally.AskedEntry.{AskedEntry}
-use Rattle.sixel_named.specs.Rules.{all_named_rules, number_of_named}
-use Rattle.sixel_named.specs.declared.rule.NamedRule.{NamedRule}
-use Rattle.sixel_named.specs.declared.rule.NamedRule.TheVariants.{Portable, Asked}
+use Rattle.sixel_emulator_rules.specs.Asked as asked
+use Rattle.sixel_emulator_rules.specs.declared.tally.AskedEntry.{AskedEntry}
+use Rattle.sixel_emulator_check.specs.Rules.{all_named_rules, number_of_named}
+use Rattle.sixel_emulator_check.specs.declared.rule.NamedRule.{NamedRule}
+use Rattle.sixel_emulator_check.specs.declared.rule.NamedRule.TheVariants.{Portable, Asked}
 use Rattle.sixel_report.specs.declared.rule_set.RuleSet.{RuleSet}
 use Rattle.sixel_survey.specs.declared.entry.Entry.{Entry}
 

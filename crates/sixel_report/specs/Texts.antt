@@ -25,17 +25,17 @@ use Rattle.sixel_judge.specs.declared.verdict.Verdict.TheVariants.{Portable, Bro
 use Rattle.sixel_judge.specs.declared.verdict.Outcome.{Outcome}
 use Rattle.sixel_judge.specs.declared.verdict.Outcome.TheVariants.{Portable as PortableSize, Broken as BrokenRule}
 use Rattle.sixel_survey.specs.declared.entry.Entry.{Entry}
-use Rattle.sixel_asked.specs.Names.{name_of}
-use Rattle.sixel_asked.specs.declared.asking.AskedFinding.{AskedFinding}
-use Rattle.sixel_asked.specs.declared.tally.AskedEntry.{AskedEntry}
-use Rattle.sixel_asked.specs.declared.terminals.Terminals.{Terminals}
-use Rattle.sixel_named.specs.declared.rule.NamedRule.{NamedRule}
-use Rattle.sixel_named.specs.declared.rule.NamedRule.TheVariants as named
-use Rattle.sixel_named.specs.declared.surveying.NamedSurvey.{NamedSurvey}
-use Rattle.sixel_named.specs.declared.verdict.NamedOutcome.{NamedOutcome}
-use Rattle.sixel_named.specs.declared.verdict.NamedOutcome.TheVariants as outcome
-use Rattle.sixel_named.specs.declared.verdict.NamedVerdict.{NamedVerdict}
-use Rattle.sixel_named.specs.declared.verdict.NamedVerdict.TheVariants as verdict
+use Rattle.sixel_emulator_rules.specs.Names.{name_of}
+use Rattle.sixel_emulator_rules.specs.declared.asking.AskedFinding.{AskedFinding}
+use Rattle.sixel_emulator_rules.specs.declared.tally.AskedEntry.{AskedEntry}
+use Rattle.sixel_emulator_rules.specs.declared.terminals.Terminals.{Terminals}
+use Rattle.sixel_emulator_check.specs.declared.rule.NamedRule.{NamedRule}
+use Rattle.sixel_emulator_check.specs.declared.rule.NamedRule.TheVariants as named
+use Rattle.sixel_emulator_check.specs.declared.surveying.NamedSurvey.{NamedSurvey}
+use Rattle.sixel_emulator_check.specs.declared.verdict.NamedOutcome.{NamedOutcome}
+use Rattle.sixel_emulator_check.specs.declared.verdict.NamedOutcome.TheVariants as outcome
+use Rattle.sixel_emulator_check.specs.declared.verdict.NamedVerdict.{NamedVerdict}
+use Rattle.sixel_emulator_check.specs.declared.verdict.NamedVerdict.TheVariants as verdict
 use Rattle.sixel_scan.specs.declared.answer.Answer.{Answer}
 use Rattle.sixel_scan.specs.declared.answer.Answer.TheVariants as scanned
 use Rattle.sixel_scan.specs.declared.answer.Scanned.{Scanned}

@@ -13,8 +13,8 @@ use crate::item::{Item, Items};
 use crate::lines::{Line, push_all, push_number};
 use crate::task::Status;
 use arrayvec::ArrayVec;
-use sixel_asked::Terminals;
 use sixel_differ::{Comparison, Standing};
+use sixel_emulator_rules::Terminals;
 use sixel_named_terminals::Named;
 
 /// Named terminals with equal screens.

@@ -2,11 +2,11 @@
 
 ghost use Rattle.std.specs.Prelude.{◌≡◌, [], MatchOption, true};
 ghost use Rattle.std.specs.Option.{option_map_or};
-ghost use Rattle.sixel_named.specs.Laws.{IsFirstOf};
+ghost use Rattle.sixel_emulator_check.specs.Laws.{IsFirstOf};
 ghost use Rattle.sixel_report.specs.Firsts.{IsFirstAskedEntry, asked_before, asked_finding};
 
-use sixel_asked::{AskedEntry, AskedFinding};
-use sixel_named::{NamedFinding, NamedSurvey};
+use sixel_emulator_check::{NamedFinding, NamedSurvey};
+use sixel_emulator_rules::{AskedEntry, AskedFinding};
 use sixel_survey::first_finding;
 
 /// Whether the entry has a smaller place than the other, or the same place and a smaller number; true without another.

@@ -11,11 +11,11 @@ use crate::fault::RunFault;
 use crate::survey_lines::size_line;
 use arrayvec::ArrayVec;
 use itoa::Buffer;
-use sixel_asked::AskedFinding;
 use sixel_check::{Finding, Outcome, Rule, Verdict};
+use sixel_emulator_check::NamedRule;
+use sixel_emulator_rules::AskedFinding;
 use sixel_grammar::{Command, Event, Placed, Reason};
 use sixel_io::{DeviceFault, Sink, put_all};
-use sixel_named::NamedRule;
 use sixel_ppm::PpmReason;
 
 /// A line, with its line feed: of an event at most 58 bytes, of a fault at most 46, of a verdict at most 82, of a
@@ -281,6 +281,13 @@ pub fn asked_line(finding: &AskedFinding) -> Line
     push_number(&mut line, finding.place);
     line.push(b'\n');
     line
+}
+
+/// Writes the line of a finding, or on an `Err` a prefix of it. It doesn't flush.
+pub fn write_finding<K: Sink>(finding: &Finding, out: &mut K) -> Result<(), DeviceFault>
+    ensures { Writes result (K.state out.old) (K.state out.new) (finding_line finding.now) }
+{
+    put_all(out, finding_line(finding).as_slice())
 }
 
 /// The line of an outcome.

@@ -1,12 +1,12 @@
 //! Which rules a survey has found broken.
 
 ghost use Rattle.std.specs.Prelude.{◌≡◌, ◌≤◌, ◌-◌, List, []};
-ghost use Rattle.sixel_named.specs.Rules.{number_of_named};
+ghost use Rattle.sixel_emulator_check.specs.Rules.{number_of_named};
 ghost use Rattle.sixel_report.specs.RuleSets.{has_rule, no_rules, rules_of, with_rule};
 ghost use Rattle.sixel_survey.specs.declared.entry.Entry.{Entry as AnEntry};
 
-use sixel_asked::AskedEntry;
-use sixel_named::{NAMED_RULE_COUNT, NamedRule};
+use sixel_emulator_check::{NAMED_RULE_COUNT, NamedRule};
+use sixel_emulator_rules::AskedEntry;
 use sixel_survey::Entry;
 
 /// Some of the rules of portable pictures and of those that named terminals ask for.

@@ -5,7 +5,7 @@ ghost use Rattle.sixel_report.specs.Texts.{asked_entry_line, entry_line, size_li
 
 use crate::lines::{Line, push_all, push_number, push_pixel, rule_name};
 use arrayvec::ArrayVec;
-use sixel_asked::AskedEntry;
+use sixel_emulator_rules::AskedEntry;
 use sixel_survey::Entry;
 
 /// The line of an entry, at most 96 bytes: the rule, how often it counts, the offset where it counts first, and the

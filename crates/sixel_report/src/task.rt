@@ -1,10 +1,10 @@
 //! What a run does, and how it ends if it isn't refused.
 
 use crate::rule_set::RuleSet;
-use sixel_asked::{AskedFinding, Terminals};
 use sixel_check::Finding;
+use sixel_emulator_check::NamedFinding;
+use sixel_emulator_rules::{AskedFinding, Terminals};
 use sixel_model::{Colour, Profile};
-use sixel_named::NamedFinding;
 use sixel_named_terminals::Named;
 
 /// The greatest side of a screen, in pixels.

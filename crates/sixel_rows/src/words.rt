@@ -5,7 +5,7 @@ ghost use Rattle.sixel_ppm.specs.Ppm.{is_file_side};
 ghost use Rattle.sixel_report.specs.Outputs.{HasSides, HasSidesIn};
 
 use crate::format::RowFault;
-use sixel_asked::Terminals;
+use sixel_emulator_rules::Terminals;
 use sixel_model::{Colour, Profile};
 use sixel_named_terminals::Named;
 use sixel_report::{Area, MOST_SCREEN_SIDE, Task};

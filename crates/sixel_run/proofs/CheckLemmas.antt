@@ -13,19 +13,19 @@ use Rattle.sixel_grammar.proofs.UniqueLemmas.{document_once, fault_no_document, 
 use Rattle.sixel_judge.specs.declared.verdict.Verdict.{Verdict}
 use Rattle.sixel_judge.specs.Verdicts.{IsVerdict}
 use Rattle.sixel_judge.proofs.VerdictLemmas.{verdict_once}
-use Rattle.sixel_asked.specs.declared.terminals.Terminals.{Terminals}
-use Rattle.sixel_named.specs.Answers.{AnswersOutcomeOn}
-use Rattle.sixel_named.specs.Verdicts.{IsVerdictOn, named_outcome_of}
-use Rattle.sixel_named.specs.declared.verdict.NamedOutcome.{NamedOutcome}
-use Rattle.sixel_named.specs.declared.verdict.NamedVerdict.{NamedVerdict}
-use Rattle.sixel_named.specs.declared.verdict.NamedVerdict.TheVariants.{Portable, Broken, Asked}
+use Rattle.sixel_emulator_rules.specs.declared.terminals.Terminals.{Terminals}
+use Rattle.sixel_emulator_check.specs.Answers.{AnswersOutcomeOn}
+use Rattle.sixel_emulator_check.specs.Verdicts.{IsVerdictOn, named_outcome_of}
+use Rattle.sixel_emulator_check.specs.declared.verdict.NamedOutcome.{NamedOutcome}
+use Rattle.sixel_emulator_check.specs.declared.verdict.NamedVerdict.{NamedVerdict}
+use Rattle.sixel_emulator_check.specs.declared.verdict.NamedVerdict.TheVariants.{Portable, Broken, Asked}
 use Rattle.sixel_report.specs.declared.fault.RunFault.{RunFault}
 use Rattle.sixel_report.specs.declared.fault.RunFault.TheVariants.{Grammar, OutOfMemory}
 use Rattle.sixel_report.specs.declared.task.Status.{Status}
 use Rattle.sixel_report.specs.Conversions.{of_input}
 use Rattle.sixel_run.specs.Outputs.{CheckGives, outcome_status, status_of}
 use Rattle.sixel_report.specs.Texts.{Text, item_line, item_of, items_text, named_verdict_line}
-use Rattle.sixel_named.proofs.OneVerdictLemmas.{verdict_on_exists, verdict_on_once}
+use Rattle.sixel_emulator_check.proofs.OneVerdictLemmas.{verdict_on_exists, verdict_on_once}
 use Rattle.sixel_report.proofs.OutputLemmas.{both_are}
 
 -- two verdicts on one document are the same

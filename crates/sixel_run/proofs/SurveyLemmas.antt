@@ -11,16 +11,16 @@ use Rattle.sixel_model.specs.Profiles.{count_of}
 use Rattle.sixel_model.specs.Rules.{picture_left}
 use Rattle.sixel_model.specs.declared.profile.Profile.{Profile}
 use Rattle.sixel_model.proofs.PictureLemmas.{at_most_256}
-use Rattle.sixel_asked.specs.declared.terminals.Terminals.{Terminals}
-use Rattle.sixel_named.specs.Laws.{verdict_with}
-use Rattle.sixel_named.specs.Surveys.{IsSurveyOn, SurveysOn}
-use Rattle.sixel_named.specs.Verdicts.{IsVerdictOn}
-use Rattle.sixel_named.specs.declared.surveying.NamedSurvey.{NamedSurvey}
-use Rattle.sixel_named.specs.declared.verdict.NamedFinding.{NamedFinding}
-use Rattle.sixel_named.specs.declared.verdict.NamedFinding.TheVariants as finding
-use Rattle.sixel_named.specs.declared.verdict.NamedVerdict.{NamedVerdict}
-use Rattle.sixel_named.specs.declared.verdict.NamedVerdict.TheVariants.{Portable}
-use Rattle.sixel_named.proofs.SurveyLawLemmas.{empty_if_none_on, first_is_verdict_on}
+use Rattle.sixel_emulator_rules.specs.declared.terminals.Terminals.{Terminals}
+use Rattle.sixel_emulator_check.specs.Laws.{verdict_with}
+use Rattle.sixel_emulator_check.specs.Surveys.{IsSurveyOn, SurveysOn}
+use Rattle.sixel_emulator_check.specs.Verdicts.{IsVerdictOn}
+use Rattle.sixel_emulator_check.specs.declared.surveying.NamedSurvey.{NamedSurvey}
+use Rattle.sixel_emulator_check.specs.declared.verdict.NamedFinding.{NamedFinding}
+use Rattle.sixel_emulator_check.specs.declared.verdict.NamedFinding.TheVariants as finding
+use Rattle.sixel_emulator_check.specs.declared.verdict.NamedVerdict.{NamedVerdict}
+use Rattle.sixel_emulator_check.specs.declared.verdict.NamedVerdict.TheVariants.{Portable}
+use Rattle.sixel_emulator_check.proofs.SurveyLawLemmas.{empty_if_none_on, first_is_verdict_on}
 use Rattle.sixel_report.specs.declared.fault.RunFault.{RunFault}
 use Rattle.sixel_report.specs.declared.fault.RunFault.TheVariants.{Grammar}
 use Rattle.sixel_report.specs.declared.task.Status.{Status}
@@ -33,8 +33,8 @@ use Rattle.sixel_report.specs.Texts.{Text, survey_text}
 use Rattle.sixel_report.specs.declared.rule_set.RuleSet.{RuleSet}
 use Rattle.sixel_report.proofs.OutputLemmas.{both_are}
 use Rattle.sixel_run.proofs.CheckLemmas.{same_verdict_on}
-use Rattle.sixel_named.proofs.OneSurveyLemmas.{survey_on_exists, survey_on_once}
-use Rattle.sixel_named.proofs.OneVerdictLemmas.{verdict_on_exists}
+use Rattle.sixel_emulator_check.proofs.OneSurveyLemmas.{survey_on_exists, survey_on_once}
+use Rattle.sixel_emulator_check.proofs.OneVerdictLemmas.{verdict_on_exists}
 
 -- ---- one output
 

@@ -4,8 +4,8 @@ use Rattle.std.specs.Prelude.{Result, Ok, Err}
 use Rattle.std.specs.Io.KnownBytes.{Appends, Consumes, IsAtEnd}
 use Rattle.sixel_io.specs.Devices.{Change, SinkState, SourceState}
 use Rattle.sixel_scan.specs.Scans.{IsOver}
-use Rattle.sixel_named.specs.Laws.{IsFirstOf}
-use Rattle.sixel_named.specs.declared.surveying.NamedSurvey.{NamedSurvey}
+use Rattle.sixel_emulator_check.specs.Laws.{IsFirstOf}
+use Rattle.sixel_emulator_check.specs.declared.surveying.NamedSurvey.{NamedSurvey}
 use Rattle.sixel_report.specs.declared.fault.RunFault.{RunFault}
 use Rattle.sixel_report.specs.declared.fault.RunFault.TheVariants.{OutOfMemory, Read, Write}
 use Rattle.sixel_report.specs.declared.item.Item.{Item}

@@ -18,15 +18,15 @@ use Rattle.sixel_judge.specs.Growth.{MayGrowIn}
 use Rattle.sixel_judge.specs.Verdicts.{IsVerdict}
 use Rattle.sixel_encode.specs.Canon.{canon_text}
 use Rattle.sixel_survey.specs.Declaring.{DeclareBoxIn}
-use Rattle.sixel_asked.specs.declared.terminals.Terminals.{Terminals}
-use Rattle.sixel_named.specs.Surveys.{IsSurveyOn}
-use Rattle.sixel_named.specs.Verdicts.{IsVerdictOn}
-use Rattle.sixel_named.specs.declared.surveying.NamedSurvey.{NamedSurvey}
-use Rattle.sixel_named.specs.declared.verdict.NamedFinding.TheVariants as finding
-use Rattle.sixel_named.specs.declared.verdict.NamedOutcome.{NamedOutcome}
-use Rattle.sixel_named.specs.declared.verdict.NamedOutcome.TheVariants as outcome
-use Rattle.sixel_named.specs.declared.verdict.NamedVerdict.{NamedVerdict}
-use Rattle.sixel_named.specs.declared.verdict.NamedVerdict.TheVariants as named
+use Rattle.sixel_emulator_rules.specs.declared.terminals.Terminals.{Terminals}
+use Rattle.sixel_emulator_check.specs.Surveys.{IsSurveyOn}
+use Rattle.sixel_emulator_check.specs.Verdicts.{IsVerdictOn}
+use Rattle.sixel_emulator_check.specs.declared.surveying.NamedSurvey.{NamedSurvey}
+use Rattle.sixel_emulator_check.specs.declared.verdict.NamedFinding.TheVariants as finding
+use Rattle.sixel_emulator_check.specs.declared.verdict.NamedOutcome.{NamedOutcome}
+use Rattle.sixel_emulator_check.specs.declared.verdict.NamedOutcome.TheVariants as outcome
+use Rattle.sixel_emulator_check.specs.declared.verdict.NamedVerdict.{NamedVerdict}
+use Rattle.sixel_emulator_check.specs.declared.verdict.NamedVerdict.TheVariants as named
 use Rattle.sixel_mend.specs.declared.mending.MendFault.{MendFault}
 use Rattle.sixel_mend.specs.declared.mending.Mending.{Mending}
 use Rattle.sixel_mend.specs.Mended.{MendsEvents}

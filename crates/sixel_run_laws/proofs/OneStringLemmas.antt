@@ -10,15 +10,15 @@ use Rattle.sixel_grammar.proofs.UniqueLemmas.{document_once}
 use Rattle.sixel_judge.specs.declared.verdict.Verdict.{Verdict}
 use Rattle.sixel_judge.specs.declared.verdict.Verdict.TheVariants as judged
 use Rattle.sixel_judge.specs.Verdicts.{IsVerdict}
-use Rattle.sixel_named.specs.Laws.{named_verdict, none}
-use Rattle.sixel_named.specs.Verdicts.{IsVerdictOn}
-use Rattle.sixel_named.specs.declared.verdict.NamedVerdict.{NamedVerdict}
-use Rattle.sixel_named.specs.declared.verdict.NamedVerdict.TheVariants.{Portable, Broken, Asked}
+use Rattle.sixel_emulator_check.specs.Laws.{named_verdict, none}
+use Rattle.sixel_emulator_check.specs.Verdicts.{IsVerdictOn}
+use Rattle.sixel_emulator_check.specs.declared.verdict.NamedVerdict.{NamedVerdict}
+use Rattle.sixel_emulator_check.specs.declared.verdict.NamedVerdict.TheVariants.{Portable, Broken, Asked}
 use Rattle.sixel_report.specs.declared.fault.RunFault.{RunFault}
 use Rattle.sixel_report.specs.declared.task.Status.{Status}
 use Rattle.sixel_run.specs.Outputs.{status_of, ScanGives}
 use Rattle.sixel_report.specs.Texts.{Text, named_verdict_line, answer_line, finding_line, string_line, verdict_line}
-use Rattle.sixel_named.proofs.NoneLemmas.{none_asked}
+use Rattle.sixel_emulator_check.proofs.NoneLemmas.{none_asked}
 use Rattle.std.proofs.lemmas.Fmt.{decimal_digit}
 use Rattle.sixel_grammar.specs.Bytes.{introducer}
 use Rattle.sixel_model.specs.Profiles.{count_of}

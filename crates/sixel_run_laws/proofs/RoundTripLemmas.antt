@@ -11,7 +11,7 @@ use Rattle.sixel_grammar.specs.Spelling.{fixed_spelling}
 use Rattle.sixel_model.specs.Rules.{BreaksNone, last_rule, picture_left}
 use Rattle.sixel_judge.specs.declared.verdict.Verdict.TheVariants.{Portable}
 use Rattle.sixel_judge.specs.Portable.{IsPortable}
-use Rattle.sixel_named.specs.declared.verdict.NamedVerdict.TheVariants as named
+use Rattle.sixel_emulator_check.specs.declared.verdict.NamedVerdict.TheVariants as named
 use Rattle.sixel_judge.proofs.ShownLemmas.{left_is_portable}
 use Rattle.sixel_encode.specs.Canon.{canon, canon_text}
 use Rattle.sixel_encode_laws.proofs.LengthLemmas
@@ -21,7 +21,7 @@ use Rattle.sixel_model.specs.Profiles.{count_of}
 use Rattle.sixel_model.specs.declared.profile.Profile.{Profile}
 use Rattle.sixel_model.proofs.PictureLemmas.{at_most_256}
 use Rattle.sixel_run_laws.specs.Laws.{EncodedAnswers, EncodedChecks, EncodedIsPortable}
-use Rattle.sixel_named.proofs.NoneLemmas.{none_asked}
+use Rattle.sixel_emulator_check.proofs.NoneLemmas.{none_asked}
 use Rattle.sixel_run.proofs.CheckLemmas.{same_verdict}
 
 events_placed : (n : ℕ) (es : List Event) → events_of (fixed_places n es) ≡ es

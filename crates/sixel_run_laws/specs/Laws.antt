@@ -15,7 +15,7 @@ use Rattle.sixel_judge.specs.declared.verdict.Verdict.TheVariants.{Portable}
 use Rattle.sixel_judge.specs.Portable.{IsPortable}
 use Rattle.sixel_judge.specs.Verdicts.{IsVerdict}
 use Rattle.sixel_encode.specs.Canon.{canon_text}
-use Rattle.sixel_named.specs.Laws.{none}
+use Rattle.sixel_emulator_check.specs.Laws.{none}
 use Rattle.sixel_report.specs.declared.fault.RunFault.{RunFault}
 use Rattle.sixel_report.specs.declared.fault.RunFault.TheVariants.{NoBox}
 use Rattle.sixel_report.specs.declared.task.Status.{Status}

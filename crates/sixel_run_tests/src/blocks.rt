@@ -1,8 +1,8 @@
 //! What one take of a list has, and the room of a check.
 
 use crate::runs::{Limits, run_counted};
-use sixel_asked::Terminals;
 use sixel_check::{Finding, Rule};
+use sixel_emulator_rules::Terminals;
 use sixel_io::{Block, DeviceFault, PIECE, Sink, SliceSink, SliceSource};
 use sixel_model::Profile;
 use sixel_report::{Plain, RunFault, Status, Task};

@@ -3,8 +3,8 @@
 ghost use Rattle.sixel_report.specs.Outputs.{HasSides};
 
 use crate::runs::mend_on_black;
-use sixel_asked::Terminals;
 use sixel_check::{Verdict, check};
+use sixel_emulator_rules::Terminals;
 use sixel_grammar::InputFault;
 use sixel_io::{SliceSink, SliceSource};
 use sixel_model::{Colour, Picture, Profile};

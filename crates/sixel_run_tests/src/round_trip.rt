@@ -2,8 +2,8 @@
 
 ghost use Rattle.sixel_report.specs.Outputs.{HasSides};
 
-use sixel_asked::Terminals;
 use sixel_check::{Verdict, check_bytes};
+use sixel_emulator_rules::Terminals;
 use sixel_io::{SliceSink, SliceSource};
 use sixel_model::{Palette, Parts, Picture, Profile};
 use sixel_report::{Status, Task};

@@ -2,7 +2,7 @@
 
 ghost use Rattle.sixel_report.specs.Outputs.{HasSides};
 
-use sixel_asked::Terminals;
+use sixel_emulator_rules::Terminals;
 use sixel_io::{SliceSink, SliceSource};
 use sixel_model::{Colour, Profile};
 use sixel_report::{RunFault, Status, Task};

@@ -3,8 +3,8 @@
 use crate::in_turn::{Case, PIXEL, all_stop, checked, done, fault, refused};
 use crate::runs::{SURVEY, agrees, mend_on_black};
 use sixel_check::{Finding, Rule};
+use sixel_emulator_check::{NamedFinding, NamedRule};
 use sixel_model::Profile;
-use sixel_named::{NamedFinding, NamedRule};
 use sixel_report::{Note, RuleSet, RunFault, Status, entry_line};
 use sixel_survey::Entry;
 use sixel_test_devices::filled;

@@ -4,7 +4,7 @@ ghost use Rattle.std.specs.Prelude.{◌≡◌, IfSome, IsNone, codes};
 ghost use Rattle.std.specs.List.{list_all};
 ghost use Rattle.clap.specs.Walk.{rows_of};
 ghost use Rattle.clap.specs.Matches.{found_of};
-ghost use Rattle.sixel_asked.specs.declared.terminals.Terminals.{Terminals as ATerminals};
+ghost use Rattle.sixel_emulator_rules.specs.declared.terminals.Terminals.{Terminals as ATerminals};
 ghost use Rattle.sixel_report.specs.declared.task.Task.{Task as ATask};
 ghost use Rattle.sixel_report.specs.Outputs.{HasSides};
 ghost use Rattle.sixel_words.specs.Words.{HasTerminals, IsTask, NamesTerminals, is_among, parts_of, terminal_names};
@@ -12,7 +12,7 @@ ghost use Rattle.sixel_words.specs.Words.{HasTerminals, IsTask, NamesTerminals, 
 use crate::options::profile_of;
 use crate::show_words::terminal_named;
 use clap::ArgMatches;
-use sixel_asked::Terminals;
+use sixel_emulator_rules::Terminals;
 use sixel_report::Task;
 
 /// The task of `check` with these options; none if the value of `--on` names no terminals.

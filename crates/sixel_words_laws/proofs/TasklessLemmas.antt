@@ -6,7 +6,7 @@ use Rattle.std.specs.List.{list_all}
 use Rattle.std.specs.Str.{bytes_eq}
 use Rattle.std.proofs.lemmas.Bool.{ltb-true}
 use Rattle.clap.specs.Walk.{Row, Text, first_of}
-use Rattle.sixel_asked.specs.declared.terminals.Terminals.{Terminals}
+use Rattle.sixel_emulator_rules.specs.declared.terminals.Terminals.{Terminals}
 use Rattle.sixel_named_terminals.specs.declared.named.Named.{Named}
 use Rattle.sixel_report.specs.declared.task.Area.{Area}
 use Rattle.sixel_report.specs.declared.task.Area.TheVariants.{Box, Sides}

@@ -2,15 +2,15 @@
 
 ghost use Rattle.sixel_report.specs.Outputs.{HasSides};
 
+use super::{
+    INTERACTIVE, PIXEL, RED, STREAMS, Streams, after_input, asked_of, check_of, ends_over, unread,
+};
 use crate::ends::{ENCODE, NO_TERMINALS, RENDER, SHOW, SHOW_BOX, sheet, show_on};
 use sixel_named_terminals::Named;
 use sixel_program::Terminals;
 use sixel_report::{Exit, Task};
 use std::alloc::{AllocError, Global};
 use std::test::Fail;
-use super::{
-    INTERACTIVE, PIXEL, RED, STREAMS, Streams, after_input, asked_of, check_of, ends_over, unread,
-};
 
 /// Standard output is a terminal.
 const SCREEN: Streams = Streams {

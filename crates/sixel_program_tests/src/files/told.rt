@@ -3,7 +3,7 @@
 ghost use Rattle.std.specs.Prelude.{◌≡◌, Err, IfOk, Ok, Some, false, if◌then◌else◌};
 ghost use Rattle.std.specs.Str.{bytes_eq};
 ghost use Rattle.sixel_model.specs.declared.profile.Profile.TheVariants.{Registers16};
-ghost use Rattle.sixel_named.specs.Laws.{none};
+ghost use Rattle.sixel_emulator_check.specs.Laws.{none};
 ghost use Rattle.sixel_program.specs.Files.{is_dash};
 ghost use Rattle.sixel_messages.specs.declared.unopened.Unopened.TheVariants.{NotFound};
 ghost use Rattle.sixel_run.specs.Outputs.{Gives};

@@ -6,10 +6,10 @@ ghost use Rattle.sixel_report.specs.declared.task.Task.TheVariants.{Check};
 ghost use Rattle.sixel_run.specs.LineTasks.{WritesItems};
 ghost use Rattle.sixel_run.specs.Outputs.{outcome_status};
 
-use sixel_asked::Terminals;
+use sixel_emulator_check::{NamedOutcome, outcome_on};
+use sixel_emulator_rules::Terminals;
 use sixel_io::{PIECE, Sink, Source};
 use sixel_model::Profile;
-use sixel_named::{NamedOutcome, outcome_on};
 use sixel_report::{PutItem, RunFault, Status, item_of};
 use std::alloc::Global;
 

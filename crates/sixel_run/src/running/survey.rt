@@ -4,10 +4,10 @@ ghost use Rattle.sixel_io.specs.Devices.{change};
 ghost use Rattle.sixel_report.specs.declared.task.Task.TheVariants.{Survey as Surveying};
 ghost use Rattle.sixel_run.specs.LineTasks.{IsStatusOf, WritesItems};
 
-use sixel_asked::Terminals;
+use sixel_emulator_check::{NamedSurvey, survey_on};
+use sixel_emulator_rules::Terminals;
 use sixel_io::{PIECE, Sink, Source};
 use sixel_model::Profile;
-use sixel_named::{NamedSurvey, survey_on};
 use sixel_report::{PutItem, RunFault, Status, first_of, rules_of, survey_items};
 use std::alloc::Global;
 

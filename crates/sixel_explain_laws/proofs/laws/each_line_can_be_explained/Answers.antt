@@ -6,9 +6,9 @@ use Rattle.sixel_grammar.specs.declared.fault.Reason.TheVariants.{Truncated}
 use Rattle.sixel_judge.specs.declared.verdict.Finding.{Finding}
 use Rattle.sixel_report.specs.declared.fault.RunFault.{RunFault}
 use Rattle.sixel_report.specs.declared.fault.RunFault.TheVariants as fault
-use Rattle.sixel_asked.specs.Names.{name_of}
-use Rattle.sixel_asked.specs.declared.asking.AskedFinding.{AskedFinding}
-use Rattle.sixel_asked.specs.declared.tally.AskedEntry.{AskedEntry}
+use Rattle.sixel_emulator_rules.specs.Names.{name_of}
+use Rattle.sixel_emulator_rules.specs.declared.asking.AskedFinding.{AskedFinding}
+use Rattle.sixel_emulator_rules.specs.declared.tally.AskedEntry.{AskedEntry}
 use Rattle.sixel_survey.specs.declared.entry.Entry.{Entry}
 use Rattle.sixel_scan.specs.declared.answer.Scanned.{Scanned}
 use Rattle.sixel_scan.specs.declared.answer.Answer.TheVariants.{Broken, Refused}

@@ -1,5 +1,5 @@
 use Rattle.std.proofs.Common.{◌∙◌, sym}
-use Rattle.sixel_named.specs.Rules.{all_named_rules}
+use Rattle.sixel_emulator_check.specs.Rules.{all_named_rules}
 use Rattle.sixel_report.specs.RuleSets.{has_rule}
 use Rattle.sixel_messages.proofs.CauseLemmas.{kept_next, passed_over}
 use Rattle.sixel_messages.proofs.hints.Causes.add_each.Goals as goal

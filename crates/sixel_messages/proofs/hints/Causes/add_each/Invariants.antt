@@ -1,5 +1,5 @@
 use Rattle.std.proofs.Common.{◌≡◌, filter, map, take}
-use Rattle.sixel_named.specs.Rules.{all_named_rules}
+use Rattle.sixel_emulator_check.specs.Rules.{all_named_rules}
 use Rattle.sixel_report.specs.RuleSets.{has_rule}
 use Rattle.sixel_messages.specs.declared.hints.Cause.TheVariants.{Rule}
 use Rattle.sixel_messages.specs.Hints.{with_causes}

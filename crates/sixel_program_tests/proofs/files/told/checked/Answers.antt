@@ -12,8 +12,8 @@ use Rattle.sixel_program.specs.Openings.{Told, bytes_told}
 use Rattle.sixel_messages.specs.declared.unopened.Unopened.TheVariants.{NotFound}
 use Rattle.sixel_run.specs.Outputs.{Gives}
 use Rattle.sixel_report.specs.Texts.{Text}
-use Rattle.sixel_named.specs.Laws.{none}
-use Rattle.sixel_named.specs.declared.verdict.NamedVerdict.TheVariants as verdict
+use Rattle.sixel_emulator_check.specs.Laws.{none}
+use Rattle.sixel_emulator_check.specs.declared.verdict.NamedVerdict.TheVariants as verdict
 use Rattle.sixel_report.specs.Exits.{exit_for_answer}
 use Rattle.sixel_report.specs.declared.exit.Exit.TheVariants as exit
 use Rattle.sixel_report.specs.declared.task.Status.{Status}

@@ -1,5 +1,0 @@
-use Rattle.sixel_asked.proofs.TallyLemmas.{tallied_none}
-use Rattle.sixel_asked.proofs.tallying.Tallying.new.Goals as goal
-
-pub returns-clause-tallied : goal.returns-clause-tallied
-returns-clause-tallied c = tallied_none c.args.terminals c.new.result c.new.ensures

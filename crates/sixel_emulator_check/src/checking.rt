@@ -1,0 +1,71 @@
+//! Checking the bytes of a document for named terminals.
+
+ghost use Rattle.std.specs.Prelude.{◌≡◌, IfOk, IsTrue};
+ghost use Rattle.sixel_model.specs.Profiles.{count_of};
+ghost use Rattle.sixel_judge.specs.Growth.{MayGrowIn};
+ghost use Rattle.sixel_check.specs.Checking.{IsWhole};
+ghost use Rattle.sixel_survey.specs.Reads.{ReadsDocument};
+ghost use Rattle.sixel_emulator_check.specs.Answers.{AnswersOutcomeOn};
+ghost use Rattle.sixel_emulator_check.specs.Checking.{HaveTakenAll};
+ghost use Rattle.sixel_emulator_check.specs.Laws.{none};
+
+use crate::joining::join_outcome;
+use crate::verdict::NamedOutcome;
+use sixel_check::outcome_with;
+use sixel_emulator::Both;
+use sixel_emulator_rules::{Asking, Terminals};
+use sixel_grammar::{InputFault, follow_source};
+use sixel_io::{PIECE, Source};
+use sixel_judge::Checker;
+use sixel_model::Profile;
+use sixel_plane::CoverPlane;
+use std::alloc::Global;
+
+/// Whether there is none.
+pub(crate) fn are_none(terminals: Terminals) -> bool
+    ensures { IsTrue result → terminals ≡ none }
+{
+    terminals == Terminals::none()
+}
+
+/// Reads a source to its end. Returns a checker and an asking that have taken the events of the document.
+#[inline(always)]
+fn read_document<S: Source>(
+    alloc: Global,
+    profile: Profile,
+    terminals: Terminals,
+    input: &mut S,
+    piece: &mut [u8; PIECE],
+) -> Result<Both<Checker<CoverPlane>, Asking>, InputFault>
+    ensures reads { ReadsDocument (HaveTakenAll (count_of profile) terminals) (MayGrowIn (count_of profile)) result
+        (S.state input.old) (S.state input.new) }
+    ensures whole { IfOk result (λ both. IsWhole both.one) }
+{
+    let one = Checker::new(alloc, profile);
+    let other = Asking::new(terminals);
+    let mut both = Both { one, other };
+    follow_source(input, piece, &mut both)?;
+    Ok(both)
+}
+
+/// Checks the document that the source gives, with the registers of the profile, by the rules of portable pictures and
+/// by those that the terminals ask for: the size of its picture, or the first broken rule. It reads as
+/// `sixel_check::outcome_with` does, takes as much memory, and has the same faults. Without a terminal it is that check.
+pub fn outcome_on<S: Source>(
+    alloc: Global,
+    profile: Profile,
+    terminals: Terminals,
+    input: &mut S,
+    piece: &mut [u8; PIECE],
+) -> Result<NamedOutcome, InputFault>
+    ensures { ReadsDocument (AnswersOutcomeOn (count_of profile) terminals) (MayGrowIn (count_of profile)) result
+        (S.state input.old) (S.state input.new) }
+{
+    if are_none(terminals) {
+        let outcome = outcome_with(alloc, profile, input, piece)?;
+        return Ok(join_outcome(outcome, None));
+    }
+    let both = read_document(alloc, profile, terminals, input, piece)?;
+    let asked = both.other.finding();
+    Ok(join_outcome(both.one.outcome(), asked))
+}

@@ -1,0 +1,82 @@
+//! Surveying the bytes of a document for named terminals.
+
+ghost use Rattle.std.specs.Prelude.{◌≡◌};
+ghost use Rattle.sixel_model.specs.Profiles.{count_of};
+ghost use Rattle.sixel_survey.specs.Declaring.{DeclareBoxIn};
+ghost use Rattle.sixel_survey.specs.Reads.{ReadsDocument};
+ghost use Rattle.sixel_emulator_check.specs.Surveys.{SurveysOn, size_beside};
+
+use crate::checking::are_none;
+use arrayvec::ArrayVec;
+use sixel_emulator::Both;
+use sixel_emulator_rules::{AskedEntries, Tallying, Terminals};
+use sixel_grammar::{InputFault, follow_source};
+use sixel_io::{PIECE, Source};
+use sixel_model::{Profile, RULE_COUNT};
+use sixel_plane::CoverPlane;
+use sixel_survey::{Entry, Survey, Surveying, survey_with};
+use std::alloc::Global;
+
+/// All broken rules of a document, or the size of its picture.
+#[derive(Debug, Drop)]
+pub struct NamedSurvey {
+    /// An entry for each rule of portable pictures that counts anywhere, in order of the rules' numbers.
+    pub entries: ArrayVec<Entry, RULE_COUNT>,
+    /// The same of the rules that the terminals ask for.
+    pub asked: AskedEntries,
+    /// The width and the height of the picture in pixels, if there are no entries.
+    pub size: Option<(u32, u32)>,
+}
+
+/// A survey, with the entries of the rules that the terminals ask for.
+fn join_survey(survey: Survey, asked: AskedEntries) -> NamedSurvey
+    ensures entries { result.entries ≡ survey.entries }
+    ensures asked { result.asked ≡ asked }
+    ensures size { result.size ≡ size_beside asked.items survey.size }
+{
+    let size = if asked.is_empty() { survey.size } else { None };
+    NamedSurvey {
+        entries: survey.entries,
+        asked,
+        size,
+    }
+}
+
+/// Surveys by both lists of rules at once.
+fn survey_both<S: Source>(
+    alloc: Global,
+    profile: Profile,
+    terminals: Terminals,
+    input: &mut S,
+    piece: &mut [u8; PIECE],
+) -> Result<NamedSurvey, InputFault>
+    ensures { ReadsDocument (SurveysOn (count_of profile) terminals) DeclareBoxIn result
+        (S.state input.old) (S.state input.new) }
+{
+    let one: Surveying<CoverPlane> = Surveying::new(alloc, profile);
+    let other = Tallying::new(terminals);
+    let mut both = Both { one, other };
+    follow_source(input, piece, &mut both)?;
+    let asked = both.other.entries();
+    Ok(join_survey(both.one.finish(), asked))
+}
+
+/// Surveys the document that the source gives, by the rules of portable pictures and by those that the terminals ask
+/// for. It reads as `sixel_survey::survey_with` does, takes as much memory, and has the same faults. Without a terminal
+/// it is that survey.
+pub fn survey_on<S: Source>(
+    alloc: Global,
+    profile: Profile,
+    terminals: Terminals,
+    input: &mut S,
+    piece: &mut [u8; PIECE],
+) -> Result<NamedSurvey, InputFault>
+    ensures { ReadsDocument (SurveysOn (count_of profile) terminals) DeclareBoxIn result
+        (S.state input.old) (S.state input.new) }
+{
+    if are_none(terminals) {
+        let survey = survey_with(alloc, profile, input, piece)?;
+        return Ok(join_survey(survey, ArrayVec::new()));
+    }
+    survey_both(alloc, profile, terminals, input, piece)
+}

@@ -1,0 +1,20 @@
+//! Laws about the definitions. Each function's contract is the law.
+
+ghost use Rattle.std.specs.Prelude.{◌≤◌, ℕ};
+ghost use Rattle.sixel_model.specs.Profiles.{count_of};
+ghost use Rattle.sixel_model.specs.declared.profile.Profile.{Profile};
+ghost use Rattle.sixel_emulator_check_laws.specs.Laws.{PortableOnAllIsTheSame};
+ghost use Rattle.sixel_emulator_check_laws.specs.Shown.{OutcomesAreShown, VerdictsAreShown};
+
+/// If a document breaks no rule, and none of those that one of the four terminals asks for, the four show the same.
+pub fn portable_on_all_is_the_same()
+    ensures { (registers : ℕ) → registers ≤ 256 → PortableOnAllIsTheSame registers }
+{}
+
+/// The picture of a verdict for named terminals is shown by each of them, on each screen of one colour with room. Where
+/// the answer of `sixel_emulator_check::outcome_on` is a size, the events of the document leave a picture with these sides, which
+/// is portable, and which each of the terminals shows.
+pub fn portable_is_shown_on_each()
+    ensures verdicts { (profile : Profile) → VerdictsAreShown (count_of profile) }
+    ensures outcomes { (profile : Profile) → OutcomesAreShown (count_of profile) }
+{}

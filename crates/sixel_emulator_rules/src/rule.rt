@@ -1,0 +1,65 @@
+//! The rules that named terminals ask for.
+
+ghost use Rattle.std.specs.Prelude.{◌≡◌, ◌≤◌, length};
+ghost use Rattle.sixel_emulator_rules.specs.Asked.{number_of};
+ghost use Rattle.sixel_emulator_rules.specs.Names.{name_of};
+
+/// A rule that some of the named terminals ask for, besides those of portable pictures.
+#[derive(Clone, Copy, Debug, PartialEq, Eq)]
+pub enum AskedRule {
+    /// konsole: raster attributes after a select or a definition.
+    RasterLate,
+    /// konsole: a return or a new line right after a select, a definition or raster attributes.
+    Dropped,
+    /// foot: painting in a register that had another colour when it was selected.
+    Stale,
+    /// xterm: a declared width or height above 1,000.
+    Large,
+    /// konsole: a declared height that is no multiple of six.
+    Rows,
+    /// konsole: sixels without a set bit right of the box or below it.
+    Past,
+    /// xterm: a definition by hue, lightness and saturation.
+    Hue,
+    /// mlterm: sixels, with a set bit or not, so far out that it may end or show colours of chance.
+    Far,
+    /// mlterm: an introducer by which it mixes colours.
+    Mixed,
+}
+
+impl AskedRule {
+    /// Its number. Those of portable pictures have the numbers 1 to 13.
+    pub fn number(self) -> u8
+        ensures { result ≡ number_of self }
+    {
+        match self {
+            AskedRule::RasterLate => 14,
+            AskedRule::Dropped => 15,
+            AskedRule::Stale => 16,
+            AskedRule::Large => 17,
+            AskedRule::Rows => 18,
+            AskedRule::Past => 19,
+            AskedRule::Hue => 20,
+            AskedRule::Far => 21,
+            AskedRule::Mixed => 22,
+        }
+    }
+
+    /// Its name.
+    pub fn name(self) -> &'static str
+        ensures text { result.now ≡ name_of self }
+        ensures short { length result.now ≤ 10 }
+    {
+        match self {
+            AskedRule::RasterLate => "RasterLate",
+            AskedRule::Dropped => "Dropped",
+            AskedRule::Stale => "Stale",
+            AskedRule::Large => "Large",
+            AskedRule::Rows => "Rows",
+            AskedRule::Past => "Past",
+            AskedRule::Hue => "Hue",
+            AskedRule::Far => "Far",
+            AskedRule::Mixed => "Mixed",
+        }
+    }
+}

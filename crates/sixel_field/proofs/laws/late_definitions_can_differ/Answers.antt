@@ -1,5 +1,0 @@
-use Rattle.sixel_field.proofs.LateLemmas
-use Rattle.sixel_field.proofs.laws.late_definitions_can_differ.Goals as goal
-
-pub returns : goal.returns
-returns c = LateLemmas.late_definitions_can_differ
