@@ -26,7 +26,8 @@ use Rattle.sixel_model.specs.declared.rule.Rule.{Rule}
 use Rattle.sixel_model.specs.declared.rule.Rule.TheVariants.{Outside, Uncovered, EightBit}
 use Rattle.sixel_judge.specs.declared.verdict.Finding.{Finding}
 use Rattle.sixel_judge.specs.Alarms.{HasRoomFor, IsPaintedUnlessClipped}
-use Rattle.sixel_check_laws.specs.Differences.{IsFound, SomeEightBitDiffer, SomeOutsideDiffer, SomeUncoveredDiffer, black}
+use Rattle.sixel_check_laws.specs.Differences.{IsFound, SomeEightBitDiffer, SomeOutsideDiffer, SomeUncoveredDiffer}
+use Rattle.sixel_check_laws.specs.Differences.{black}
 use Rattle.sixel_check_laws.specs.Differences.{other_than, witness_terminal, shown_at, stood_at, white}
 use Rattle.sixel_judge.specs.Verdicts.{IsPixel, capped, greatest}
 use Rattle.sixel_judge.proofs.AlarmLemmas.{finish_last}

@@ -1,6 +1,7 @@
 //! Laws about comparisons. Each function's contract is the law.
 
-ghost use Rattle.sixel_differ_laws.specs.Laws.{OneComparison, OneGroupWhereAlike, OneSetOfViews, SomeComparison, ViewsOrFault};
+ghost use Rattle.sixel_differ_laws.specs.Laws.{OneComparison, OneGroupWhereAlike, OneSetOfViews, SomeComparison};
+ghost use Rattle.sixel_differ_laws.specs.Laws.{ViewsOrFault};
 
 /// The four terminals are one group exactly where all four models say what is shown, and the four screens are equal at
 /// each pixel.

@@ -1,5 +1,6 @@
 -- A drawing of what a model makes of a document.
-use Rattle.std.specs.Prelude.{◌≡◌, ◌≤◌, ◌<◌, ◌-◌, ◌++◌, ◌∷◌, ℕ, true, List, [], Option, Some, Result, Ok, Err, flat_map, length}
+use Rattle.std.specs.Prelude.{◌≡◌, ◌≤◌, ◌<◌, ◌-◌, ◌++◌, ◌∷◌, ℕ, true, List, [], Option, Some, Result, Ok, Err, flat_map}
+use Rattle.std.specs.Prelude.{length}
 use Rattle.std.specs.Prelude.{slice_get, slice_index}
 use Rattle.std.specs.List.{range_with_len}
 use Rattle.std.specs.Option.{option_map, option_to_list}
@@ -16,7 +17,8 @@ use Rattle.sixel_emulator.specs.declared.modelled.Modelled.{Modelled}
 use Rattle.sixel_emulator.specs.declared.modelled.UnsaidControls.{UnsaidControls}
 use Rattle.sixel_emulator.specs.declared.progress.Progress.{Progress}
 use Rattle.sixel_emulator.specs.Courses.{HasEnded, IsCourse}
-use Rattle.sixel_emulator.specs.Readings.{EndsAt, IsReading, IsSaid, Model, StopsNowhereBelow, drawn_by, is_stop, read_at}
+use Rattle.sixel_emulator.specs.Readings.{EndsAt, IsReading, IsSaid, Model, StopsNowhereBelow, drawn_by, is_stop}
+use Rattle.sixel_emulator.specs.Readings.{read_at}
 
 -- the event at this position has this offset
 abbrev pub HasPlace : List Placed → ℕ → ℕ → Type 0

@@ -12,7 +12,7 @@ pub fn portable_on_all_is_the_same()
 {}
 
 /// The picture of a verdict for named terminals is shown by each of them, on each screen of one colour with room. Where
-/// the answer of `sixel_emulator_check::outcome_on` is a size, the events of the document leave a picture with these sides, which
+/// `sixel_emulator_check::outcome_on` answers a size, the events of the document leave a picture with these sides, which
 /// is portable, and which each of the terminals shows.
 pub fn portable_is_shown_on_each()
     ensures verdicts { (profile : Profile) → VerdictsAreShown (count_of profile) }

@@ -22,7 +22,8 @@ use Rattle.sixel_judge.specs.Counting.{is_below as is_below_count}
 use Rattle.sixel_emulator_rules.specs.Asked.{BreaksAsked, breaks_dropped, breaks_far, breaks_past, breaks_raster_late}
 use Rattle.sixel_emulator_rules.specs.Asked.{ends_right, is_below, is_deep, leaves_box, leaves_far}
 use Rattle.sixel_emulator_rules.specs.Asking.{NamesWithin}
-use Rattle.sixel_emulator_rules.specs.Counts.{counts_in, dropped_in, ends_right_in, far_in, is_below_in, is_deep_in, late_in}
+use Rattle.sixel_emulator_rules.specs.Counts.{counts_in, dropped_in, ends_right_in, far_in, is_below_in, is_deep_in}
+use Rattle.sixel_emulator_rules.specs.Counts.{late_in}
 use Rattle.sixel_emulator_rules.specs.Counts.{leaves_far_in, leaves_in, paints_stale_in, past_in, strays_in}
 use Rattle.sixel_emulator_rules.specs.Notes.{AreNarrow, IsNotesAfter, attributes, is_same, parts_of, shade_at, stale_in}
 use Rattle.sixel_emulator_rules.specs.Stale.{IsStale, colour_at_select}
@@ -31,7 +32,8 @@ use Rattle.sixel_emulator_rules.proofs.StaleLemmas.{at_high}
 use Rattle.sixel_emulator_rules.specs.declared.notes.Declared.{Declared}
 use Rattle.sixel_emulator_rules.specs.declared.notes.Notes.{Notes}
 use Rattle.sixel_emulator_rules.specs.declared.rule.AskedRule.{AskedRule}
-use Rattle.sixel_emulator_rules.specs.declared.rule.AskedRule.TheVariants.{RasterLate, Dropped, Stale, Large, Rows, Past, Hue}
+use Rattle.sixel_emulator_rules.specs.declared.rule.AskedRule.TheVariants.{RasterLate, Dropped, Stale, Large, Rows}
+use Rattle.sixel_emulator_rules.specs.declared.rule.AskedRule.TheVariants.{Past, Hue}
 use Rattle.sixel_emulator_rules.specs.declared.rule.AskedRule.TheVariants.{Far, Mixed}
 use Rattle.sixel_emulator_rules.specs.declared.shade.Shade.{Shade}
 use Rattle.sixel_emulator_rules.specs.declared.shade.Shade.TheVariants.{Rgb, Hls}

@@ -19,7 +19,8 @@ use Rattle.sixel_emulator_rules.specs.Notes.{next_picked, next_shades, parts_of,
 use Rattle.sixel_emulator_rules.specs.Stale.{colour_at_select}
 use Rattle.sixel_emulator_rules.specs.declared.notes.Declared.{Declared}
 use Rattle.sixel_emulator_rules.specs.declared.notes.Notes.{Notes}
-use Rattle.sixel_emulator_rules.proofs.StaleLemmas.{at_high, at_select_anew, at_select_still, length_shades, shades_push}
+use Rattle.sixel_emulator_rules.proofs.StaleLemmas.{at_high, at_select_anew, at_select_still, length_shades}
+use Rattle.sixel_emulator_rules.proofs.StaleLemmas.{shades_push}
 
 -- ---- before any event
 

@@ -15,7 +15,8 @@ use Rattle.sixel_emulator.specs.Places.{most}
 use Rattle.sixel_emulator_rules.specs.Asked.{is_asked}
 use Rattle.sixel_emulator_rules.specs.Asking.{HasAsked, HasFound, found_at, placed_at}
 use Rattle.sixel_emulator_rules.specs.Counts.{IsCalmBefore, first_in, is_near_at}
-use Rattle.sixel_emulator_rules.specs.Notes.{IsNotesAfter, attributes, is_same, passed, returned, selecting, shade_at, stale_in}
+use Rattle.sixel_emulator_rules.specs.Notes.{IsNotesAfter, attributes, is_same, passed, returned, selecting, shade_at}
+use Rattle.sixel_emulator_rules.specs.Notes.{stale_in}
 use Rattle.sixel_emulator_rules.specs.declared.asking.Asking.{Asking}
 use Rattle.sixel_emulator_rules.specs.declared.notes.Notes.{Notes}
 use Rattle.sixel_emulator_rules.specs.declared.rule.AskedRule.TheVariants.{Stale}

@@ -35,7 +35,8 @@ use Rattle.sixel_emulator_rules.specs.Asked.{breaks_mixed, breaks_past, breaks_r
 use Rattle.sixel_emulator_rules.specs.Stale.{colour_at_select}
 use Rattle.sixel_emulator_rules.specs.Witnesses.{EachRuleHasAWitness, asker_of, witness_of}
 use Rattle.sixel_emulator_rules.specs.declared.rule.AskedRule.{AskedRule}
-use Rattle.sixel_emulator_rules.specs.declared.rule.AskedRule.TheVariants.{RasterLate, Dropped, Stale, Large, Rows, Past, Hue}
+use Rattle.sixel_emulator_rules.specs.declared.rule.AskedRule.TheVariants.{RasterLate, Dropped, Stale, Large, Rows}
+use Rattle.sixel_emulator_rules.specs.declared.rule.AskedRule.TheVariants.{Past, Hue}
 use Rattle.sixel_emulator_rules.specs.declared.rule.AskedRule.TheVariants.{Far, Mixed}
 
 -- ---- more registers

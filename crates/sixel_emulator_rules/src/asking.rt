@@ -10,7 +10,8 @@ ghost use Rattle.sixel_grammar.specs.declared.command.Command.TheVariants.{Carri
 ghost use Rattle.sixel_grammar.specs.declared.command.Event.{Event as AnEvent};
 ghost use Rattle.sixel_grammar.specs.declared.command.Event.TheVariants.{Step};
 ghost use Rattle.sixel_grammar.specs.declared.command.Placed.{Placed as PlacedValue};
-ghost use Rattle.sixel_emulator_rules.specs.Asking.{HasAsked, HasAskedOn, HasFound, IsAnswer, TakesOn, found_at, placed_at};
+ghost use Rattle.sixel_emulator_rules.specs.Asking.{HasAsked, HasAskedOn, HasFound, IsAnswer, TakesOn, found_at};
+ghost use Rattle.sixel_emulator_rules.specs.Asking.{placed_at};
 ghost use Rattle.sixel_emulator_rules.specs.Counts.{IsCalmBefore, asked_in, first_in};
 ghost use Rattle.sixel_emulator_rules.specs.Notes.{IsNotesAfter};
 

@@ -8,7 +8,8 @@ use Rattle.sixel_named_terminals.specs.declared.named.Named.TheVariants.{XTerm, 
 use Rattle.sixel_emulator_rules.specs.Asked.{breaks_dropped, breaks_far, breaks_hue, breaks_large, breaks_mixed}
 use Rattle.sixel_emulator_rules.specs.Asked.{breaks_past, breaks_raster_late, breaks_rows}
 use Rattle.sixel_emulator_rules.specs.Stale.{IsStale}
-use Rattle.sixel_emulator_rules.specs.declared.rule.AskedRule.TheVariants.{RasterLate, Dropped, Stale, Large, Rows, Past, Hue}
+use Rattle.sixel_emulator_rules.specs.declared.rule.AskedRule.TheVariants.{RasterLate, Dropped, Stale, Large, Rows}
+use Rattle.sixel_emulator_rules.specs.declared.rule.AskedRule.TheVariants.{Past, Hue}
 use Rattle.sixel_emulator_rules.specs.declared.rule.AskedRule.TheVariants.{Far, Mixed}
 use Rattle.sixel_emulator_rules_laws.specs.Laws.{BreaksNoneOf}
 

@@ -20,14 +20,17 @@ use Rattle.sixel_encode.specs.Canon.{canon, canon_start, define_command}
 use Rattle.sixel_encode_laws.proofs.OpeningLemmas.{raster}
 use Rattle.sixel_encode.proofs.PartedLemmas.{Parted, parted}
 use Rattle.sixel_encode_laws.proofs.StandLemmas.{box_of}
-use Rattle.sixel_emulator_rules.specs.Asked.{breaks_dropped, breaks_far, breaks_hue, breaks_large, breaks_mixed, breaks_past}
+use Rattle.sixel_emulator_rules.specs.Asked.{breaks_dropped, breaks_far, breaks_hue, breaks_large, breaks_mixed}
+use Rattle.sixel_emulator_rules.specs.Asked.{breaks_past}
 use Rattle.sixel_emulator_rules.specs.Asked.{breaks_raster_late, breaks_rows, leaves_box, leaves_far}
 use Rattle.sixel_emulator_rules.specs.declared.rule.AskedRule.TheVariants.{RasterLate, Dropped, Large, Rows, Past, Hue}
 use Rattle.sixel_emulator_rules.specs.declared.rule.AskedRule.TheVariants.{Far, Mixed}
-use Rattle.sixel_emulator_rules_laws.specs.Laws.{BreaksNoneOf, CanonSuitsFoot, CanonSuitsKonsole, CanonSuitsMlTerm, CanonSuitsXTerm}
+use Rattle.sixel_emulator_rules_laws.specs.Laws.{BreaksNoneOf, CanonSuitsFoot, CanonSuitsKonsole, CanonSuitsMlTerm}
+use Rattle.sixel_emulator_rules_laws.specs.Laws.{CanonSuitsXTerm}
 use Rattle.sixel_emulator_rules_laws.specs.Laws.{HasNoHue}
 use Rattle.sixel_emulator_rules_laws.proofs.AskedForms.{stale_only}
-use Rattle.sixel_emulator_rules_laws.proofs.CanonLemmas.{HoldsOfBands, HoldsOfPalette, canon_defines_first, canon_is, closing}
+use Rattle.sixel_emulator_rules_laws.proofs.CanonLemmas.{HoldsOfBands, HoldsOfPalette, canon_defines_first, canon_is}
+use Rattle.sixel_emulator_rules_laws.proofs.CanonLemmas.{closing}
 use Rattle.sixel_emulator_rules_laws.proofs.CanonLemmas.{closing_is, opening, opening_is}
 use Rattle.sixel_emulator_rules_laws.proofs.CanonWalkLemmas.{IsCalm, canon_walks, each_at}
 use Rattle.sixel_emulator_rules_laws.proofs.StaleLemmas.{first_is_not_stale}

@@ -23,7 +23,8 @@ use Rattle.sixel_model.proofs.RuleLemmas.{Keeps, is_false, keeps_at, none_before
 use Rattle.sixel_model.proofs.StepLemmas.{raster_push}
 use Rattle.sixel_named_terminals.specs.declared.named.Named.TheVariants.{Konsole}
 use Rattle.sixel_konsole.specs.Konsole.{begins, counting, first_below, first_followed, has_begun, has_late}
-use Rattle.sixel_konsole.specs.Konsole.{has_unknown_system, is_stuck, konsole, konsole_drawing, may_count, moves_or_ends}
+use Rattle.sixel_konsole.specs.Konsole.{has_unknown_system, is_stuck, konsole, konsole_drawing, may_count}
+use Rattle.sixel_konsole.specs.Konsole.{moves_or_ends}
 use Rattle.sixel_emulator.specs.Readings.{drawn_by}
 use Rattle.sixel_konsole.proofs.FollowedLemmas.{any_followed_push, first_followed_push}
 use Rattle.sixel_konsole.proofs.KonsoleMeasureLemmas.{drawing_push}

@@ -27,9 +27,11 @@ use Rattle.sixel_emulator_rules_laws.proofs.FollowLemmas.{beside}
 use Rattle.sixel_emulator_rules_laws.proofs.InkLemmas.{ink_still, last_ink}
 use Rattle.sixel_emulator_rules_laws.proofs.KonsoleBoxLemmas.{IsHeld, held_push, none_held}
 use Rattle.sixel_emulator_rules_laws.proofs.KonsoleDrawingLemmas.{IsBody, IsDrawn, asked_last, begun_after, body_before}
-use Rattle.sixel_emulator_rules_laws.proofs.KonsoleDrawingLemmas.{counting_push, drawn_push, drops_last, free_next, front}
+use Rattle.sixel_emulator_rules_laws.proofs.KonsoleDrawingLemmas.{counting_push, drawn_push, drops_last, free_next}
+use Rattle.sixel_emulator_rules_laws.proofs.KonsoleDrawingLemmas.{front}
 use Rattle.sixel_emulator_rules_laws.proofs.KonsoleDrawingLemmas.{front_drawn}
-use Rattle.sixel_emulator_rules_laws.proofs.KonsoleDrawingLemmas.{front_plain, goes_on, is_start, keeps_last, last_push, plain_of}
+use Rattle.sixel_emulator_rules_laws.proofs.KonsoleDrawingLemmas.{front_plain, goes_on, is_start, keeps_last, last_push}
+use Rattle.sixel_emulator_rules_laws.proofs.KonsoleDrawingLemmas.{plain_of}
 use Rattle.sixel_emulator_rules_laws.proofs.KonsoleDrawingLemmas.{plain_push, start_boxed, start_plain}
 use Rattle.sixel_emulator_rules_laws.proofs.KonsoleInkLemmas.{IsSame, front_same, same_push}
 use Rattle.sixel_emulator_rules_laws.proofs.KonsoleRuleLemmas.{IsBox, not_zero}

@@ -20,7 +20,8 @@ use Rattle.sixel_model.specs.Rules.{breaks_repeat_zero, colour_by, gives_colour}
 use Rattle.sixel_model.proofs.RuleLemmas.{Keeps}
 use Rattle.sixel_emulator.specs.declared.reading.Reads.{Reads}
 use Rattle.sixel_emulator.specs.declared.reading.Reads.TheVariants.{Nothing, Draws, Unsaid}
-use Rattle.sixel_konsole.specs.Konsole.{colour_and_select, counting, has_begun, is_above, is_dropped, is_stuck, is_whole}
+use Rattle.sixel_konsole.specs.Konsole.{colour_and_select, counting, has_begun, is_above, is_dropped, is_stuck}
+use Rattle.sixel_konsole.specs.Konsole.{is_whole}
 use Rattle.sixel_konsole.specs.Konsole.{konsole, konsole_move, may_count, moves_or_ends}
 use Rattle.sixel_emulator.specs.Readings.{drawn_by}
 use Rattle.sixel_emulator.specs.Words.{defining, nearest}

@@ -38,11 +38,13 @@ use Rattle.sixel_emulator_rules_laws.proofs.FallLemmas.{falls_nowhere}
 use Rattle.sixel_emulator_rules_laws.proofs.FollowLemmas.{beside}
 use Rattle.sixel_emulator_rules_laws.proofs.InkLemmas.{inked_painted, last_ink, last_inked, painted_inked}
 use Rattle.sixel_emulator_rules_laws.proofs.KonsoleBoxLemmas.{opening_box}
-use Rattle.sixel_emulator_rules_laws.proofs.KonsoleDrawingLemmas.{IsBody, asked_before, body_before, front, front_boxed, is_start}
+use Rattle.sixel_emulator_rules_laws.proofs.KonsoleDrawingLemmas.{IsBody, asked_before, body_before, front, front_boxed}
+use Rattle.sixel_emulator_rules_laws.proofs.KonsoleDrawingLemmas.{is_start}
 use Rattle.sixel_emulator_rules_laws.proofs.KonsoleDrawingLemmas.{plain_of}
 use Rattle.sixel_emulator_rules_laws.proofs.KonsoleFormLemmas.{IsForm, form}
 use Rattle.sixel_emulator_rules_laws.proofs.KonsoleInkLemmas.{IsSame, like_konsole, same_inked, same_push, same_shown}
-use Rattle.sixel_emulator_rules_laws.proofs.KonsoleKeptLemmas.{IsFollowed, IsKept, box_before_end, followed, kept_dropped, kept_whole}
+use Rattle.sixel_emulator_rules_laws.proofs.KonsoleKeptLemmas.{IsFollowed, IsKept, box_before_end, followed}
+use Rattle.sixel_emulator_rules_laws.proofs.KonsoleKeptLemmas.{kept_dropped, kept_whole}
 use Rattle.sixel_emulator_rules_laws.proofs.KonsoleKeptLemmas.{raster, whole_shorter}
 use Rattle.sixel_emulator_rules_laws.proofs.KonsoleRuleLemmas.{IsBox}
 use Rattle.sixel_emulator_rules_laws.proofs.KonsoleSaidLemmas.{all_is_said}

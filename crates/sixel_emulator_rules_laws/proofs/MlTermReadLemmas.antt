@@ -36,7 +36,8 @@ use Rattle.sixel_judge.proofs.OptionLemmas.{some_value}
 use Rattle.sixel_emulator_rules.specs.Asked.{breaks_far, breaks_mixed}
 use Rattle.sixel_emulator_rules_laws.proofs.AskedForms.{BreaksFor}
 use Rattle.sixel_emulator_rules_laws.proofs.KeptLemmas.{good_box, named_in_range, not_above}
-use Rattle.sixel_emulator_rules_laws.proofs.MlTermBufferLemmas.{IsBuffered, IsBufferedFor, IsNear, IsUnbuffered, near_by, sides_kept}
+use Rattle.sixel_emulator_rules_laws.proofs.MlTermBufferLemmas.{IsBuffered, IsBufferedFor, IsNear, IsUnbuffered}
+use Rattle.sixel_emulator_rules_laws.proofs.MlTermBufferLemmas.{near_by, sides_kept}
 use Rattle.sixel_emulator_rules_laws.proofs.MlTermBufferLemmas.{within}
 use Rattle.sixel_emulator_rules_laws.proofs.PenLemmas.{clamped_same, each_then}
 use Rattle.sixel_emulator_rules_laws.proofs.ReadingLemmas.{IsRead}

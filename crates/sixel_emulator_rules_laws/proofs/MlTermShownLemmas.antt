@@ -32,7 +32,8 @@ use Rattle.sixel_emulator_rules_laws.proofs.MlTermMissedLemmas.{IsMissed, missed
 use Rattle.sixel_emulator_rules_laws.proofs.MlTermReadLemmas.{mlterm_draws, mlterm_reads, not_far}
 use Rattle.sixel_emulator_rules_laws.proofs.PlainLemmas.{IsBare, last_inked}
 use Rattle.sixel_emulator_rules_laws.proofs.PlainShownLemmas.{IsLike, painted_inside, shows_like}
-use Rattle.sixel_emulator_rules_laws.proofs.ReadingLemmas.{IsClear, IsRead, SaysControls, by_none, by_push, clear_reading, clear_said}
+use Rattle.sixel_emulator_rules_laws.proofs.ReadingLemmas.{IsClear, IsRead, SaysControls, by_none, by_push}
+use Rattle.sixel_emulator_rules_laws.proofs.ReadingLemmas.{clear_reading, clear_said}
 use Rattle.sixel_emulator_rules_laws.proofs.ReadingLemmas.{drawing_by}
 
 -- ---- what mlterm reads

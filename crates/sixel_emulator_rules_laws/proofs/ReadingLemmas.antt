@@ -10,7 +10,8 @@ use Rattle.sixel_model.proofs.LastLemmas.{item_there}
 use Rattle.sixel_model.proofs.LatestLemmas.{take_one_more}
 use Rattle.sixel_emulator.specs.declared.reading.Reads.{Reads}
 use Rattle.sixel_emulator.specs.declared.reading.Reads.TheVariants.{Nothing, Draws, DrawsTwo, Stops, Unsaid}
-use Rattle.sixel_emulator.specs.Readings.{IsReading, IsSaid, IsUnsaid, Model, Rule, drawn_by, is_stop, is_unsaid_control}
+use Rattle.sixel_emulator.specs.Readings.{IsReading, IsSaid, IsUnsaid, Model, Rule, drawn_by, is_stop}
+use Rattle.sixel_emulator.specs.Readings.{is_unsaid_control}
 use Rattle.sixel_emulator.specs.Readings.{read_at}
 use Rattle.sixel_emulator.specs.Readings.IsUnsaid.{Control, Behaviour}
 use Rattle.sixel_emulator.specs.Words.{after_each, after_first}

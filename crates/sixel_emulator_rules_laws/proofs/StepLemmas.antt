@@ -23,7 +23,8 @@ use Rattle.sixel_emulator.specs.Words.{defining, kept}
 use Rattle.sixel_emulator_rules.specs.Stale.{IsStale}
 use Rattle.sixel_emulator_rules_laws.proofs.DrawingLemmas.{raster_drawn}
 use Rattle.sixel_emulator_rules_laws.proofs.FallLemmas.{IsCell, IsSameCell, kept_is_same, repeat_cell, sixel_cell}
-use Rattle.sixel_emulator_rules_laws.proofs.FollowLemmas.{HasPen, IsQuiet, Moves, moves_both, moves_data, moves_drawn, moves_event}
+use Rattle.sixel_emulator_rules_laws.proofs.FollowLemmas.{HasPen, IsQuiet, Moves, moves_both, moves_data, moves_drawn}
+use Rattle.sixel_emulator_rules_laws.proofs.FollowLemmas.{moves_event}
 use Rattle.sixel_emulator_rules_laws.proofs.FollowLemmas.{moves_return, pen_drawn, pen_event, pen_select, pens_agree}
 use Rattle.sixel_emulator_rules_laws.proofs.KeptLemmas.{count_some}
 use Rattle.sixel_emulator_rules_laws.proofs.SizeLemmas.{IsSized, row_left}

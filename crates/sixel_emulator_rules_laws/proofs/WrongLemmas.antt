@@ -20,7 +20,8 @@ use Rattle.sixel_terminal.specs.Drawing.{shown_on, touches_on}
 use Rattle.sixel_named_terminals.specs.declared.named.Named.{Named}
 use Rattle.sixel_named_terminals.specs.declared.named.Named.TheVariants.{XTerm, MlTerm, Foot, Konsole}
 use Rattle.sixel_emulator.specs.declared.reading.Reads.TheVariants.{Unsaid}
-use Rattle.sixel_konsole.specs.Konsole.{any_followed, counting, first_below, first_followed, greatest_at, greatest_below}
+use Rattle.sixel_konsole.specs.Konsole.{any_followed, counting, first_below, first_followed, greatest_at}
+use Rattle.sixel_konsole.specs.Konsole.{greatest_below}
 use Rattle.sixel_konsole.specs.Konsole.{has_begun, has_late, is_stuck, konsole_drawing, konsole_model, konsole_opening}
 use Rattle.sixel_mlterm.specs.MlTerm.{is_said_colour, mlterm_model}
 use Rattle.sixel_xterm.specs.XTerm.{xterm_model}
@@ -34,7 +35,8 @@ use Rattle.sixel_konsole.proofs.KonsoleReadLemmas.{konsole_read}
 use Rattle.sixel_named_terminals.proofs.NamedLemmas.{reading_once}
 use Rattle.sixel_judge.specs.Portable.{IsInBoxOn, Shows}
 use Rattle.sixel_emulator_rules.specs.declared.rule.AskedRule.{AskedRule}
-use Rattle.sixel_emulator_rules.specs.declared.rule.AskedRule.TheVariants.{RasterLate, Dropped, Stale, Large, Rows, Past, Hue}
+use Rattle.sixel_emulator_rules.specs.declared.rule.AskedRule.TheVariants.{RasterLate, Dropped, Stale, Large, Rows}
+use Rattle.sixel_emulator_rules.specs.declared.rule.AskedRule.TheVariants.{Past, Hue}
 use Rattle.sixel_emulator_rules.specs.declared.rule.AskedRule.TheVariants.{Far, Mixed}
 use Rattle.sixel_emulator_rules.specs.Witnesses.{witness_of}
 use Rattle.sixel_emulator_rules.proofs.WitnessLemmas.{none_below}

@@ -38,10 +38,12 @@ use Rattle.sixel_emulator_rules_laws.proofs.InkLemmas.{painted_inked}
 use Rattle.sixel_emulator_rules_laws.proofs.AskedLemmas.{by_events, fresh_at}
 use Rattle.sixel_emulator_rules_laws.proofs.PlainLemmas.{IsBare, last_inked, last_map, paint_of}
 use Rattle.sixel_emulator_rules_laws.proofs.PlainShownLemmas.{IsLike, shows_like}
-use Rattle.sixel_emulator_rules_laws.proofs.ReadingLemmas.{IsClear, IsRead, SaysControls, by_none, by_push, clear_reading, clear_said}
+use Rattle.sixel_emulator_rules_laws.proofs.ReadingLemmas.{IsClear, IsRead, SaysControls, by_none, by_push}
+use Rattle.sixel_emulator_rules_laws.proofs.ReadingLemmas.{clear_reading, clear_said}
 use Rattle.sixel_emulator_rules_laws.proofs.ReadingLemmas.{drawing_by}
 use Rattle.sixel_emulator_rules_laws.proofs.StaleLemmas.{by_pushes}
-use Rattle.sixel_emulator_rules_laws.proofs.XTermFollowLemmas.{IsAlong, IsInside, along_none, data_of, last_data, last_paint}
+use Rattle.sixel_emulator_rules_laws.proofs.XTermFollowLemmas.{IsAlong, IsInside, along_none, data_of, last_data}
+use Rattle.sixel_emulator_rules_laws.proofs.XTermFollowLemmas.{last_paint}
 use Rattle.sixel_emulator_rules_laws.proofs.XTermReadLemmas.{xterm_draws, xterm_reads}
 use Rattle.sixel_emulator_rules_laws.proofs.XTermSidesLemmas.{IsSided, sided_none, sided_push}
 use Rattle.sixel_emulator_rules_laws.proofs.XTermStepLemmas.{along_push}

@@ -22,7 +22,8 @@ use Rattle.sixel_emulator_rules_laws.proofs.FallLemmas.{IsCell, repeat_cell, six
 use Rattle.sixel_emulator_rules_laws.proofs.KeptLemmas.{count_some}
 use Rattle.sixel_emulator_rules_laws.proofs.SizeLemmas.{inside}
 use Rattle.sixel_emulator_rules_laws.proofs.XTermCutLemmas.{IsOnAll, IsPart, painting_part}
-use Rattle.sixel_emulator_rules_laws.proofs.XTermFollowLemmas.{IsAlong, IsInside, along_box, along_data, along_quiet, along_self}
+use Rattle.sixel_emulator_rules_laws.proofs.XTermFollowLemmas.{IsAlong, IsInside, along_box, along_data, along_quiet}
+use Rattle.sixel_emulator_rules_laws.proofs.XTermFollowLemmas.{along_self}
 use Rattle.sixel_emulator_rules_laws.proofs.XTermReadLemmas.{data_draws, xterm_draws}
 use Rattle.sixel_emulator_rules_laws.proofs.XTermSidesLemmas.{IsSided, IsSidedBy}
 

@@ -4,8 +4,10 @@ ghost use Rattle.std.specs.Prelude.{ℕ};
 ghost use Rattle.sixel_model.specs.Profiles.{count_of};
 ghost use Rattle.sixel_model.specs.declared.profile.Profile.{Profile};
 ghost use Rattle.sixel_named_terminals.specs.declared.named.Named.{Named};
-ghost use Rattle.sixel_emulator_rules_laws.specs.Laws.{CanonSuitsFoot, CanonSuitsKonsole, CanonSuitsMlTerm, CanonSuitsXTerm};
-ghost use Rattle.sixel_emulator_rules_laws.specs.Laws.{CanonDefinesFirst, CanonShownOnFoot, FirstIsNotStale, ShowsPortable};
+ghost use Rattle.sixel_emulator_rules_laws.specs.Laws.{CanonSuitsFoot, CanonSuitsKonsole, CanonSuitsMlTerm};
+ghost use Rattle.sixel_emulator_rules_laws.specs.Laws.{CanonSuitsXTerm};
+ghost use Rattle.sixel_emulator_rules_laws.specs.Laws.{CanonDefinesFirst, CanonShownOnFoot, FirstIsNotStale};
+ghost use Rattle.sixel_emulator_rules_laws.specs.Laws.{ShowsPortable};
 ghost use Rattle.sixel_emulator_rules_laws.specs.Laws.{EachWitnessIsShownWrong, LateDefinitionsCanDiffer};
 
 /// If a list breaks no rule, and none of those that a named terminal asks for, that terminal shows the picture.

@@ -17,7 +17,8 @@ use Rattle.sixel_encode.specs.Canon.{band_columns, band_commands, band_registers
 use Rattle.sixel_encode_laws.specs.Laws.{items_of}
 use Rattle.sixel_encode_laws.proofs.LongestLemmas.{runs_joined}
 use Rattle.sixel_encode_laws.proofs.StripLemmas.{lies}
-use Rattle.sixel_encode_laws.proofs.StandLemmas.{Passed, Stands, known_select, passed_as, quiet_passed, ran_as, ran_join}
+use Rattle.sixel_encode_laws.proofs.StandLemmas.{Passed, Stands, known_select, passed_as, quiet_passed, ran_as}
+use Rattle.sixel_encode_laws.proofs.StandLemmas.{ran_join}
 use Rattle.sixel_encode_laws.proofs.StandLemmas.{ran_none, stands_as}
 use Rattle.sixel_encode_laws.proofs.DrawnLemmas.{AreOwn, Draws, IsOwn, or_turn, runs_drawn}
 use Rattle.sixel_encode_laws.proofs.OccurringLemmas.{band_used, own_listed}

@@ -32,7 +32,8 @@ use Rattle.sixel_model.proofs.CoverLemmas.{idle_falls}
 use Rattle.sixel_model.proofs.KeepLemmas.{KeepEach, keep_one, keep_append, keep_none}
 use Rattle.sixel_encode_laws.proofs.StandLemmas.{Passed, Stands, box_of, definition_by, ran_as, ran_join, stands_quiet}
 use Rattle.sixel_encode_laws.proofs.BandLemmas.{bands_passed, is_above}
-use Rattle.sixel_encode_laws.proofs.OpeningLemmas.{Opened, defines_opened, opens_stands, raster, start_keeps, raster_keeps}
+use Rattle.sixel_encode_laws.proofs.OpeningLemmas.{Opened, defines_opened, opens_stands, raster, start_keeps}
+use Rattle.sixel_encode_laws.proofs.OpeningLemmas.{raster_keeps}
 use Rattle.sixel_encode_laws.proofs.OpeningLemmas.{raster_opens}
 use Rattle.sixel_encode.proofs.PartedLemmas.{Parted, parted}
 

@@ -20,7 +20,8 @@ use Rattle.sixel_model.specs.Pictures.{PictureValue, most_side}
 use Rattle.sixel_encode.specs.Canon.{Run, all_columns, band_columns, band_commands, band_registers, bands, below, canon}
 use Rattle.sixel_encode.specs.Canon.{canon_commands, column_bits, define_command, define_commands, has_bits}
 use Rattle.sixel_encode.specs.Canon.{picture_commands, register_commands, run_commands, runs, without_blanks}
-use Rattle.sixel_encode_laws.specs.Laws.{EventsCanBeWritten, ListsAreWhole, TextsAreDocuments, TextsHaveAtMost, items_of}
+use Rattle.sixel_encode_laws.specs.Laws.{EventsCanBeWritten, ListsAreWhole, TextsAreDocuments, TextsHaveAtMost}
+use Rattle.sixel_encode_laws.specs.Laws.{items_of}
 use Rattle.sixel_encode.proofs.BitLemmas.{column_most}
 use Rattle.sixel_encode_laws.proofs.LengthLemmas.{columns_length, defines_from, entry_colour}
 use Rattle.sixel_encode_laws.proofs.LongestLemmas.{runs_joined}

@@ -4,7 +4,8 @@ ghost use Rattle.sixel_grammar.specs.Document.{most_bytes};
 ghost use Rattle.sixel_model.specs.Profiles.{count_of};
 ghost use Rattle.sixel_model.specs.declared.profile.Profile.{Profile};
 ghost use Rattle.sixel_model.specs.declared.profile.Profile.TheVariants.{Registers16, Registers256};
-ghost use Rattle.sixel_encode_laws.specs.Laws.{EventsCanBeWritten, ListsAreWhole, ListsBreakNoRule, ListsLeaveTheirPicture};
+ghost use Rattle.sixel_encode_laws.specs.Laws.{EventsCanBeWritten, ListsAreWhole, ListsBreakNoRule};
+ghost use Rattle.sixel_encode_laws.specs.Laws.{ListsLeaveTheirPicture};
 ghost use Rattle.sixel_encode_laws.specs.Laws.{RunsAreLongest, RunsGiveTheirRow, TextsAreDocuments, TextsAreShort};
 ghost use Rattle.sixel_encode_laws.specs.Laws.{TextsHaveAtMost};
 

@@ -1,10 +1,13 @@
 -- Columns that a reader takes at once, perhaps after a select.
-use Rattle.std.proofs.Common.{Bool, cond, ◌≡◌, ◌∙◌, ℕ, ◌+◌, ◌-◌, ◌<◌, ◌≤◌, true, false, List, [], ◌∷◌, ◌++◌, length, get_or}
-use Rattle.std.proofs.Common.{take, drop, Option, Some, None, refl, sym, ap, ap₂, subst, arith, length-append, append_assoc, suc}
+use Rattle.std.proofs.Common.{Bool, cond, ◌≡◌, ◌∙◌, ℕ, ◌+◌, ◌-◌, ◌<◌, ◌≤◌, true, false, List, [], ◌∷◌, ◌++◌, length}
+use Rattle.std.proofs.Common.{get_or}
+use Rattle.std.proofs.Common.{take, drop, Option, Some, None, refl, sym, ap, ap₂, subst, arith, length-append}
+use Rattle.std.proofs.Common.{append_assoc, suc}
 use Rattle.std.specs.Prelude.{◌&&◌, ◌==◌, nat_le, nat_lt}
 use Rattle.std.proofs.lemmas.Bool.{cond-true, cond-false, le-leb}
 use Rattle.std.proofs.lemmas.Bool.Decides.{nat_tests}
-use Rattle.std.proofs.lemmas.List.{append-nil, drop-take, drop_more, get_or-drop, get_or-take, length-drop, length-take, length-take-le}
+use Rattle.std.proofs.lemmas.List.{append-nil, drop-take, drop_more, get_or-drop, get_or-take, length-drop, length-take}
+use Rattle.std.proofs.lemmas.List.{length-take-le}
 use Rattle.std.proofs.lemmas.List.{take-append-drop, take-take, take_more, take_rest}
 use Rattle.sixel_grammar.specs.declared.command.Command.TheVariants.{Repeat, Select, Sixel}
 use Rattle.sixel_grammar.specs.declared.command.Event.{Event}

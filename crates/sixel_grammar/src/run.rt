@@ -1,10 +1,12 @@
 //! Finds columns at the beginning of a piece, perhaps after a select.
 
-ghost use Rattle.std.specs.Prelude.{◌≡◌, ◌≢◌, ◌<◌, ◌≤◌, ◌+◌, IfSome, IsNone, IsSome, IsTrue, false, true, length, slice_index, ℕ};
+ghost use Rattle.std.specs.Prelude.{◌≡◌, ◌≢◌, ◌<◌, ◌≤◌, ◌+◌, IfSome, IsNone, IsSome, IsTrue, false, true, length};
+ghost use Rattle.std.specs.Prelude.{slice_index, ℕ};
 ghost use Rattle.sixel_grammar.specs.Bytes.{is_data as data_test, is_digit as digit_test};
 ghost use Rattle.sixel_grammar.specs.Next.{with_digit as digit_after};
 ghost use Rattle.sixel_grammar.specs.Runs.{EndsNoRepeat, ReadsColumns, ReadsNumber, ReadsSelect};
-ghost use Rattle.sixel_grammar.specs.declared.command.Columns.TheVariants.{Missing as no_columns, Sixels as single_sixels};
+ghost use Rattle.sixel_grammar.specs.declared.command.Columns.TheVariants.{Missing as no_columns};
+ghost use Rattle.sixel_grammar.specs.declared.command.Columns.TheVariants.{Sixels as single_sixels};
 
 use crate::command::Columns;
 use crate::pending::is_data;

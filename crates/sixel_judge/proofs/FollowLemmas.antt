@@ -1,5 +1,6 @@
 -- Events that are read may be pushed, in order.
-use Rattle.std.proofs.Common.{◌≡◌, ℕ, true, false, not, IsTrue, ◌⊎◌, inl, inr, List, [], ◌∷◌, ◌++◌, Result, Ok, Err, Option, Some}
+use Rattle.std.proofs.Common.{◌≡◌, ℕ, true, false, not, IsTrue, ◌⊎◌, inl, inr, List, [], ◌∷◌, ◌++◌, Result, Ok, Err}
+use Rattle.std.proofs.Common.{Option, Some}
 use Rattle.std.proofs.Common.{sym, ◌∙◌, ap, subst, refl, arith, length, ◌+◌, ◌-◌, ◌<◌}
 use Rattle.std.specs.Prelude.{IfErr, OnErr, OnOk}
 use Rattle.std.proofs.lemmas.Bool.{and_from}

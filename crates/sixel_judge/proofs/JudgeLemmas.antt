@@ -1,5 +1,6 @@
 -- What a judge knows after one more event.
-use Rattle.std.proofs.Common.{◌≡◌, ◌≤◌, ℕ, ◌<◌, true, false, Option, Some, None, List, [], ◌∷◌, ◌++◌, length, sym, ◌∙◌, ap}
+use Rattle.std.proofs.Common.{◌≡◌, ◌≤◌, ℕ, ◌<◌, true, false, Option, Some, None, List, [], ◌∷◌, ◌++◌, length, sym, ◌∙◌}
+use Rattle.std.proofs.Common.{ap}
 use Rattle.std.proofs.Common.{Bool, not, ◌&&◌, ◌||◌, refl, subst}
 use Rattle.std.specs.Prelude.{is_none, is_some, slice_get}
 use Rattle.std.proofs.lemmas.Bool.{both_ways, or_left}

@@ -1,6 +1,7 @@
 //! How far the data commands of a string reach.
 
-ghost use Rattle.std.specs.Prelude.{◌≡◌, ◌++◌, ◌∷◌, [], ◌<◌, ◌≤◌, ◌+◌, ◌-◌, ◌*◌, ◌%◌, ◌^◌, List, ℕ, IsTrue, length, max, min};
+ghost use Rattle.std.specs.Prelude.{◌≡◌, ◌++◌, ◌∷◌, [], ◌<◌, ◌≤◌, ◌+◌, ◌-◌, ◌*◌, ◌%◌, ◌^◌, List, ℕ, IsTrue, length};
+ghost use Rattle.std.specs.Prelude.{max, min};
 ghost use Rattle.std.specs.Prelude.{slice_index};
 ghost use Rattle.sixel_grammar.specs.declared.command.Event.{Event as AnEvent};
 ghost use Rattle.sixel_grammar.specs.declared.command.Event.TheVariants.{Step};
@@ -10,7 +11,8 @@ ghost use Rattle.sixel_model.specs.Geometry.{band_rows};
 ghost use Rattle.sixel_terminal.specs.Stretches.{sixels_of};
 ghost use Rattle.sixel_mend.specs.Extents.{depth, reached};
 ghost use Rattle.sixel_mend.specs.declared.mending.Mending.{Mending as AMending};
-ghost use Rattle.sixel_mend.specs.Measures.{IsSized, Measures, most, next_band, next_column, next_declared, reached_column};
+ghost use Rattle.sixel_mend.specs.Measures.{IsSized, Measures, most, next_band, next_column, next_declared};
+ghost use Rattle.sixel_mend.specs.Measures.{reached_column};
 ghost use Rattle.sixel_mend.specs.Measures.{reached_row};
 
 use sixel_grammar::{Command, Event, Follower, Placed};

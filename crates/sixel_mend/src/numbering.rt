@@ -1,7 +1,8 @@
 //! Makes a picture of pixels, whose colours get registers in the order in which they are first seen.
 
 ghost use Rattle.std.specs.Prelude.{◌≡◌, ◌≤◌, ◌*◌, ◌&&◌, [], IfErr, IfOk, IfSome, IsTrue, List, None, OnSome, Some};
-ghost use Rattle.std.specs.Prelude.{◌≢◌, ◌+◌, ◌-◌, ◌++◌, OnOk, length, map, replicate, slice_get, vec_capacity, vec_len};
+ghost use Rattle.std.specs.Prelude.{◌≢◌, ◌+◌, ◌-◌, ◌++◌, OnOk, length, map, replicate, slice_get, vec_capacity};
+ghost use Rattle.std.specs.Prelude.{vec_len};
 ghost use Rattle.sixel_model.specs.declared.colour.Parts.{Parts};
 ghost use Rattle.sixel_model.specs.Pictures.{is_side};
 ghost use Rattle.sixel_model.specs.Profiles.{count_of};

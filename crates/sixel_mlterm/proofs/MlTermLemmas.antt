@@ -26,7 +26,8 @@ use Rattle.sixel_emulator.specs.declared.place.Place.{Place}
 use Rattle.sixel_mlterm.specs.declared.mlterm.MlTerm.{MlTerm}
 use Rattle.sixel_mlterm.specs.declared.mlterm.buffer.Buffer.{Buffer as Stored}
 use Rattle.sixel_mlterm.specs.MlTerm.{Buffer, buffer_with, copies_past, end_of, given_by, is_past_all}
-use Rattle.sixel_mlterm.specs.MlTerm.{is_said_colour, is_unsaid_data, mlterm, mlterm_buffer, mlterm_data, mlterm_register}
+use Rattle.sixel_mlterm.specs.MlTerm.{is_said_colour, is_unsaid_data, mlterm, mlterm_buffer, mlterm_data}
+use Rattle.sixel_mlterm.specs.MlTerm.{mlterm_register}
 use Rattle.sixel_mlterm.specs.MlTerm.{mlterm_selected, no_buffer, raster_sides, rows_to, said_by}
 use Rattle.sixel_mlterm.specs.MlTerm.{data_sides, has_more, is_chance, is_lost, is_outside, reaching, resized}
 use Rattle.sixel_mlterm.specs.MlTerm.{with_data, with_line}

@@ -13,8 +13,10 @@ use Rattle.sixel_emulator.specs.declared.course.Course.TheVariants.{Goes, Stoppe
 use Rattle.sixel_named_terminals.specs.declared.named.Named.{Named}
 use Rattle.sixel_emulator.specs.Courses.{IsCourse, next_course}
 use Rattle.sixel_named_terminals.specs.Named.{IsScreenOn, model_of, terminal_on}
-use Rattle.sixel_emulator.specs.Readings.{EndsAt, IsReading, IsSaid, Model, drawn_by, is_stop, is_unsaid_control, read_at}
-use Rattle.sixel_emulator.proofs.CourseLemmas.{course_push, course_start, ends_before_end, goes_to_end, stops_before_end}
+use Rattle.sixel_emulator.specs.Readings.{EndsAt, IsReading, IsSaid, Model, drawn_by, is_stop, is_unsaid_control}
+use Rattle.sixel_emulator.specs.Readings.{read_at}
+use Rattle.sixel_emulator.proofs.CourseLemmas.{course_push, course_start, ends_before_end, goes_to_end}
+use Rattle.sixel_emulator.proofs.CourseLemmas.{stops_before_end}
 
 -- ---- one position
 

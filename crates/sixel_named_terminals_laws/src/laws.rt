@@ -1,14 +1,20 @@
 //! Laws about the rules. Each function's contract is the law.
 
-ghost use Rattle.sixel_named_terminals_laws.specs.Laws.{BandsAreTheHeight, BlankSixelIsFirst, ChanceIsUnsaid, CornerIsUnsaid};
-ghost use Rattle.sixel_named_terminals_laws.specs.Laws.{DataPastTheWidthIsCut, DroppedRasterOpensNothing, DroppedSelectOpens};
-ghost use Rattle.sixel_named_terminals_laws.specs.Laws.{EndsAtAnEvent, EndsAtOnePosition, FarBlankIsUnsaid, FarColumnsAreLost};
+ghost use Rattle.sixel_named_terminals_laws.specs.Laws.{BandsAreTheHeight, BlankSixelIsFirst, ChanceIsUnsaid};
+ghost use Rattle.sixel_named_terminals_laws.specs.Laws.{CornerIsUnsaid};
+ghost use Rattle.sixel_named_terminals_laws.specs.Laws.{DataPastTheWidthIsCut, DroppedRasterOpensNothing};
+ghost use Rattle.sixel_named_terminals_laws.specs.Laws.{DroppedSelectOpens};
+ghost use Rattle.sixel_named_terminals_laws.specs.Laws.{EndsAtAnEvent, EndsAtOnePosition, FarBlankIsUnsaid};
+ghost use Rattle.sixel_named_terminals_laws.specs.Laws.{FarColumnsAreLost};
 ghost use Rattle.sixel_named_terminals_laws.specs.Laws.{GoesToTheEnd, GreatestSidesFill, KonsoleIsRead, LargeSideStops};
 ghost use Rattle.sixel_named_terminals_laws.specs.Laws.{LastPositionIsRead, LateBoxIsUnsaid, LateRasterDoesNotCount};
-ghost use Rattle.sixel_named_terminals_laws.specs.Laws.{NarrowBoxDoesNotCount, NoWidthStops, PenKeepsItsColour, PositionsAreRead};
-ghost use Rattle.sixel_named_terminals_laws.specs.Laws.{RatioIsTall, SamplesAreUnsaid, ShownDoesNotEnd, ShowsOneScreen, ShowsOrEnds};
+ghost use Rattle.sixel_named_terminals_laws.specs.Laws.{NarrowBoxDoesNotCount, NoWidthStops, PenKeepsItsColour};
+ghost use Rattle.sixel_named_terminals_laws.specs.Laws.{PositionsAreRead};
+ghost use Rattle.sixel_named_terminals_laws.specs.Laws.{RatioIsTall, SamplesAreUnsaid, ShownDoesNotEnd, ShowsOneScreen};
+ghost use Rattle.sixel_named_terminals_laws.specs.Laws.{ShowsOrEnds};
 ghost use Rattle.sixel_named_terminals_laws.specs.Laws.{StopsAtAnEvent};
-ghost use Rattle.sixel_named_terminals_laws.specs.Laws.{TwoBoxesBelowAreUnsaid, UndefinedIsDrawn, UnknownSystemSticks, WideBoxCuts};
+ghost use Rattle.sixel_named_terminals_laws.specs.Laws.{TwoBoxesBelowAreUnsaid, UndefinedIsDrawn, UnknownSystemSticks};
+ghost use Rattle.sixel_named_terminals_laws.specs.Laws.{WideBoxCuts};
 
 /// What xterm makes of strings that were shown on it.
 pub fn xterm_on_strings()

@@ -1,6 +1,7 @@
 //! What is painted of a box.
 
-ghost use Rattle.std.specs.Prelude.{◌≡◌, ◌<◌, ◌≤◌, ◌+◌, ◌*◌, ℕ, Bool, IfOk, IsTrue, false, is_none, length, slice_index, true};
+ghost use Rattle.std.specs.Prelude.{◌≡◌, ◌<◌, ◌≤◌, ◌+◌, ◌*◌, ℕ, Bool, IfOk, IsTrue, false, is_none, length};
+ghost use Rattle.std.specs.Prelude.{slice_index, true};
 ghost use Rattle.std.specs.Int.{bit_at};
 ghost use Rattle.sixel_model.specs.Grids.{Grid, blank_grid, cell, first_blank, painted_grid};
 ghost use Rattle.sixel_model.specs.Geometry.{band_rows};

@@ -27,7 +27,8 @@ use Rattle.sixel_named_terminals.specs.declared.showing.ShowFault.TheVariants as
 use Rattle.sixel_emulator.specs.Modelled.{EndsAtPlace, HasPlace}
 use Rattle.sixel_named_terminals.specs.Named.{GivesScreen, IsScreenOn, ShowsDocument, ShowsOn, model_of, terminal_on}
 use Rattle.sixel_emulator.specs.Readings.{EndsAt, IsSaid, Model}
-use Rattle.sixel_named_terminals.proofs.NamedLemmas.{end_once, said_does_not_end, said_or_ends, screen_once, shows_or_ends}
+use Rattle.sixel_named_terminals.proofs.NamedLemmas.{end_once, said_does_not_end, said_or_ends, screen_once}
+use Rattle.sixel_named_terminals.proofs.NamedLemmas.{shows_or_ends}
 use Rattle.sixel_report.specs.declared.fault.RunFault.{RunFault}
 use Rattle.sixel_report.specs.declared.fault.RunFault.TheVariants.{Grammar, NotRgb, NoBox, OutOfMemory, Unmodelled}
 use Rattle.sixel_report.specs.declared.task.Area.{Area}

@@ -231,7 +231,9 @@ fn show_at_once<S: Source, K: Sink>(
         (NoFaultBefore (S.state input.new).remaining) }
     ensures writes { CountsWrites result (K.state output.old).failures (K.state output.new).failures }
 {
-    match sixel_named_terminals::show_at_once(alloc, named, background, width, height, input, piece, read) {
+    match sixel_named_terminals::show_at_once(
+        alloc, named, background, width, height, input, piece, read,
+    ) {
         Ok(Ok(screen)) => {
             write_ppm_screen(&screen, output)?;
             Ok(Status::Done)

@@ -1,6 +1,7 @@
 -- The covered pixels after one more event.
 use Rattle.std.proofs.Common.{◌≡◌, ◌<◌, ◌≤◌, ◌+◌, ◌-◌, ◌*◌, ◌/◌, ◌%◌, ◌^◌, ◌&&◌, ◌||◌, ℕ, suc, Bool, true, false, not}
-use Rattle.std.proofs.Common.{min, Option, Some, None, List, [], ◌∷◌, ◌++◌, length, get_or, take, refl, sym, ap, ap₂, subst}
+use Rattle.std.proofs.Common.{min, Option, Some, None, List, [], ◌∷◌, ◌++◌, length, get_or, take, refl, sym, ap, ap₂}
+use Rattle.std.proofs.Common.{subst}
 use Rattle.std.proofs.Common.{◌∙◌, arith, map, cond, zero, ◌⊎◌, inl, inr}
 use Rattle.std.specs.Prelude.{IsSomeAnd, IsTrue, bit_and, count_by, filter, is_none, is_some, nat_le, slice_get}
 use Rattle.std.specs.Prelude.{unwrap_or, if◌then◌else◌}

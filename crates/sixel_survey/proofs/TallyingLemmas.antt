@@ -12,7 +12,8 @@ use Rattle.sixel_grammar.specs.declared.command.Event.{Event}
 use Rattle.sixel_grammar.specs.declared.command.Event.TheVariants.{Start, Step, Finish}
 use Rattle.sixel_grammar.specs.declared.command.Placed.{Placed}
 use Rattle.sixel_grammar.specs.Document.{events_of}
-use Rattle.sixel_model.specs.Events.{bits_of, columns_of, definition_where, is_data_command, is_eight_bit, is_finish, is_painting}
+use Rattle.sixel_model.specs.Events.{bits_of, columns_of, definition_where, is_data_command, is_eight_bit, is_finish}
+use Rattle.sixel_model.specs.Events.{is_painting}
 use Rattle.sixel_model.specs.Events.{is_repeat_of_zero, is_return, named_by, raster_of}
 use Rattle.sixel_model.specs.Geometry.{band, column}
 use Rattle.sixel_model.specs.Grids.{Grid}

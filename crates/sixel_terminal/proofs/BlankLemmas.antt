@@ -20,7 +20,8 @@ use Rattle.sixel_terminal.specs.Canvases.{black}
 use Rattle.sixel_terminal.specs.Displays.{Display, registers_of}
 use Rattle.sixel_terminal.specs.Drawings.{Drawn, HasDrawn}
 use Rattle.sixel_terminal.specs.Standing.{StandsAfter}
-use Rattle.sixel_terminal.specs.Steps.{ink_after_event, ink_by_colours, is_before_edges, is_from_origin, most, pen_covers}
+use Rattle.sixel_terminal.specs.Steps.{ink_after_event, ink_by_colours, is_before_edges, is_from_origin, most}
+use Rattle.sixel_terminal.specs.Steps.{pen_covers}
 use Rattle.sixel_terminal.proofs.DrawLemmas.{none_chosen, or_none}
 use Rattle.sixel_terminal.proofs.InkLemmas.{stands_push}
 use Rattle.sixel_terminal.proofs.PaintLemmas.{data_pixel, no_columns}

@@ -1,6 +1,7 @@
 //! The numbers that are read: of an introducer, a repeat, raster attributes or a colour command.
 
-ghost use Rattle.std.specs.Prelude.{◌≡◌, ◌<◌, IsTrue, true, false, if◌then◌else◌, length, [], ◌∷◌, ◌++◌, Some, None, nat_le};
+ghost use Rattle.std.specs.Prelude.{◌≡◌, ◌<◌, IsTrue, true, false, if◌then◌else◌, length, [], ◌∷◌, ◌++◌, Some, None};
+ghost use Rattle.std.specs.Prelude.{nat_le};
 ghost use Rattle.sixel_grammar.specs.Bytes.{is_digit as digit_test};
 ghost use Rattle.sixel_grammar.specs.Faults.{ColourFields as ColourForm, is_idle};
 ghost use Rattle.sixel_grammar.specs.Next.{with_digit, within as within_of};

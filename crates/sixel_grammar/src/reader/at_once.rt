@@ -1,12 +1,14 @@
 //! Reads several commands at once.
 
-ghost use Rattle.std.specs.Prelude.{◌≡◌, ◌≢◌, ◌<◌, ◌≤◌, ◌+◌, ◌-◌, IfSome, IsNone, IsSome, IsTrue, length, slice_index, take};
+ghost use Rattle.std.specs.Prelude.{◌≡◌, ◌≢◌, ◌<◌, ◌≤◌, ◌+◌, ◌-◌, IfSome, IsNone, IsSome, IsTrue, length, slice_index};
+ghost use Rattle.std.specs.Prelude.{take};
 ghost use Rattle.std.specs.Prelude.{[], None, false, ℕ};
 ghost use Rattle.sixel_grammar.specs.Bytes.{is_data as data_test};
 ghost use Rattle.sixel_grammar.specs.Document.{most_bytes};
 ghost use Rattle.sixel_grammar.specs.Faults.{ColourFields as ColourForm};
 ghost use Rattle.sixel_grammar.specs.Pending.{form_of};
-ghost use Rattle.sixel_grammar.specs.declared.command.Columns.TheVariants.{Missing as no_columns, Sixels as single_sixels};
+ghost use Rattle.sixel_grammar.specs.declared.command.Columns.TheVariants.{Missing as no_columns};
+ghost use Rattle.sixel_grammar.specs.declared.command.Columns.TheVariants.{Sixels as single_sixels};
 
 use super::{MOST_BYTES, Reader, ready_for};
 use crate::command::{Columns, Run, TwoCommands};

@@ -1,7 +1,8 @@
 use Rattle.std.proofs.lemmas.Result.{err_from_is_err_and}
 use Rattle.sixel_model.specs.Profiles.{count_of}
 use Rattle.sixel_survey.proofs.ReadsLemmas.{reads_followed, reads_halted}
-use Rattle.sixel_emulator_check.proofs.FollowLemmas.{HasTakenBoth, MayStopBoth, Pair, grows_both, had_none, taken_all, whole_now}
+use Rattle.sixel_emulator_check.proofs.FollowLemmas.{HasTakenBoth, MayStopBoth, Pair, grows_both, had_none, taken_all}
+use Rattle.sixel_emulator_check.proofs.FollowLemmas.{whole_now}
 use Rattle.sixel_emulator_check.proofs.checking.read_document.Goals as goal
 
 pub follow_source-requires : goal.follow_source-requires

@@ -1,6 +1,7 @@
 use Rattle.std.proofs.Common.{◌≤◌, ◌<◌, arith, inl, inr}
 use Rattle.sixel_plane.specs.Covers.{kept_by}
-use Rattle.sixel_survey.proofs.CoverLemmas.{IsRun, covered_blank, covered_none, covered_part, inside_covers, outside_covers}
+use Rattle.sixel_survey.proofs.CoverLemmas.{IsRun, covered_blank, covered_none, covered_part, inside_covers}
+use Rattle.sixel_survey.proofs.CoverLemmas.{outside_covers}
 use Rattle.sixel_survey.proofs.cover.cover.Goals as goal
 
 pub returns-then-bits-eq0 : goal.returns-then-bits-eq0

@@ -4,7 +4,8 @@ use Rattle.std.specs.Option.{option_map}
 use Rattle.sixel_grammar.specs.Document.{events_of}
 use Rattle.sixel_model.specs.Profiles.{count_of}
 use Rattle.sixel_judge.proofs.GrowthLemmas.{err_says, judge_grows}
-use Rattle.sixel_judge.proofs.JudgeLemmas.{finding_stays, judge_finds, judge_goes_on, judges_of, notes_kept, unbroken_of}
+use Rattle.sixel_judge.proofs.JudgeLemmas.{finding_stays, judge_finds, judge_goes_on, judges_of, notes_kept}
+use Rattle.sixel_judge.proofs.JudgeLemmas.{unbroken_of}
 use Rattle.sixel_judge.proofs.ViolationLemmas.{breaks_none}
 use Rattle.sixel_judge.proofs.judge.Judge.step.Goals as goal
 
