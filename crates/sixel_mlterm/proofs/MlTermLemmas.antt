@@ -1,5 +1,5 @@
 -- The automaton of mlterm, event by event.
-use Rattle.std.proofs.Common.{◌≡◌, ◌==◌, ◌<◌, ◌+◌, ◌*◌, ◌^◌, ◌%◌, ◌&&◌, ◌||◌, ℕ, Bool, true, false, Option, Some, None}
+use Rattle.std.proofs.Common.{◌≡◌, ◌==◌, ◌<◌, ◌+◌, ◌*◌, ◌%◌, ◌&&◌, ◌||◌, ℕ, Bool, true, false, Option, Some, None}
 use Rattle.std.proofs.Common.{List, [], ◌∷◌, ◌++◌, length, get_or, set, replicate, min, refl, sym, ap, ap₂, ◌∙◌}
 use Rattle.std.proofs.Common.{arith, max, zero, suc, not, ◌-◌, ◌≤◌, append-nil, append_assoc, take}
 use Rattle.std.specs.Prelude.{IfSome, nat_lt, nat_le, unwrap_or, if◌then◌else◌}
