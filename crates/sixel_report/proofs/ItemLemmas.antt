@@ -1,7 +1,6 @@
 -- What is written for the first items and the next one.
 use Rattle.std.proofs.Common.{◌≡◌, ◌∙◌, ◌+◌, ◌<◌, ◌++◌, ◌∷◌, ℕ, List, [], ap, append_assoc, drop, take, flat_map}
 use Rattle.std.proofs.Common.{get_or, length, map, sym}
-use Rattle.std.specs.Prelude.{◌≢◌}
 use Rattle.std.proofs.lemmas.List.{append-nil, map-append, take-append-drop, take_more}
 use Rattle.std.proofs.lemmas.Grind.{flat_map-append}
 use Rattle.sixel_report.specs.declared.item.Item.{Item}

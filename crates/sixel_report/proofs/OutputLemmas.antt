@@ -1,5 +1,5 @@
 -- What was written, and when two outputs are the same.
-use Rattle.std.proofs.Common.{◌≡◌, ◌∙◌, ℕ, [], ◌++◌, sym, ap, append_assoc, ◌∷◌}
+use Rattle.std.proofs.Common.{◌≡◌, ◌∙◌, ◌++◌, sym, ap, append_assoc}
 use Rattle.sixel_io.specs.Devices.{SinkState}
 use Rattle.sixel_io.proofs.SinkLemmas.{Appends-none}
 use Rattle.sixel_report.specs.Outputs.{WroteNothing}

@@ -14,7 +14,6 @@ use Rattle.sixel_scan.specs.declared.fault.ScanFault.TheVariants as scan
 use Rattle.sixel_report.specs.declared.fault.RunFault.{RunFault}
 use Rattle.sixel_report.specs.declared.fault.RunFault.TheVariants.{Grammar, Ppm, NotRgb, Empty, TooLarge}
 use Rattle.sixel_report.specs.declared.fault.RunFault.TheVariants.{TooManyColours, OutOfMemory, Read, Unmodelled, Write}
-use Rattle.std.specs.Prelude.{◌≡◌, [], ℕ}
 use Rattle.sixel_grammar.specs.declared.halt.Halt.{Halt}
 use Rattle.sixel_grammar.specs.declared.halt.Halt.TheVariants.{Refused, Stopped}
 

@@ -1,5 +1,5 @@
 -- Exit statuses, and messages that are put.
-use Rattle.std.specs.Prelude.{◌≡◌, ◌≢◌, ◌⊎◌, ◌++◌, ℕ, [], take, Result, Ok, Err, if◌then◌else◌}
+use Rattle.std.specs.Prelude.{◌≡◌, ◌⊎◌, ℕ, take, Result, Ok, Err}
 use Rattle.std.specs.Io.KnownBytes.{Appends}
 use Rattle.sixel_io.specs.Devices.{Change, SinkState, one_more}
 use Rattle.sixel_report.specs.declared.exit.Exit.{Exit}

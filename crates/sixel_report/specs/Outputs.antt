@@ -1,5 +1,5 @@
 -- What a run with an answer has written, and which failures of devices it counts.
-use Rattle.std.specs.Prelude.{◌≡◌, ◌⊎◌, ◌==◌, ℕ, List, [], ◌≤◌, Option, IsTrue, Result, Err, if◌then◌else◌}
+use Rattle.std.specs.Prelude.{◌≡◌, ◌⊎◌, ℕ, List, [], Option, IsTrue, Result, Err}
 use Rattle.std.specs.Io.KnownBytes.{Appends}
 use Rattle.sixel_io.specs.Devices.{one_more}
 use Rattle.sixel_ppm.specs.Ppm.{is_file_side}

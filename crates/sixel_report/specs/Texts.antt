@@ -1,6 +1,6 @@
 -- The lines that the program writes.
 use Rattle.std.specs.Prelude.{◌≡◌, ℕ, Bool, List, [], ◌∷◌, ◌++◌, Option, Some, None, codes, decimal, flat_map, map, ◌+◌}
-use Rattle.std.specs.Prelude.{◌*◌, ◌/◌, ◌%◌, false, filter, if◌then◌else◌, nat_eq}
+use Rattle.std.specs.Prelude.{false, filter, if◌then◌else◌, nat_eq}
 use Rattle.std.specs.List.{All}
 use Rattle.std.specs.Option.{option_to_list}
 use Rattle.sixel_grammar.specs.declared.command.Command.{Command}
