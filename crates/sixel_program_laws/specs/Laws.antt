@@ -1,5 +1,5 @@
 -- What the laws say.
-use Rattle.std.specs.Prelude.{◌≡◌, ◌⊎◌, ◌<◌, ◌^◌, ◌∷◌, ℕ, [], List, Option, ⊤, IfSome, All, decimal}
+use Rattle.std.specs.Prelude.{◌≡◌, ◌⊎◌, ◌<◌, ◌-◌, ◌^◌, ◌∷◌, ℕ, [], List, Option, ⊤, IfSome, All, decimal}
 use Rattle.json.specs.Json as json
 use Rattle.json.specs.Json.{Json, Members}
 use Rattle.json.specs.Token.{Token, null, number, string}
