@@ -1,8 +1,9 @@
-//! Laws about findings, for pictures of each profile. Each function's contract is the law.
+//! Laws about findings and pictures of each profile. Each function's contract is the law.
 
 ghost use Rattle.sixel_check_laws.specs.Differences.{CoordinatesAreExact, EightBitDiffers, OutsideDiffers};
 ghost use Rattle.sixel_check_laws.specs.Differences.{SomeEightBitDiffer, SomeOutsideDiffer, SomeUncoveredDiffer};
 ghost use Rattle.sixel_check_laws.specs.Differences.{UncoveredDiffers};
+ghost use Rattle.sixel_check_laws.specs.Examples.{OnePixelBreaksNone, SomeTerminalHasRoom};
 ghost use Rattle.sixel_model.specs.Profiles.{count_of};
 ghost use Rattle.sixel_model.specs.declared.profile.Profile.{Profile};
 
@@ -28,4 +29,14 @@ pub fn some_terminals_differ()
 /// In a document, a finding of `Outside` has coordinates below `u64::MAX`: none is capped.
 pub fn coordinates_are_exact()
     ensures { (profile : Profile) → CoordinatesAreExact (count_of profile) }
+{}
+
+/// Some whole list breaks no rule: a box of one pixel, painted in a register that is defined and selected.
+pub fn one_pixel_breaks_none()
+    ensures { (profile : Profile) → OnePixelBreaksNone (count_of profile) }
+{}
+
+/// For any count of registers and any size of a picture, some terminal of the class has room.
+pub fn some_terminal_has_room()
+    ensures { SomeTerminalHasRoom }
 {}

@@ -4,7 +4,7 @@ use Rattle.sixel_grammar.specs.declared.command.Event.{Event}
 use Rattle.sixel_grammar.specs.declared.command.Placed.{Placed}
 use Rattle.sixel_grammar.specs.Document.{events_of}
 use Rattle.sixel_model.specs.declared.colour.Parts.{Parts}
-use Rattle.sixel_emulator.specs.declared.both.Both.{Both}
+use Rattle.sixel_grammar.specs.declared.both.Both.{Both}
 use Rattle.sixel_foot.specs.declared.foot.Foot.{Foot as FootReading}
 use Rattle.sixel_konsole.specs.declared.konsole.Konsole.{Konsole as KonsoleReading}
 use Rattle.sixel_konsole.specs.declared.measuring.Measuring.{Measuring}

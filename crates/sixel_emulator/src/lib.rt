@@ -2,7 +2,6 @@
 //! here.
 #![tactic(auto)]
 
-mod both;
 mod course;
 mod documents;
 mod first_piece;
@@ -14,7 +13,6 @@ mod settings;
 mod waiting;
 pub mod words;
 
-pub use both::Both;
 pub use course::Course;
 pub use documents::{draw, draw_bytes};
 pub use first_piece::follow_rest;

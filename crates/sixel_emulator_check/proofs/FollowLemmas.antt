@@ -15,7 +15,7 @@ use Rattle.sixel_emulator_rules.specs.Asking.{HasAsked, HasAskedOn}
 use Rattle.sixel_emulator_rules.specs.declared.asking.Asking.{Asking}
 use Rattle.sixel_emulator_rules.specs.declared.terminals.Terminals.{Terminals}
 use Rattle.sixel_emulator_check.specs.Checking.{HaveTakenAll}
-use Rattle.sixel_emulator.specs.declared.both.Both.{Both}
+use Rattle.sixel_grammar.specs.declared.both.Both.{Both}
 
 abbrev pub Pair : Type 0
 Pair = Both CheckerValue Asking

@@ -12,7 +12,7 @@ use Rattle.sixel_emulator_rules.specs.Asking.{HasAsked}
 use Rattle.sixel_emulator_rules.specs.declared.asking.AskedFinding.{AskedFinding}
 use Rattle.sixel_emulator_rules.specs.declared.asking.Asking.{Asking}
 use Rattle.sixel_emulator_rules.specs.declared.terminals.Terminals.{Terminals}
-use Rattle.sixel_emulator.specs.declared.both.Both.{Both}
+use Rattle.sixel_grammar.specs.declared.both.Both.{Both}
 use Rattle.sixel_emulator_check.specs.declared.verdict.NamedOutcome.{NamedOutcome}
 use Rattle.sixel_emulator_check.specs.declared.verdict.NamedOutcome.TheVariants as outcome
 

@@ -8,9 +8,8 @@ ghost use Rattle.sixel_emulator_check.specs.Surveys.{SurveysOn, size_beside};
 
 use crate::checking::are_none;
 use arrayvec::ArrayVec;
-use sixel_emulator::Both;
 use sixel_emulator_rules::{AskedEntries, Tallying, Terminals};
-use sixel_grammar::{InputFault, follow_source};
+use sixel_grammar::{Both, InputFault, follow_source};
 use sixel_io::{PIECE, Source};
 use sixel_model::{Profile, RULE_COUNT};
 use sixel_plane::CoverPlane;

@@ -9,4 +9,3 @@ pub mod TakingLemmas
 pub mod TallyLemmas
 pub mod SettledLemmas
 pub mod LawLemmas
-pub mod WitnessLemmas

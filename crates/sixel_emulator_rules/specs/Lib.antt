@@ -4,7 +4,6 @@ pub mod Notes
 pub mod Counts
 pub mod Asking
 pub mod Laws
-pub mod Witnesses
 pub mod Names
 pub mod Tallies
 pub mod Tallying

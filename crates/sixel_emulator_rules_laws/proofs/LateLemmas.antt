@@ -26,7 +26,7 @@ use Rattle.sixel_judge.proofs.DecideLemmas.{decided_by, falls_searchable, blank_
 use Rattle.sixel_judge.proofs.DecideLemmas.{blank_first, outside_decided, blank_somewhere, both_decided}
 use Rattle.sixel_judge.proofs.DecideLemmas.{uncovered_decided, rule_decided, held_decided, position_decided}
 use Rattle.sixel_judge.proofs.DecideLemmas.{broken_decided, broken_or_none}
-use Rattle.sixel_judge.proofs.OnePixel.{second_of}
+use Rattle.sixel_check_laws.proofs.OnePixel.{second_of}
 use Rattle.sixel_judge.proofs.SearchLemmas.{decide_true, least_here, least_more, least_below, in_row}
 use Rattle.sixel_judge.proofs.SearchLemmas.{row_decided, first_point}
 use Rattle.sixel_foot.specs.Foot.{foot_model}

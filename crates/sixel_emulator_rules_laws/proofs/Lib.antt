@@ -41,3 +41,4 @@ pub mod CanonAskedLemmas
 pub mod ProfileLemmas
 pub mod LateLemmas
 pub mod WrongLemmas
+pub mod WitnessLemmas

@@ -38,8 +38,8 @@ use Rattle.sixel_emulator_rules.specs.declared.rule.AskedRule.{AskedRule}
 use Rattle.sixel_emulator_rules.specs.declared.rule.AskedRule.TheVariants.{RasterLate, Dropped, Stale, Large, Rows}
 use Rattle.sixel_emulator_rules.specs.declared.rule.AskedRule.TheVariants.{Past, Hue}
 use Rattle.sixel_emulator_rules.specs.declared.rule.AskedRule.TheVariants.{Far, Mixed}
-use Rattle.sixel_emulator_rules.specs.Witnesses.{witness_of}
-use Rattle.sixel_emulator_rules.proofs.WitnessLemmas.{none_below}
+use Rattle.sixel_emulator_rules_laws.specs.Witnesses.{witness_of}
+use Rattle.sixel_emulator_rules_laws.proofs.WitnessLemmas.{none_below}
 use Rattle.sixel_emulator_rules_laws.specs.Laws.{EachWitnessIsShownWrong, IsShownOn, IsShownRight}
 use Rattle.sixel_emulator_rules_laws.proofs.DrawingLemmas.{drawing_is_reading, foot_drawing}
 use Rattle.sixel_emulator_rules_laws.proofs.LateLemmas.{black_on_foot, white}

@@ -22,7 +22,7 @@ use Rattle.sixel_foot.specs.Settings.{foot_display}
 use Rattle.sixel_judge.specs.Portable.{Shows}
 use Rattle.sixel_encode.specs.Canon.{canon}
 use Rattle.sixel_emulator_rules.specs.Asked.{BreaksAsked, asks}
-use Rattle.sixel_emulator_rules.specs.Witnesses.{asker_of, witness_of}
+use Rattle.sixel_emulator_rules_laws.specs.Witnesses.{asker_of, witness_of}
 use Rattle.sixel_emulator_rules.specs.declared.rule.AskedRule.{AskedRule}
 use Rattle.sixel_emulator_rules_laws.specs.Stale.{DefinesFirst, NoneIsStale}
 

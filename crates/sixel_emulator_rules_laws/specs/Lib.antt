@@ -1,2 +1,3 @@
+pub mod Witnesses
 pub mod Stale
 pub mod Laws

@@ -4,6 +4,7 @@ ghost use Rattle.std.specs.Prelude.{ℕ};
 ghost use Rattle.sixel_model.specs.Profiles.{count_of};
 ghost use Rattle.sixel_model.specs.declared.profile.Profile.{Profile};
 ghost use Rattle.sixel_named_terminals.specs.declared.named.Named.{Named};
+ghost use Rattle.sixel_emulator_rules_laws.specs.Witnesses.{EachRuleHasAWitness};
 ghost use Rattle.sixel_emulator_rules_laws.specs.Laws.{CanonSuitsFoot, CanonSuitsKonsole, CanonSuitsMlTerm};
 ghost use Rattle.sixel_emulator_rules_laws.specs.Laws.{CanonSuitsXTerm};
 ghost use Rattle.sixel_emulator_rules_laws.specs.Laws.{CanonDefinesFirst, CanonShownOnFoot, FirstIsNotStale};
@@ -16,6 +17,12 @@ pub fn named_terminals_show_portable_pictures()
     ensures mlterm { (profile : Profile) → ShowsPortable Named.MlTerm (count_of profile) }
     ensures foot { (profile : Profile) → ShowsPortable Named.Foot (count_of profile) }
     ensures konsole { (profile : Profile) → ShowsPortable Named.Konsole (count_of profile) }
+{}
+
+/// For each rule there is a document that breaks it, and breaks no rule of portable pictures and no other rule that the
+/// same terminal asks for.
+pub fn each_rule_has_a_witness()
+    ensures { EachRuleHasAWitness }
 {}
 
 /// For each rule that a terminal asks for, a document that breaks it alone isn't shown right by that terminal.

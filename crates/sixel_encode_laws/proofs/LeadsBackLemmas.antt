@@ -29,7 +29,7 @@ use Rattle.sixel_encode.specs.Canon.{below, bands, band_commands, define_command
 use Rattle.sixel_encode.specs.Canon.{canon_start, canon}
 use Rattle.sixel_encode_laws.specs.Laws.{ListsBreakNoRule, ListsLeaveTheirPicture}
 use Rattle.sixel_model.proofs.CoverLemmas.{idle_falls}
-use Rattle.sixel_model.proofs.KeepLemmas.{KeepEach, keep_one, keep_append, keep_none}
+use Rattle.sixel_encode_laws.proofs.KeepLemmas.{KeepEach, keep_one, keep_append, keep_none}
 use Rattle.sixel_encode_laws.proofs.StandLemmas.{Passed, Stands, box_of, definition_by, ran_as, ran_join, stands_quiet}
 use Rattle.sixel_encode_laws.proofs.BandLemmas.{bands_passed, is_above}
 use Rattle.sixel_encode_laws.proofs.OpeningLemmas.{Opened, defines_opened, opens_stands, raster, start_keeps}

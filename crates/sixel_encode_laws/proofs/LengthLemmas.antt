@@ -18,7 +18,7 @@ use Rattle.sixel_grammar.specs.declared.command.Command.TheVariants.{NextLine}
 use Rattle.sixel_grammar.specs.declared.command.Event.TheVariants.{Finish}
 use Rattle.sixel_grammar.specs.Lengths.{digit_count}
 use Rattle.sixel_grammar.specs.Spelling.{fixed_command, fixed_fields, fixed_spelling}
-use Rattle.sixel_grammar.proofs.LengthLemmas.{decimal_within}
+use Rattle.sixel_grammar_laws.proofs.LengthLemmas.{decimal_within}
 use Rattle.sixel_model.specs.declared.colour.Parts.{Parts}
 use Rattle.sixel_model.specs.declared.colour.Parts.TheVariants.{Rgb, Hls}
 use Rattle.sixel_model.specs.Colours.{palette_at, IsColour}

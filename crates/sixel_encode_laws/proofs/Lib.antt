@@ -10,3 +10,4 @@ pub mod OpeningLemmas
 pub mod LeadsBackLemmas
 pub mod WrittenLemmas
 pub mod WorkedTexts
+pub mod KeepLemmas

@@ -22,7 +22,7 @@ use Rattle.sixel_model.proofs.PositionLemmas.{latest_push}
 use Rattle.sixel_model.proofs.StepLemmas.{band_push, raster_push, definition_push, register_push, covered_push}
 use Rattle.sixel_model.proofs.RuleLemmas.{Keeps}
 use Rattle.sixel_model.proofs.CoverLemmas.{idle_falls}
-use Rattle.sixel_model.proofs.KeepLemmas.{KeepEach, keep_append, keep_one}
+use Rattle.sixel_encode_laws.proofs.KeepLemmas.{KeepEach, keep_append, keep_one}
 
 -- ---- the definitions
 

@@ -1,3 +1,4 @@
+pub mod DigitLemmas
 pub mod CaseLemmas
 pub mod PastedLemmas
 pub mod EntryLemmas

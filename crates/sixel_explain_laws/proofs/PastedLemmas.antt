@@ -27,7 +27,7 @@ use Rattle.sixel_ppm.specs.declared.ppm.PpmReason.TheVariants as ppm
 use Rattle.sixel_report.specs.declared.fault.RunFault.{RunFault}
 use Rattle.sixel_report.specs.declared.fault.RunFault.TheVariants as fault
 use Rattle.sixel_report.specs.Texts.{Text, asked_line, fault_parts, finding_line, line, pixel_parts, rule_name, spaced}
-use Rattle.sixel_report.proofs.DigitLemmas.{AreDigits, number, number_digits}
+use Rattle.sixel_explain_laws.proofs.DigitLemmas.{AreDigits, number, number_digits}
 use Rattle.sixel_explain.specs.declared.explanations.Topic.{Topic}
 use Rattle.sixel_explain.specs.declared.explanations.Topic.TheVariants as topic
 use Rattle.sixel_explain.specs.Explanations.{ends_in, is_line, is_mark, last_name, line_of, listed, listed_names}

@@ -4,7 +4,6 @@ pub mod NumberLemmas
 pub mod AdvanceLemmas
 pub mod ViableLemmas
 pub mod FixedTextLemmas
-pub mod LengthLemmas
 pub mod WalkLemmas
 pub mod DocumentWalkLemmas
 pub mod ChoiceLemmas

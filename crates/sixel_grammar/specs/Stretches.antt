@@ -1,5 +1,5 @@
 -- Runs of data bytes, each a single sixel.
-use Rattle.std.specs.Prelude.{◌≡◌, ℕ, ◌+◌, ◌-◌, ◌<◌, ◌≤◌, List, [], ◌∷◌, ◌++◌, length, slice_index, Bool, true, false}
+use Rattle.std.specs.Prelude.{◌≡◌, ℕ, ◌+◌, ◌-◌, ◌<◌, ◌≤◌, List, [], ◌∷◌, ◌++◌, slice_index, Bool, true, false}
 use Rattle.sixel_grammar.specs.Bytes.{is_data}
 use Rattle.sixel_grammar.specs.Faults.{Form, NoCommand}
 use Rattle.sixel_grammar.specs.declared.command.Command.TheVariants.{Sixel}
@@ -13,12 +13,6 @@ abbrev pub sixels_from : ℕ → List ℕ → List Placed
 sixels_from place [] = []
 sixels_from place (byte ∷ bytes) =
     record { place = place; event = Step (Sixel (byte - 63)) } ∷ sixels_from (place + 1) bytes
-
--- whatever the reader had read, its next byte has this offset, and it has read these bytes too, each a single sixel
-abbrev pub TakesSixels : Reader → Reader → ℕ → List ℕ → Type 0
-TakesSixels old new place prefix =
-    (events : List Placed) (bytes : List ℕ) → StandsAfter old events bytes →
-    (place ≡ length bytes) × StandsAfter new (events ++ sixels_from place prefix) (bytes ++ prefix)
 
 -- whatever the reader had read, no reader can take the byte and complete just a sixel
 abbrev pub IsNoSixel : Reader → ℕ → Type 0

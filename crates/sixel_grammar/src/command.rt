@@ -78,15 +78,6 @@ pub enum Plain {
     Command { place: u64, command: Command },
 }
 
-/// A run of data bytes, each of which is a single sixel.
-#[derive(Clone, Copy, Debug, PartialEq, Eq)]
-pub struct Stretch {
-    /// The offset of the first one, in bytes from 0.
-    pub place: u64,
-    /// How many there are.
-    pub count: usize,
-}
-
 /// Columns that were read at once, perhaps after a select; or the bytes of a select that is open still.
 #[derive(Clone, Copy, Debug, PartialEq, Eq)]
 pub struct Run {

@@ -4,11 +4,11 @@
 //! chapter on sixel graphics.
 #![tactic(auto)]
 
+mod both;
 mod command;
 mod fault;
 mod following;
 mod halt;
-pub mod laws;
 mod pending;
 mod reader;
 mod reading;
@@ -17,7 +17,8 @@ mod source;
 mod stretch;
 mod writing;
 
-pub use command::{Columns, Command, Completed, Event, Placed, Plain, Run, Stretch, TwoCommands};
+pub use both::Both;
+pub use command::{Columns, Command, Completed, Event, Placed, Plain, Run, TwoCommands};
 pub use fault::{Fault, InputFault, Reason};
 pub use following::{Follower, follow_bytes};
 pub use halt::Halt;

@@ -1,7 +1,7 @@
 //! Reads a document byte by byte.
 
-ghost use Rattle.std.specs.Prelude.{◌≡◌, ◌↔◌, ◌<◌, ◌≤◌, ◌+◌, ◌-◌, IsTrue, true, false, length, List, [], ◌∷◌, ◌++◌, ℕ};
-ghost use Rattle.std.specs.Prelude.{slice_index, take, Option, Some, None, IfSome, IfOk, IfErr, MatchResult, IsNone};
+ghost use Rattle.std.specs.Prelude.{◌≡◌, ◌↔◌, ◌<◌, ◌≤◌, ◌-◌, IsTrue, true, false, length, List, [], ℕ};
+ghost use Rattle.std.specs.Prelude.{take, Option, Some, None, IfSome, IfOk, IfErr, MatchResult, IsNone};
 ghost use Rattle.std.specs.Prelude.{IsSome, OnSome, Err};
 ghost use Rattle.sixel_grammar.specs.declared.command.Placed.{Placed as PlacedEvent};
 ghost use Rattle.sixel_grammar.specs.Bytes.{is_data as data_test, is_digit as digit_test};
@@ -13,10 +13,9 @@ ghost use Rattle.sixel_grammar.specs.Pending.{form_of};
 ghost use Rattle.sixel_grammar.specs.Plain.{plain_of};
 ghost use Rattle.sixel_grammar.specs.declared.command.Plain.TheVariants.{Command as plain_command};
 
-use crate::command::{Command, Completed, Event, Placed, Plain, Stretch};
+use crate::command::{Command, Completed, Event, Placed, Plain};
 use crate::fault::{Fault, Reason};
 use crate::pending::{Pending, is_data, is_filler};
-use crate::stretch::data_bytes_in;
 
 mod at_once;
 
@@ -47,7 +46,6 @@ impl Reader {
     ghost use Rattle.sixel_grammar.specs.Standing.{IsNotOneCommand, IsNotPlain, Refuses, StandsAfter, Takes};
     ghost use Rattle.sixel_grammar.specs.Standing.{are_plain, completions};
     ghost use Rattle.sixel_grammar.specs.Standing.{fault_of, opened_after};
-    ghost use Rattle.sixel_grammar.specs.Stretches.{IsNoSixel, TakesSixels};
 
     /// A reader that has read nothing.
     pub fn new() -> Reader
@@ -170,35 +168,6 @@ impl Reader {
         } else {
             self.end_repeat(byte)
         }
-    }
-
-    /// Reads the longest prefix of the piece whose bytes are all single sixels.
-    ///
-    /// It reads nothing if a command is open or no byte may come, and then nothing has changed. Give the byte after the
-    /// prefix to `feed`.
-    #[inline(always)]
-    pub fn feed_stretch(&mut self, piece: &[u8]) -> Stretch
-        ensures within { result.count ≤ length piece.now }
-        ensures limit { result.place + result.count ≤ most_bytes }
-        ensures sixels { (k : ℕ) → k < result.count → IsTrue (data_test (slice_index piece.now k)) }
-        ensures taken { TakesSixels self.old self.new result.place (take result.count piece.now) }
-        ensures kept { result.count ≡ 0 → self.new ≡ self.old }
-        ensures stopped { IsSome (fault_of self.old) → result.count ≡ 0 }
-        ensures longest { result.count < length piece.now → IsNoSixel self.new (slice_index piece.now result.count) }
-    {
-        let place = MOST_BYTES - self.left;
-        if self.sixels == 0 {
-            return Stretch { place, count: 0 };
-        }
-        let count = data_bytes_in(piece);
-        if (count as u64) < self.left {
-            self.left -= count as u64;
-            return Stretch { place, count };
-        }
-        let count = self.left as usize;
-        self.left = 0;
-        self.sixels = 0;
-        Stretch { place, count }
     }
 
     /// Appends the digit to the open number.

@@ -1,2 +1,3 @@
 pub mod DeviceLemmas
 pub mod SinkLemmas
+pub mod KeptLemmas

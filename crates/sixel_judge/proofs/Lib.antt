@@ -26,7 +26,6 @@ pub mod AlarmLemmas
 pub mod DifferenceLemmas
 pub mod ShownLemmas
 pub mod AnswerLemmas
-pub mod OnePixel
 pub mod OptionLemmas
 pub mod PushLemmas
 pub mod FollowLemmas

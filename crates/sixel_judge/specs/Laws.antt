@@ -1,8 +1,6 @@
 -- What the laws say.
-use Rattle.std.specs.Prelude.{◌≡◌, ◌<◌, ◌≤◌, ◌++◌, ℕ, true, false, Some, None, IsTrue, List, [], ◌∷◌, slice_get, take}
-use Rattle.sixel_grammar.specs.declared.command.Command.TheVariants.{Sixel, Raster, Select, Define}
+use Rattle.std.specs.Prelude.{◌≡◌, ◌<◌, ◌≤◌, ◌++◌, ℕ, true, false, Some, None, IsTrue, List, slice_get, take}
 use Rattle.sixel_grammar.specs.declared.command.Event.{Event}
-use Rattle.sixel_grammar.specs.declared.command.Event.TheVariants.{Start, Step, Finish}
 use Rattle.sixel_grammar.specs.declared.command.Placed.{Placed}
 use Rattle.sixel_grammar.specs.Document.{AreWhole, events_of}
 use Rattle.sixel_grammar.specs.Prefixes.{CompleteIn}
@@ -89,13 +87,3 @@ abbrev pub GrowthStays : ℕ → Type 0
 GrowthStays registers =
     (prefix rest : List ℕ) (first second : List Placed) → CompleteIn first prefix → CompleteIn second (prefix ++ rest)
     → MayGrowAmong registers first → MayGrowAmong registers second
-
--- a box of one pixel, painted in a register that is defined and selected
-abbrev pub one_pixel : List Event
-one_pixel =
-    Start false (record { items = 0 ∷ [] }) ∷ Step (Raster 1 1 1 1) ∷ Step (Define 0 2 0 0 0) ∷ Step (Select 0)
-    ∷ Step (Sixel 1) ∷ Finish false ∷ []
-
--- it is a whole list and breaks no rule, so the laws on such lists aren't empty
-abbrev pub OnePixelBreaksNone : ℕ → Type 0
-OnePixelBreaksNone registers = AreWhole one_pixel × BreaksNone registers last_rule one_pixel

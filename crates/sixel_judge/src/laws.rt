@@ -1,7 +1,7 @@
 //! Laws about the definitions, for pictures of each profile. Each function's contract is the law.
 
 ghost use Rattle.sixel_judge.specs.Laws.{AllCovered, ClippingChangesNothing, FilledFirst, GrowthStays, LeftIsPortable};
-ghost use Rattle.sixel_judge.specs.Laws.{NonePaintedOutside, OnePixelBreaksNone, OneVerdict, PaintedColourIsLeft};
+ghost use Rattle.sixel_judge.specs.Laws.{NonePaintedOutside, OneVerdict, PaintedColourIsLeft};
 ghost use Rattle.sixel_judge.specs.Laws.{SomeVerdict, VerdictIsLeft};
 ghost use Rattle.sixel_model.specs.Profiles.{count_of};
 ghost use Rattle.sixel_model.specs.declared.profile.Profile.{Profile};
@@ -42,9 +42,4 @@ pub fn lists_have_one_verdict()
 /// in any longer viable prefix.
 pub fn growth_stays()
     ensures { (profile : Profile) → GrowthStays (count_of profile) }
-{}
-
-/// Some whole list breaks no rule: a box of one pixel, painted in a register that is defined and selected.
-pub fn one_pixel_breaks_none()
-    ensures { (profile : Profile) → OnePixelBreaksNone (count_of profile) }
 {}

@@ -9,8 +9,8 @@ ghost use Rattle.sixel_konsole.specs.Measuring.{HasTakenAll};
 
 use crate::konsole::Konsole;
 use crate::measuring::Measuring;
-use sixel_emulator::{Both, Modelled, UnsaidControls};
-use sixel_grammar::Command;
+use sixel_emulator::{Modelled, UnsaidControls};
+use sixel_grammar::{Both, Command};
 use sixel_terminal::Drawing;
 
 /// A drawing as konsole reads events. It draws `opening` first: the rectangle of the document, if it has one.

@@ -4,6 +4,8 @@ use Rattle.std.proofs.Common.{ap, subst, ◌∙◌, inl, inr, length, arith, [],
 use Rattle.std.specs.Prelude.{flat_map, slice_get}
 use Rattle.std.specs.List.{range_with_len}
 use Rattle.sixel_grammar.specs.declared.command.Event.{Event}
+use Rattle.sixel_grammar.specs.declared.command.Placed.{Placed}
+use Rattle.sixel_grammar.specs.Document.{events_of}
 use Rattle.sixel_model.specs.declared.colour.Parts.{Parts}
 use Rattle.sixel_terminal.specs.Displays.{Display}
 use Rattle.sixel_terminal.specs.Drawing.{screen_on}
@@ -12,6 +14,7 @@ use Rattle.sixel_emulator.specs.declared.course.Course.{Course}
 use Rattle.sixel_emulator.specs.declared.course.Course.TheVariants.{Goes, Stopped, Ended}
 use Rattle.sixel_named_terminals.specs.declared.named.Named.{Named}
 use Rattle.sixel_emulator.specs.Courses.{IsCourse, next_course}
+use Rattle.sixel_emulator.specs.Modelled.{EndsAtPlace, HasPlace}
 use Rattle.sixel_named_terminals.specs.Named.{IsScreenOn, model_of, terminal_on}
 use Rattle.sixel_emulator.specs.Readings.{EndsAt, IsReading, IsSaid, Model, drawn_by, is_stop, is_unsaid_control}
 use Rattle.sixel_emulator.specs.Readings.{read_at}
@@ -32,6 +35,27 @@ end_once m events i j a b = neither i j (ends_before m events i j a b) (ends_bef
 
 pub said_does_not_end : (m : Model) (events : List Event) (i : ℕ) → IsSaid m events → EndsAt m events i → ⊥
 said_does_not_end m events i said e = said i e.within e.unsaid
+
+-- ---- the event at which a model ends
+
+-- each event has an offset
+some_place : (placed : List Placed) (i : ℕ) → i < length (events_of placed) → (place : ℕ) × HasPlace placed i place
+some_place [] i lt = absurd (omega (arith, lt))
+some_place (p ∷ ps) zero lt = (p.place, refl)
+some_place (p ∷ ps) (suc i) lt = some_place ps i (omega (arith, lt))
+
+same_place : (placed : List Placed) (i a b : ℕ) → HasPlace placed i a → HasPlace placed i b → a ≡ b
+same_place placed i a b p q = let whole : Some a ≡ Some b = sym p ∙ q in cc
+
+pub ends_somewhere : (m : Model) (placed : List Placed) (i : ℕ) → EndsAt m (events_of placed) i
+    → (place : ℕ) × EndsAtPlace m placed place
+ends_somewhere m placed i ends =
+    let p = some_place placed i ends.within in (p.0, record { at = i; ends = ends; has_place = p.1 })
+
+pub one_end : (m : Model) (placed : List Placed) (a b : ℕ) → EndsAtPlace m placed a → EndsAtPlace m placed b → a ≡ b
+one_end m placed a b p q =
+    let same : p.at ≡ q.at = end_once m (events_of placed) p.at q.at p.ends q.ends in
+    same_place placed q.at a b (subst (λ (i : ℕ). HasPlace placed i a) same p.has_place) q.has_place
 
 -- ---- one drawing
 

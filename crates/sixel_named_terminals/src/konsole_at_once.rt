@@ -19,8 +19,8 @@ ghost use Rattle.sixel_konsole.specs.Settings.{konsole_display};
 
 use crate::named::Named;
 use crate::showing::{ShowFault, show_on};
-use sixel_emulator::{Both, Modelled};
-use sixel_grammar::Command;
+use sixel_emulator::Modelled;
+use sixel_grammar::{Both, Command};
 use sixel_konsole::{Konsole, Measuring};
 use sixel_model::Colour;
 use sixel_terminal::{Drawing, Screen};

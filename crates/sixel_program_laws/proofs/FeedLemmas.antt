@@ -23,7 +23,7 @@ use Rattle.sixel_report.specs.declared.item.Item.TheVariants as item
 use Rattle.sixel_report.specs.Texts.{IsLine, Text, entry_line, line, numbers, pixel_parts, rule_name, spaced}
 use Rattle.sixel_report.specs.Texts.{answer_line, column_and_row, item_line, outcome_line, reason_name, terminal_name}
 use Rattle.sixel_report.specs.Texts.{terminals_in}
-use Rattle.sixel_report.proofs.DigitLemmas.{AreDigits, number_digits}
+use Rattle.sixel_explain_laws.proofs.DigitLemmas.{AreDigits, number_digits}
 
 -- a text without line feeds
 abbrev IsUnfed : ℕ → Type 0

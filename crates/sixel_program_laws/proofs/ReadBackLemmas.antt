@@ -19,7 +19,7 @@ use Rattle.json.specs.Print.{ArePrintable, IsPrintable, begins, ends, escape, es
 use Rattle.json.specs.Print.{print_from, quoted, separator, token_text}
 use Rattle.json.specs.Token.{Token, begin_object, end_object, key}
 use Rattle.sixel_report.specs.Texts.{IsLine, Text}
-use Rattle.sixel_report.proofs.DigitLemmas.{AreDigits, number_digits}
+use Rattle.sixel_explain_laws.proofs.DigitLemmas.{AreDigits, number_digits}
 use Rattle.sixel_messages.specs.Json.{Member, json_line, object, tokens_of}
 use Rattle.sixel_program_laws.specs.Laws.{HaveValues, IsValue, members_of, value_of}
 

@@ -3,4 +3,3 @@ pub mod PutLemmas
 pub mod ItemLemmas
 pub mod RuleSetLemmas
 pub mod FirstAskedLemmas
-pub mod DigitLemmas

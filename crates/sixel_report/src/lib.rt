@@ -25,7 +25,7 @@ pub use first_finding::first_of;
 pub use item::{Item, Items, item_line, item_of, survey_items};
 pub use lines::{
     Line, asked_line, event_line, fault_line, finding_line, named_rule_name, outcome_line,
-    ppm_reason_name, reason_name, rule_name, verdict_line, write_fault, write_finding,
+    ppm_reason_name, reason_name, rule_name, write_fault, write_finding,
 };
 pub use put_item::{Plain, PutItem};
 pub use request::Request;

@@ -5,13 +5,13 @@ ghost use Rattle.arrayvec.specs.ArrayVec.{array_vec_len};
 ghost use Rattle.sixel_io.specs.Devices.{Writes};
 ghost use Rattle.sixel_report.specs.Texts.{event_line, event_parts, fault_line, finding_line, kind_name, numbers};
 ghost use Rattle.sixel_report.specs.Texts.{asked_line, named_rule_name, pixel_parts, outcome_line, ppm_reason_name};
-ghost use Rattle.sixel_report.specs.Texts.{reason_name, rule_name, spaced, verdict_line};
+ghost use Rattle.sixel_report.specs.Texts.{reason_name, rule_name, spaced};
 
 use crate::fault::RunFault;
 use crate::survey_lines::size_line;
 use arrayvec::ArrayVec;
 use itoa::Buffer;
-use sixel_check::{Finding, Outcome, Rule, Verdict};
+use sixel_check::{Finding, Outcome, Rule};
 use sixel_emulator_check::NamedRule;
 use sixel_emulator_rules::AskedFinding;
 use sixel_grammar::{Command, Event, Placed, Reason};
@@ -297,15 +297,5 @@ pub fn outcome_line(outcome: &Outcome) -> Line
     match outcome {
         Outcome::Portable { width, height } => size_line(*width, *height),
         Outcome::Broken(finding) => finding_line(finding),
-    }
-}
-
-/// The line of a verdict.
-pub fn verdict_line(verdict: &Verdict) -> Line
-    ensures { result.items ≡ verdict_line verdict.now }
-{
-    match verdict {
-        Verdict::Portable(picture) => size_line(picture.width(), picture.height()),
-        Verdict::Broken(finding) => finding_line(finding),
     }
 }

@@ -1,3 +1,4 @@
 pub mod BoxLemmas
 pub mod OneStringLemmas
 pub mod RoundTripLemmas
+pub mod DocumentLemmas

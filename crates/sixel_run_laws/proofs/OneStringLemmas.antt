@@ -28,7 +28,7 @@ use Rattle.sixel_judge.proofs.DifferenceLemmas.{verdict_matters}
 use Rattle.sixel_scan.specs.declared.answer.Scanned.{Scanned}
 use Rattle.sixel_scan.specs.Scans.{longest_stream}
 use Rattle.sixel_scan.specs.Strings.{AreStrings}
-use Rattle.sixel_scan.proofs.DocumentLemmas.{one_string}
+use Rattle.sixel_run_laws.proofs.DocumentLemmas.{one_string}
 use Rattle.sixel_scan.proofs.MarkLemmas.{plain_none}
 use Rattle.sixel_run_laws.specs.Laws.{ScanIsCheck, status_alone}
 use Rattle.sixel_run.specs.Scanned.{answer_of_strings, stream_of}

@@ -8,6 +8,7 @@ ghost use Rattle.sixel_report.specs.declared.task.Status.{Status};
 ghost use Rattle.sixel_report.specs.declared.task.Task.{Task};
 ghost use Rattle.sixel_run_laws.specs.Laws.{BoxIsShown, EncodedAnswers, EncodedChecks, EncodedIsPortable, FaultIsShown};
 ghost use Rattle.sixel_run_laws.specs.Laws.{NoBoxIsShown, ScanIsCheck};
+ghost use Rattle.sixel_scan.specs.Laws.{DocumentIsOneString};
 ghost use Rattle.sixel_run.specs.Outputs.{Gives};
 ghost use Rattle.sixel_report.specs.Texts.{Text};
 
@@ -38,6 +39,12 @@ pub fn a_box_is_shown_as_its_screen()
     ensures shown { BoxIsShown }
     ensures refused { NoBoxIsShown }
     ensures faulty { FaultIsShown }
+{}
+
+/// A document that begins with ESC P, and has no filler after its end, is the only string of its bytes, whether 8-bit
+/// controls count or not. So a scan of it answers as a check does.
+pub fn scan_of_one()
+    ensures { DocumentIsOneString }
 {}
 
 /// Of a document that begins with ESC P, and has no filler after its end, `scan` writes what `check` writes, after the

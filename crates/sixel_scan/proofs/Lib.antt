@@ -2,7 +2,6 @@ pub mod ListLemmas
 pub mod EndLemmas
 pub mod OpeningLemmas
 pub mod StringLemmas
-pub mod DocumentLemmas
 pub mod AdvanceLemmas
 pub mod CheckingLemmas
 pub mod ScanLemmas

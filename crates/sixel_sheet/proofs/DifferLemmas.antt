@@ -39,7 +39,7 @@ use Rattle.sixel_sheet.specs.Sheets.{are_rgb_views, sheet_text}
 use Rattle.sixel_report.specs.Differing.{differ_status}
 use Rattle.sixel_report.specs.Texts.{Text}
 use Rattle.sixel_sheet.proofs.ComparingLemmas.{below_or, comparison_once, some_comparison}
-use Rattle.sixel_show.proofs.ShowOnLemmas.{ends_somewhere, one_end}
+use Rattle.sixel_named_terminals.proofs.NamedLemmas.{ends_somewhere, one_end}
 
 abbrev Output : Type 0
 Output = Text × Result Status RunFault

@@ -23,7 +23,7 @@ use Rattle.sixel_differ.specs.declared.view.View.TheVariants.{Screen, Unmodelled
 use Rattle.sixel_differ.specs.declared.view.Views.{Views}
 use Rattle.sixel_differ.specs.Views.{HaveSides, view_in}
 use Rattle.sixel_sheet.specs.Sheets.{HasRow, grey_pixels, next_row, row_of, sheet_row}
-use Rattle.sixel_show.proofs.ScreenLemmas.{inks_samples}
+use Rattle.sixel_screen.proofs.ScreenLemmas.{inks_samples}
 
 abbrev pub samples : List Parts → List ℕ
 samples colours = flat_map samples_of colours

@@ -7,9 +7,8 @@ ghost use Rattle.sixel_io.specs.Devices.{ReadsToEnd};
 ghost use Rattle.sixel_mend.specs.Measuring.{HasMeasured};
 
 use sixel_grammar::InputFault;
-use sixel_io::{PIECE, Source};
+use sixel_io::{PIECE, Source, kept_with};
 use sixel_mend::Measurer;
-use sixel_show::kept_with;
 use std::alloc::Global;
 
 /// Reads the source to its end. Returns the bytes of the document, if there is memory for them, and what they measure. It

@@ -15,7 +15,7 @@ ghost use Rattle.sixel_sheet.specs.Sheets.{sheet_colours, sheet_row, sheet_text}
 use sixel_differ::{View, Views};
 use sixel_io::{Block, DeviceFault, Sink};
 use sixel_ppm::write_ppm_pixels;
-use sixel_show::{ScreenPixels, is_rgb_alone};
+use sixel_screen::{ScreenPixels, is_rgb_alone};
 use sixel_terminal::Pixel;
 
 /// The columns between two screens.

@@ -10,7 +10,7 @@ use Rattle.sixel_grammar.proofs.StandLemmas.{read_complete}
 use Rattle.sixel_grammar.proofs.UniqueLemmas.{complete_stays}
 use Rattle.sixel_model.specs.declared.colour.Parts.{Parts}
 use Rattle.sixel_terminal.proofs.FollowLemmas.{events_then}
-use Rattle.sixel_emulator.specs.declared.both.Both.{Both}
+use Rattle.sixel_grammar.specs.declared.both.Both.{Both}
 use Rattle.sixel_konsole.specs.declared.konsole.Konsole.{Konsole}
 use Rattle.sixel_konsole.specs.declared.measuring.Measuring.{Measuring}
 use Rattle.sixel_emulator.specs.declared.modelled.Modelled.{Modelled}

@@ -1,9 +1,9 @@
 -- Lemmas for a run of `show`.
 use Rattle.std.proofs.Common.{◌≡◌, ◌∙◌, ℕ, ◌+◌, Bool, true, false, List, [], ◌∷◌, ◌++◌, map, take, drop, arith, refl}
-use Rattle.std.proofs.Common.{sym, ap, subst, inl, inr, ap₂, suc, ◌&&◌}
+use Rattle.std.proofs.Common.{sym, ap, subst, inl, inr}
 use Rattle.std.specs.Prelude.{Result, Ok, Err, IsTrue, IsFalse, if◌then◌else◌}
 use Rattle.std.specs.Io.KnownBytes.{Appends}
-use Rattle.std.specs.List.{range_with_len, flat_map, list_all}
+use Rattle.std.specs.List.{range_with_len}
 use Rattle.std.proofs.lemmas.List.{take-append-drop}
 use Rattle.std.proofs.lemmas.List.FromFn.{map-range_with_len_more}
 use Rattle.sixel_grammar.specs.declared.command.Placed.{Placed}
@@ -15,14 +15,7 @@ use Rattle.sixel_grammar.proofs.UniqueLemmas.{document_once, fault_no_document, 
 use Rattle.sixel_model.specs.declared.colour.Parts.{Parts}
 use Rattle.sixel_ppm.specs.declared.ppm.PpmFault.{PpmFault}
 use Rattle.sixel_ppm.specs.declared.ppm.PpmFault.TheVariants as ppm
-use Rattle.sixel_ppm.specs.Ppm.{WritesPpm, are_rgb, is_rgb, ppm_text, samples_of}
-use Rattle.sixel_terminal.specs.declared.pixel.Ink.{Ink}
-use Rattle.sixel_terminal.specs.declared.pixel.Ink.TheVariants.{Fixed, Bound}
-use Rattle.sixel_terminal.specs.Pixels.{bytes_of, is_rgb_ink}
-use Rattle.sixel_terminal.specs.Screens.{IsAllFixed, IsFixed, colour_in_ink}
-use Rattle.sixel_ppm.specs.PpmTables.{samples_from}
-use Rattle.sixel_model.specs.declared.colour.Parts.TheVariants.{Rgb, Hls}
-use Rattle.std.proofs.lemmas.Bool.{and_parts}
+use Rattle.sixel_ppm.specs.Ppm.{WritesPpm, are_rgb, ppm_text}
 use Rattle.sixel_terminal.specs.Displays.{Display}
 use Rattle.sixel_terminal.specs.Drawing.{screen_on}
 use Rattle.sixel_report.specs.declared.fault.RunFault.{RunFault}
@@ -102,32 +95,6 @@ pub greys_more : (profile : Profile) (n : ℕ)
     → map (λ k. grey (percent_at profile k)) (range_with_len 0 (n + 1))
     ≡ map (λ k. grey (percent_at profile k)) (range_with_len 0 n) ++ grey (percent_at profile n) ∷ []
 greys_more profile n = map-range_with_len_more (λ k. grey (percent_at profile k)) 0 n n (omega arith)
-
--- ---- the pixels of a screen
-
-rgb_ink : (ink : Ink) → IsFixed ink → is_rgb (colour_in_ink ink) ≡ is_rgb_ink ink
-rgb_ink (Fixed (Rgb red green blue)) fixed = refl
-rgb_ink (Fixed (Hls hue lightness saturation)) fixed = refl
-rgb_ink (Bound register) fixed = absurd fixed
-
-pub rgb_inks : (inks : List Ink) → IsAllFixed inks → list_all is_rgb_ink inks ≡ are_rgb (map colour_in_ink inks)
-rgb_inks [] fixed = refl
-rgb_inks (ink ∷ inks) fixed =
-    ap₂ (λ a b. a && b) (sym (rgb_ink ink (fixed 0 ink (omega arith))))
-    (rgb_inks inks (λ k d lt. fixed (suc k) d (omega (arith, lt))))
-
-ink_samples : (ink : Ink) → is_rgb_ink ink ≡ true → take 3 (bytes_of ink) ≡ samples_of (colour_in_ink ink)
-ink_samples (Fixed (Rgb red green blue)) rgb = refl
-ink_samples (Fixed (Hls hue lightness saturation)) rgb = cc
-ink_samples (Bound register) rgb = cc
-
--- the samples of RGB pixels are those of their colours
-pub inks_samples : (inks : List Ink) → list_all is_rgb_ink inks ≡ true
-    → samples_from bytes_of inks ≡ flat_map samples_of (map colour_in_ink inks)
-inks_samples [] rgb = refl
-inks_samples (ink ∷ inks) rgb =
-    let both = and_parts (is_rgb_ink ink) (list_all is_rgb_ink inks) rgb in
-    ap₂ (λ (a b : List ℕ). a ++ b) (ink_samples ink both.0) (inks_samples inks both.1)
 
 -- ---- the text written
 

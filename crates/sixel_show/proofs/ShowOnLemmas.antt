@@ -1,6 +1,6 @@
 -- Lemmas for a run of `show --on`.
-use Rattle.std.proofs.Common.{◌≡◌, ◌∙◌, ◌<◌, ℕ, zero, suc, Bool, true, false, List, [], ◌∷◌, length, take, drop, Option}
-use Rattle.std.proofs.Common.{Some, None, arith, refl, sym, ap, ap₂, subst, inl, inr}
+use Rattle.std.proofs.Common.{◌≡◌, ◌∙◌, ℕ, Bool, true, false, List, [], take, drop, Option}
+use Rattle.std.proofs.Common.{Some, None, refl, sym, ap, ap₂, subst, inl, inr}
 use Rattle.std.specs.Prelude.{Result, Ok, Err, IfSome, IsTrue, if◌then◌else◌}
 use Rattle.std.proofs.lemmas.List.{take-append-drop}
 use Rattle.sixel_io.specs.Devices.{SinkState}
@@ -24,11 +24,11 @@ use Rattle.sixel_named_terminals.specs.declared.named.Named.{Named}
 use Rattle.sixel_named_terminals.specs.declared.named.Named.TheVariants.{XTerm, MlTerm, Foot, Konsole}
 use Rattle.sixel_named_terminals.specs.declared.showing.ShowFault.{ShowFault}
 use Rattle.sixel_named_terminals.specs.declared.showing.ShowFault.TheVariants as show
-use Rattle.sixel_emulator.specs.Modelled.{EndsAtPlace, HasPlace}
+use Rattle.sixel_emulator.specs.Modelled.{EndsAtPlace}
 use Rattle.sixel_named_terminals.specs.Named.{GivesScreen, IsScreenOn, ShowsDocument, ShowsOn, model_of, terminal_on}
 use Rattle.sixel_emulator.specs.Readings.{EndsAt, IsSaid, Model}
-use Rattle.sixel_named_terminals.proofs.NamedLemmas.{end_once, said_does_not_end, said_or_ends, screen_once}
-use Rattle.sixel_named_terminals.proofs.NamedLemmas.{shows_or_ends}
+use Rattle.sixel_named_terminals.proofs.NamedLemmas.{ends_somewhere, one_end, said_does_not_end}
+use Rattle.sixel_named_terminals.proofs.NamedLemmas.{said_or_ends, screen_once, shows_or_ends}
 use Rattle.sixel_report.specs.declared.fault.RunFault.{RunFault}
 use Rattle.sixel_report.specs.declared.fault.RunFault.TheVariants.{Grammar, NotRgb, NoBox, OutOfMemory, Unmodelled}
 use Rattle.sixel_report.specs.declared.task.Area.{Area}
@@ -45,27 +45,6 @@ use Rattle.sixel_report.specs.declared.task.Area.TheVariants as area
 
 abbrev Sides : Type 0
 Sides = ℕ × ℕ
-
--- ---- the event at which a model ends
-
--- each event has an offset
-some_place : (placed : List Placed) (i : ℕ) → i < length (events_of placed) → (place : ℕ) × HasPlace placed i place
-some_place [] i lt = absurd (omega (arith, lt))
-some_place (p ∷ ps) zero lt = (p.place, refl)
-some_place (p ∷ ps) (suc i) lt = some_place ps i (omega (arith, lt))
-
-same_place : (placed : List Placed) (i a b : ℕ) → HasPlace placed i a → HasPlace placed i b → a ≡ b
-same_place placed i a b p q = let whole : Some a ≡ Some b = sym p ∙ q in cc
-
-pub ends_somewhere : (m : Model) (placed : List Placed) (i : ℕ) → EndsAt m (events_of placed) i
-    → (place : ℕ) × EndsAtPlace m placed place
-ends_somewhere m placed i ends =
-    let p = some_place placed i ends.within in (p.0, record { at = i; ends = ends; has_place = p.1 })
-
-pub one_end : (m : Model) (placed : List Placed) (a b : ℕ) → EndsAtPlace m placed a → EndsAtPlace m placed b → a ≡ b
-one_end m placed a b p q =
-    let same : p.at ≡ q.at = end_once m (events_of placed) p.at q.at p.ends q.ends in
-    same_place placed q.at a b (subst (λ (i : ℕ). HasPlace placed i a) same p.has_place) q.has_place
 
 -- ---- the document, read in another way
 

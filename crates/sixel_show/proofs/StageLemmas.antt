@@ -1,5 +1,5 @@
 -- A document whose declared box gives the sides of the screen, while it is read.
-use Rattle.std.proofs.Common.{◌≡◌, ◌∙◌, ◌++◌, ◌∷◌, ◌+◌, [], ℕ, List, Option, Some, None, false, refl, sym, true, ap}
+use Rattle.std.proofs.Common.{◌≡◌, ◌∙◌, ◌++◌, ◌∷◌, ◌+◌, [], ℕ, List, Option, Some, None, refl, sym, ap}
 use Rattle.std.proofs.Common.{append_assoc, subst}
 use Rattle.std.specs.Prelude.{option_and_then, option_map, IfSome, IsSome}
 use Rattle.std.specs.Io.KnownBytes.{Consumes}
@@ -227,10 +227,6 @@ drawn-stays terminal old new w v bytes more h watches =
 
 -- ---- all stages
 
-pub nothing-taken : (o : Option (List ℕ)) → Consumes o o []
-nothing-taken None = tt
-nothing-taken (Some bytes) = refl
-
 -- without a drawing there is no screen
 pub no-screen : (terminal : Sides → Display) (stage : Stage) (events : List Event) (bytes : List ℕ)
     → ((w : Watched) → stage ≡ Drawn w → ⊥) → IsStageAfter terminal stage events bytes
@@ -252,15 +248,7 @@ watched-all reader w v bytes a events complete =
     subst (λ (es : List Placed). HasWatched v (events_of es))
     (complete_once bytes a.events events (read_complete reader a.events bytes a.read) complete) a.taken.1
 
--- ---- memory
-
--- the bytes so far are kept with more behind them
-pub kept-more : {K : Type 0} (items : K → List ℕ) (kept longer : Option K) (bytes more : List ℕ)
-    → IfSome longer (λ l. IfSome kept (λ k. items l ≡ items k ++ more)) → (IsSome longer → IsSome kept)
-    → IfSome kept (λ k. items k ≡ bytes) → IfSome longer (λ l. items l ≡ bytes ++ more)
-kept-more items kept None bytes more is some had = tt
-kept-more {K} items None (Some l) bytes more is some had = let no : false ≡ true = some refl in cc
-kept-more items (Some k) (Some l) bytes more is some had = is ∙ ap (λ (t : List ℕ). t ++ more) had
+-- ---- the declared box
 
 -- a box of a screen's size is declared
 pub declares-now : (reader : Reader) (bytes : List ℕ) (width height : ℕ) (sides : Sides)

@@ -7,7 +7,7 @@ use Rattle.sixel_grammar.specs.Document.{Document, events_of}
 use Rattle.sixel_grammar.specs.Faults.{IsFaultOf}
 use Rattle.sixel_grammar.specs.Standing.{StandsAfter}
 use Rattle.sixel_model.specs.declared.colour.Parts.{Parts}
-use Rattle.sixel_emulator.specs.declared.both.Both.{Both}
+use Rattle.sixel_grammar.specs.declared.both.Both.{Both}
 use Rattle.sixel_konsole.specs.declared.konsole.Konsole.{Konsole}
 use Rattle.sixel_konsole.specs.declared.measuring.Measuring.{Measuring}
 use Rattle.sixel_emulator.specs.declared.modelled.Modelled.{Modelled}

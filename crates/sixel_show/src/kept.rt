@@ -1,6 +1,6 @@
-//! Bytes of a document that are kept, as long as there is memory for all of them.
+//! Keeps the bytes of a document while it is followed.
 
-ghost use Rattle.std.specs.Prelude.{◌≡◌, ◌≢◌, ◌++◌, [], Err, IfErr, IfOk, IfSome, IsSome, List};
+ghost use Rattle.std.specs.Prelude.{◌≡◌, ◌≢◌, [], Err, IfErr, IfOk, IfSome, List};
 ghost use Rattle.sixel_grammar.specs.declared.command.Placed.{Placed as Place};
 ghost use Rattle.sixel_grammar.specs.declared.fault.InputFault.TheVariants.{Read as ReadFault};
 ghost use Rattle.sixel_grammar.specs.Document.{Document, IsDocument};
@@ -9,19 +9,9 @@ ghost use Rattle.sixel_emulator.specs.FirstPiece.{IsFirst, with_first};
 
 use crate::show_box::follow;
 use sixel_grammar::{Follower, InputFault, Reader};
-use sixel_io::{PIECE, Source};
+use sixel_io::{PIECE, Source, kept_with};
 use std::alloc::Global;
 use std::convert::Infallible;
-
-/// The bytes that are kept, with these behind them. None are kept if there is no memory for all.
-pub fn kept_with(kept: Option<Vec<u8>>, more: &[u8]) -> Option<Vec<u8>>
-    ensures longer { IfSome result (λ longer. IfSome kept (λ bytes. longer.items ≡ bytes.items ++ more.now)) }
-    ensures some { IsSome result → IsSome kept }
-{
-    let mut bytes = kept?;
-    bytes.extend_from_slice(more).ok()?;
-    Some(bytes)
-}
 
 /// Reads the source, whose first bytes are the first `read` of `piece`, to its end, and hands the events of its document
 /// on to what never stops, which has taken none. Returns the bytes, if there is memory for them. It reads no piece after

@@ -10,6 +10,3 @@ pub mod show;
 pub mod show_box;
 pub mod show_on;
 mod watched;
-
-pub use kept::kept_with;
-pub use screen::{ScreenPixels, is_rgb_alone};

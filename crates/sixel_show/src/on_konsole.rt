@@ -14,11 +14,10 @@ ghost use Rattle.sixel_konsole.specs.Settings.{konsole_display};
 ghost use Rattle.sixel_report.specs.declared.task.Area.{Area as AnArea};
 ghost use Rattle.sixel_show.specs.NamedScreens.{IsDrawnOf, ShowsIn, Suffices};
 
-use crate::kept::kept_with;
 use crate::show_box::follow;
-use sixel_emulator::{Both, Modelled};
-use sixel_grammar::{InputFault, Reader};
-use sixel_io::{PIECE, Source};
+use sixel_emulator::Modelled;
+use sixel_grammar::{Both, InputFault, Reader};
+use sixel_io::{PIECE, Source, kept_with};
 use sixel_konsole::{Konsole, Measuring, as_konsole_at_once, konsole_terminal};
 use sixel_model::Colour;
 use sixel_named_terminals::{Named, konsole_screen, low_konsole_screen};

@@ -18,12 +18,11 @@ ghost use Rattle.sixel_show.specs.Screens.{DeclareScreenIn, screen_terminal, sid
 ghost use Rattle.sixel_show.specs.Watching.{HasWatched};
 
 use crate::box_finder::BoxFinder;
-use crate::kept::kept_with;
 use crate::screen::{Shown, write_shown};
 use crate::show::{show_choices, terminal_of};
 use crate::watched::Watched;
 use sixel_grammar::{Fault, Follower, InputFault, Reader, follow_bytes};
-use sixel_io::{PIECE, Sink, Source};
+use sixel_io::{PIECE, Sink, Source, kept_with};
 use sixel_model::Profile;
 use sixel_report::{MOST_SCREEN_SIDE, RunFault, Status};
 use sixel_terminal::Drawing;

@@ -22,15 +22,14 @@ use crate::box_finder::BoxFinder;
 use crate::draw::read_rest;
 use crate::kept::follow_kept;
 use crate::on_konsole::{begin_konsole, follow_on_konsole, screen_by};
-use crate::screen::write_ppm_screen;
 use crate::show_box::{follow, sides_of_box};
-use sixel_emulator::Both;
-use sixel_grammar::{Command, InputFault, Reader};
+use sixel_grammar::{Both, Command, InputFault, Reader};
 use sixel_io::{DeviceFault, PIECE, Sink, Source};
 use sixel_konsole::Measuring;
 use sixel_model::Colour;
 use sixel_named_terminals::Named;
 use sixel_report::{Area, RunFault, Status};
+use sixel_screen::write_ppm_screen;
 use sixel_terminal::Screen;
 use std::alloc::Global;
 

@@ -1,4 +1,3 @@
-pub mod RoomLemmas
 pub mod PixelCodeLemmas
 pub mod CanvasLemmas
 pub mod PaintLemmas

@@ -9,13 +9,9 @@ use Rattle.sixel_model.specs.Geometry.{falls}
 use Rattle.sixel_model.specs.Rules.{known, raster_before}
 use Rattle.sixel_terminal.specs.declared.choices.Choices.{Choices}
 use Rattle.sixel_terminal.specs.declared.choices.Ground.TheVariants.{Kept}
-use Rattle.sixel_terminal.specs.Displays.{Display, HasRoom, IsInClass, registers_of}
+use Rattle.sixel_terminal.specs.Displays.{Display, IsInClass, registers_of}
 use Rattle.sixel_terminal.specs.Drawing.{IsPainted, paints_on, selected_on, shown_on, stood_on, touches_on}
 use Rattle.sixel_terminal.specs.Limits.{display_of, terminal_fault}
-
--- for any count of registers and any size of a picture, some terminal of the class has room
-abbrev pub SomeTerminalHasRoom : Type 0
-SomeTerminalHasRoom = (registers width height : ℕ) → (t : Display) × IsInClass registers t × HasRoom t width height
 
 -- parts without a fault make a terminal of the class, for pictures with at most as many registers as it has
 abbrev pub TerminalsAreInClass : Type 0

@@ -1,12 +1,7 @@
 //! Laws about the definitions. Each function's contract is the law.
 
-ghost use Rattle.sixel_terminal.specs.Laws.{ClippedIsUnpainted, KnownIsSelected, SamePointsOnEach, SomeTerminalHasRoom};
+ghost use Rattle.sixel_terminal.specs.Laws.{ClippedIsUnpainted, KnownIsSelected, SamePointsOnEach};
 ghost use Rattle.sixel_terminal.specs.Laws.{TerminalsAreInClass, UnpaintedStays, UnseenIsUnpainted};
-
-/// For any count of registers and any size of a picture, some terminal of the class has room.
-pub fn some_terminal_has_room()
-    ensures { SomeTerminalHasRoom }
-{}
 
 /// Parts without a fault make a terminal of the class, for pictures with at most as many registers as it has.
 pub fn terminals_are_in_class()

@@ -11,7 +11,7 @@ use Rattle.sixel_emulator_rules.specs.Tallies.{AreAskedEntries}
 use Rattle.sixel_emulator_rules.specs.declared.tallying.Tallying.{Tallying}
 use Rattle.sixel_emulator_rules.specs.declared.terminals.Terminals.{Terminals}
 use Rattle.sixel_emulator_check.specs.Surveys.{SurveysOn}
-use Rattle.sixel_emulator.specs.declared.both.Both.{Both}
+use Rattle.sixel_grammar.specs.declared.both.Both.{Both}
 use Rattle.sixel_emulator_check.proofs.SurveyingLemmas.{HaveTaken, all_taken, begin, declare_in, joined}
 use Rattle.sixel_emulator_check.proofs.surveying.survey_both.Goals as goal
 

@@ -10,7 +10,7 @@ use Rattle.sixel_grammar.specs.Standing.{left_of}
 use Rattle.sixel_grammar.specs.declared.fault.Fault.{Fault}
 use Rattle.sixel_mend.specs.Measuring.{HasMeasured, Measured}
 use Rattle.sixel_grammar.proofs.SourceLemmas.{all_read, consumes-then, no_fault_before, refused_early, take_none}
-use Rattle.sixel_show.proofs.StageLemmas.{kept-more, nothing-taken}
+use Rattle.sixel_io.proofs.KeptLemmas.{kept-more, none-consumed}
 use Rattle.sixel_sheet.proofs.measured.read_document.Goals as goal
 
 -- what was measured are the bytes that the source gave
@@ -40,7 +40,7 @@ kept_measured items m (Some k) bytes is measured = subst (HasMeasured m) (sym is
 
 pub loop-kept-init : goal.loop-kept-init
 loop-kept-init g c =
-    ([], c.new-measurer.ensures, nothing-taken (g.S.Source.state c.args.input.now).remaining, refl, c.new.ensures.items)
+    ([], c.new-measurer.ensures, none-consumed (g.S.Source.state c.args.input.now).remaining, refl, c.new.ensures.items)
 
 pub returns-in_err-finish-clause-refused : goal.returns-in_err-finish-clause-refused
 returns-in_err-finish-clause-refused g c =

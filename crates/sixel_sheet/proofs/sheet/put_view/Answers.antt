@@ -2,7 +2,7 @@ use Rattle.std.proofs.Common.{◌+◌, ◌*◌, ◌∙◌, ap, sym}
 use Rattle.sixel_io.proofs.SinkLemmas.{through-as}
 use Rattle.sixel_ppm.specs.Ppm.{are_rgb}
 use Rattle.sixel_sheet.specs.Sheets.{is_rgb_view, row_of}
-use Rattle.sixel_show.proofs.ScreenLemmas.{rgb_inks}
+use Rattle.sixel_screen.proofs.ScreenLemmas.{rgb_inks}
 use Rattle.sixel_sheet.proofs.SheetLemmas.{row_samples, samples}
 use Rattle.sixel_sheet.proofs.sheet.put_view.Goals as goal
 

@@ -4,8 +4,8 @@ use Rattle.sixel_grammar.specs.Prefixes.{CompleteIn}
 use Rattle.sixel_grammar.specs.Document.{events_of}
 use Rattle.sixel_grammar.proofs.StandLemmas.{read_complete}
 use Rattle.sixel_show.specs.Boxes.{terminal_of_kind}
-use Rattle.sixel_show.proofs.StageLemmas.{declares-now, drawn-now, finds-box, kept-more, looks-on, nothing_found}
-use Rattle.sixel_show.proofs.StageLemmas.{unfit-now}
+use Rattle.sixel_io.proofs.KeptLemmas.{kept-more}
+use Rattle.sixel_show.proofs.StageLemmas.{declares-now, drawn-now, finds-box, looks-on, nothing_found, unfit-now}
 use Rattle.sixel_show.proofs.show_box.look_for_box.Goals as goal
 
 pub follow-requires : goal.follow-requires

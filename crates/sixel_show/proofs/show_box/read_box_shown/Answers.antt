@@ -9,7 +9,8 @@ use Rattle.sixel_grammar.specs.declared.fault.InputFault.TheVariants.{Grammar}
 use Rattle.sixel_grammar.proofs.SourceLemmas.{consumes-then, no_fault_before, refused_early, told_all}
 use Rattle.sixel_judge.proofs.PieceLemmas.{not_failed}
 use Rattle.sixel_show.specs.Boxes.{IsShownInBox, terminal_of_kind}
-use Rattle.sixel_show.proofs.StageLemmas.{box-of-none, declares-early, nothing-taken}
+use Rattle.sixel_io.proofs.KeptLemmas.{none-consumed}
+use Rattle.sixel_show.proofs.StageLemmas.{box-of-none, declares-early}
 use Rattle.sixel_show.proofs.show_box.read_box_shown.Goals as goal
 
 pub loop-stage-init : goal.loop-stage-init
@@ -20,7 +21,7 @@ loop-stage-init g c = (
     read = c.new-reader.ensures;
     taken = (c.new.ensures.items, sym box-of-none);
   },
-  nothing-taken (g.S.Source.state c.args.input.now).remaining,
+  none-consumed (g.S.Source.state c.args.input.now).remaining,
   refl,
 )
 

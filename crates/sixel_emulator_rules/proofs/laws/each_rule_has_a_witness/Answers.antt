@@ -1,5 +1,0 @@
-use Rattle.sixel_emulator_rules.proofs.WitnessLemmas.{each_rule_has_a_witness}
-use Rattle.sixel_emulator_rules.proofs.laws.each_rule_has_a_witness.Goals as goal
-
-pub returns : goal.returns
-returns c = each_rule_has_a_witness

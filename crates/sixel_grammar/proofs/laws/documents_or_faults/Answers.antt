@@ -1,5 +1,0 @@
-use Rattle.sixel_grammar.proofs.TotalLemmas.{judged}
-use Rattle.sixel_grammar.proofs.laws.documents_or_faults.Goals as goal
-
-pub returns : goal.returns
-returns c = judged

@@ -1,5 +1,0 @@
-use Rattle.sixel_grammar.proofs.LengthLemmas.{spelling_within}
-use Rattle.sixel_grammar.proofs.laws.fixed_spelling_is_short.Goals as goal
-
-pub returns : goal.returns
-returns c = spelling_within

@@ -1,5 +1,0 @@
-use Rattle.sixel_grammar.proofs.PrefixLemmas.{prefixes}
-use Rattle.sixel_grammar.proofs.laws.prefixes_are_viable.Goals as goal
-
-pub returns : goal.returns
-returns c = prefixes

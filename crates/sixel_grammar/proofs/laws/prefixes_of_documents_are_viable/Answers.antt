@@ -1,5 +1,0 @@
-use Rattle.sixel_grammar.proofs.UniqueLemmas.{parsed_prefix}
-use Rattle.sixel_grammar.proofs.laws.prefixes_of_documents_are_viable.Goals as goal
-
-pub returns : goal.returns
-returns c = parsed_prefix

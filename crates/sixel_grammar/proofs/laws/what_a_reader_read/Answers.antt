@@ -1,5 +1,0 @@
-use Rattle.sixel_grammar.proofs.StandLemmas.{read_complete}
-use Rattle.sixel_grammar.proofs.laws.what_a_reader_read.Goals as goal
-
-pub returns : goal.returns
-returns c = read_complete

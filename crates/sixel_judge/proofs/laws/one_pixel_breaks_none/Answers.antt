@@ -1,5 +1,0 @@
-use Rattle.sixel_judge.proofs.OnePixel.{one_pixel_breaks_none}
-use Rattle.sixel_judge.proofs.laws.one_pixel_breaks_none.Goals as goal
-
-pub returns : goal.returns
-returns c = one_pixel_breaks_none
