@@ -1,20 +1,17 @@
-//! Tests of pictures: worked examples of colours, pictures, planes and PPM files, and of the texts that `sixel_encode`
-//! writes, with a plain, slow encoder to compare with.
+//! Tests of documents, pictures and the encoder's texts: what neither a contract nor a row of inputs and results shows.
+//! Those are devices that fail, how often they are called, refused growths, parts of pictures that don't fit, and each
+//! generic function at concrete types.
 #![tactic(auto)]
 
 #[cfg(test)]
-mod fixtures;
+mod devices;
 #[cfg(test)]
-mod limits;
+mod documents;
+#[cfg(test)]
+mod files;
 #[cfg(test)]
 mod pictures;
 #[cfg(test)]
-mod plain;
-#[cfg(test)]
 mod planes;
 #[cfg(test)]
-mod reading;
-#[cfg(test)]
 mod texts;
-#[cfg(test)]
-mod writing;
