@@ -1,4 +1,5 @@
-//! Tests of `sixel_terminal`: its definitions agree with the format and the class, by worked examples.
+//! Tests of `sixel_terminal`: its definitions agree with the format and the class, by worked examples. They are those of
+//! choices and lists of events that the rows of `show` don't reach.
 #![tactic(auto)]
 
 #[cfg(test)]
@@ -6,16 +7,10 @@ mod choices;
 #[cfg(test)]
 mod clipping;
 #[cfg(test)]
-mod colours;
-#[cfg(test)]
 mod drawing;
-#[cfg(test)]
-mod eight_bits;
 #[cfg(test)]
 mod fixtures;
 #[cfg(test)]
 mod making;
-#[cfg(test)]
-mod stretches;
 #[cfg(test)]
 mod under;
