@@ -8,6 +8,7 @@ the exit status 1 if something failed.
 import os
 import pathlib
 import random
+import resource
 import socket
 import subprocess
 import sys
@@ -153,6 +154,53 @@ def arguments() -> "Iterator[tuple[str, Ended, Ended]]":
             yield f"a name of {length} bytes", run(["check", name], b"", folder), wanted
 
 
+# ---- memory
+
+
+def limited(words: "list[str]", text: bytes, kibibytes: int) -> Ended:
+    """A run that gets no more memory than this."""
+    limit = kibibytes * 1024
+    got = subprocess.run(
+        [PROGRAM, *words],
+        input=text,
+        capture_output=True,
+        preexec_fn=lambda: resource.setrlimit(resource.RLIMIT_AS, (limit, limit)),
+    )
+    return Ended(got.returncode, got.stdout, got.stderr)
+
+
+def least() -> int:
+    """With how much memory the program starts and checks a pixel: with less its stack may not grow."""
+    return next(limit for limit in range(1_000, 100_000, 100) if limited(["check"], PIXEL, limit).status == 0)
+
+
+def memory() -> "Iterator[tuple[str, object, object]]":
+    """With little memory a task says that it has too little, and with more it ends as ever.
+
+    A scan has nothing to write before the end of its only string.
+    """
+    start = least()
+    limits = [start + more for more in [200, 400, 800, 1_600, 6_400, 25_600, 100_000, 250_000]]
+    picture = ppm(2048, 2048, BLACK * 2048 * 2048)
+    text = run(["encode"], picture).output
+    refused = Ended(2, b"", b"sixel: out of memory\n")
+    for words, given in [
+        ("check", text),
+        ("survey", text),
+        ("scan", text),
+        ("render", text),
+        ("mend -q", text),
+        ("show --width 4096 --height 4096", text),
+        ("show --on foot --box", text),
+        ("encode --wide", picture),
+    ]:
+        ample = run(words.split(), given)
+        ends = [limited(words.split(), given, limit) for limit in limits]
+        count = sum(end == refused for end in ends)
+        wanted = [refused] * count + [ample] * (len(ends) - count)
+        yield words, (ample.status, ends, 0 < count < len(ends)), (0, wanted, True)
+
+
 # ---- writes
 
 
@@ -182,7 +230,7 @@ def writes() -> "Iterator[tuple[str, object, object]]":
         yield "a line of 36,000 bytes", (b"".join(got), len(got) <= 6), (line, True)
 
 
-PARTS: "list[Callable[[], Iterator[tuple]]]" = [screens, texts, round_trips, arguments, writes]
+PARTS: "list[Callable[[], Iterator[tuple]]]" = [screens, texts, round_trips, arguments, memory, writes]
 
 
 def main() -> int:
