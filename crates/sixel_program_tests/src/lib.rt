@@ -1,13 +1,5 @@
-//! Tests of the program over streams and folders in memory.
+//! Tests of the program over folders in memory. `tests/rows` and `tests/streams.py` have those over the system's.
 #![tactic(auto)]
 
 #[cfg(test)]
-mod ends;
-#[cfg(test)]
 mod files;
-#[cfg(test)]
-mod first_bytes;
-#[cfg(test)]
-mod memory_folder;
-#[cfg(test)]
-mod streams;

@@ -1,21 +1,5 @@
-//! Tests of the command line.
+//! Tests of the arguments of the process, in memory. Rows for the built program hold what they ask for.
 #![tactic(auto)]
 
 #[cfg(test)]
 mod arguments;
-#[cfg(test)]
-mod checking;
-#[cfg(test)]
-mod differing;
-#[cfg(test)]
-mod explain;
-#[cfg(test)]
-mod help;
-#[cfg(test)]
-mod mending;
-#[cfg(test)]
-mod showing_on;
-#[cfg(test)]
-mod telling;
-#[cfg(test)]
-mod words;

@@ -11,8 +11,7 @@ ghost use Rattle.sixel_report.specs.Texts.{Text};
 ghost use Rattle.sixel_report.specs.declared.task.Status.TheVariants.{Done};
 ghost use Rattle.sixel_report.specs.declared.task.Task.TheVariants.{Check};
 
-use super::{PIXEL, RATIO};
-use crate::ends::{CHECK, NO_TERMINALS};
+use super::{CHECK, NO_TERMINALS, PIXEL, RATIO};
 use sixel_io::{SliceSink, SliceSource};
 use sixel_program::{Folder, Peeked, Unopened, execute};
 use sixel_report::{Exit, Lines, Request};
