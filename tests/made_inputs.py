@@ -133,12 +133,14 @@ FILES = [
 ]
 
 
-def faults_after(opened: Open, folder: pathlib.Path) -> "list[str]":
+def faults_after(opened: Open) -> "list[str]":
     """What is wrong with the refusals of the 256 files that have a byte after what opens something."""
-    for byte in range(256):
-        (folder / str(byte)).write_bytes(opened.prefix + bytes([byte]))
-    argv = [PROGRAM, "check", *map(str, range(256))]
-    got = subprocess.run(argv, cwd=folder, capture_output=True, text=True, timeout=60)
+    # Each time a new folder, since some file systems are slow to write a file anew.
+    with tempfile.TemporaryDirectory() as folder:
+        for byte in range(256):
+            pathlib.Path(folder, str(byte)).write_bytes(opened.prefix + bytes([byte]))
+        argv = [PROGRAM, "check", *map(str, range(256))]
+        got = subprocess.run(argv, cwd=folder, capture_output=True, text=True, timeout=60)
     refused = {}
     for number, reason, place in re.findall(r"^sixel: (\d+): (\w+) at (\d+)$", got.stderr, re.MULTILINE):
         refused[int(number)] = (reason, int(place))
@@ -183,9 +185,8 @@ def fault_of(file: File) -> str:
 
 def main() -> int:
     faults, count = [], 256 * len(OPEN) + len(FILES) + 2
-    with tempfile.TemporaryDirectory() as folder:
-        for opened in OPEN:
-            faults += faults_after(opened, pathlib.Path(folder))
+    for opened in OPEN:
+        faults += faults_after(opened)
     faults += filter(None, map(fault_of, FILES))
     for filled, expected in [
         (MOST_BYTES, ("portable 1 1\n", "")),

@@ -167,6 +167,16 @@ fn runs_are_read_at_once(rt: HostRuntime) -> Result<(), Fail> {
         ),
         (
             b"\x1bPq",
+            b"#1!2$",
+            Some(run(3, None, 0, 2, Columns::Missing)),
+        ),
+        (
+            b"\x1bPq",
+            b"#0012;~",
+            Some(run(3, None, 0, 5, Columns::Missing)),
+        ),
+        (
+            b"\x1bPq",
             b"#65536~",
             Some(run(3, None, 0, 5, Columns::Missing)),
         ),

@@ -39,7 +39,7 @@ pub(crate) fn made(
     })
 }
 
-/// A part of several can be wrong: the first reason counts.
+/// Several parts can be wrong: the first reason counts.
 #[test]
 fn pictures_name_the_first_reason(rt: HostRuntime) -> Result<(), Fail> {
     let (narrow, wide) = (Profile::Registers16, Profile::Registers256);
