@@ -20,10 +20,12 @@ import time
 ROOT = pathlib.Path(__file__).resolve().parent.parent
 
 # Builds a program that writes the text of crates/sixel/src/main.rt, its arguments and the folder that it runs in, and
-# that doesn't start where BROKEN is set. With a file beside its log it fails, or changes the source when it has built.
+# that doesn't start where BROKEN is set. With a file beside its log it fails, takes four seconds, or changes the source
+# when it has built.
 RT = r"""#!/bin/sh
 echo "$PWD: $*" >> "$CALLS"
 [ ! -e "$CALLS.fails" ] && [ -z "$RT_BACKEND" ] || { echo 'a proof is missing'; exit 1; }
+[ ! -e "$CALLS.slow" ] || sleep 4
 mkdir -p out
 {
     echo '#!/bin/sh'
@@ -559,6 +561,7 @@ def run_package(clone):
     subprocess.run(["dpkg-deb", "--raw-extract", package, unpacked], check=True)
     packed = {str(path.relative_to(unpacked)) for path in unpacked.rglob("*") if path.is_file()}
     wanted = {"DEBIAN/control", "usr/bin/sixel", *(f"usr/{path}" for path in COPIES.values())}
+    wanted |= {"usr/share/doc/sixel/changelog.gz", "usr/share/lintian/overrides/sixel"}
     moved = {"share/zsh/site-functions/_sixel": "share/zsh/vendor-completions/_sixel",
              "share/man/man1/sixel.1": "share/man/man1/sixel.1.gz"}
     for old, new in moved.items():
@@ -628,6 +631,18 @@ def run_other_dist(clone):
     clone.want_run("seventh", 1, "without dist/sixel")
 
 
+def run_slow(clone):
+    """A build that takes longer says why it is made, and what it is at."""
+    unbuild(clone)
+    slow = clone.calls.with_name("calls.slow")
+    slow.write_text("")
+    status, output, errors, calls = clone.run([clone.root / "sixel", "list"])
+    slow.unlink()
+    why = f"{NOTHING.removesuffix(', and ')}, so the program is proved and built once, about 20 minutes on 4 cores; "
+    is_right = errors.startswith(why) and re.search("\nsixel: looking over the sources, 0:0\\d\n$", errors)
+    want((status, calls) == (0, 1) and output and is_right, f"./sixel while it builds: {errors}")
+
+
 def run_install(clone):
     targets = {clone.prefix / target: (clone.root / source, 0o644) for source, target in COPIES.items()}
     targets = {clone.prefix / "bin/sixel": (clone.program, 0o755), **targets}
@@ -692,6 +707,7 @@ def main():
         run_git(clone)
         run_hook(clone)
         run_other_dist(clone)
+        run_slow(clone)
         run_install(clone)
         run_staged_install(clone)
         run_package(clone)
