@@ -167,7 +167,7 @@ tell_why() {
     elif [[ ! -e $dist ]]; then
         echo "there is no dist/sixel (\`git checkout dist\` brings it back)"
     elif ! has_its_sum "$dist"; then
-        echo "dist/sixel hasn't the sum that dist/sixel.built names (\`git checkout dist\` brings both back)"
+        echo "dist/sixel is damaged, or isn't the program of dist/sixel.built (\`git checkout dist\` brings both back)"
     elif [[ -e $here/crates ]] && ! sources=$(sum_sources 2> /dev/null); then
         tell_unread
     elif [[ -e $here/crates ]] && ! has_its_sums "$dist" "$sources"; then

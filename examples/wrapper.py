@@ -281,7 +281,9 @@ def run_failures(clone):
 
 NO_RT = "the command rt of the Rattle kit, which proves and builds it, is not on the PATH\n"
 OLD = f"sixel: dist/sixel is older than the sources, and {NO_RT}"
-DAMAGED = "sixel: dist/sixel hasn't the sum that dist/sixel.built names (`git checkout dist` brings both back), and "
+DAMAGED = (
+    "sixel: dist/sixel is damaged, or isn't the program of dist/sixel.built (`git checkout dist` brings both back), and "
+)
 UNKNOWN = DAMAGED + NO_RT
 NOTHING = "sixel: there is no dist/sixel (`git checkout dist` brings it back), and "
 SAME, OTHER = "dist/sixel is what these sources build\n", "./prove --write puts it there"
