@@ -6,6 +6,8 @@
 
 built=$here/crates/sixel/out/sixel
 dist=$here/dist/sixel
+# What the last look found. git ignores it, so no clone has it.
+looked=$here/dist/looked
 
 # Ends the script: there is no program, for the reason that is given.
 give_up() {
@@ -32,51 +34,44 @@ list_crates() {
 
 # `find` in the folders of these crates, by names below the top: a sum doesn't depend on where the repository is.
 find_in_crates() (
-    cd -- "$here" || return
+    cd -P -- "$here" || return
     mapfile -t crates < <(list_crates)
     [[ ${#crates[@]} -gt 0 ]] && find "${crates[@]/#/crates/}" -name out -prune -o "$@"
 )
 
 # The sum of the lines of crates.txt and of the sources.
 sum_sources() (
-    cd -- "$here" && {
+    cd -P -- "$here" && {
         list_uses && find_in_crates -path '*/must-fail' -prune -o -type f \( -name '*.rt' -o -name '*.antt' \) -print0 |
             LC_ALL=C sort -z | xargs -0 sha256sum
-    } 2> /dev/null | sha256sum | cut -d ' ' -f 1
+    } | sha256sum | cut -d ' ' -f 1
 )
+
+# Why they have no sum.
+tell_unread() {
+    local errors
+    errors=$(sum_sources 2>&1 > /dev/null) || true
+    errors=${errors%%$'\n'*}
+    echo "the program's sources can't all be read${errors:+: $errors}"
+}
 
 sum_program() {
     { sha256sum < "$1"; } 2> /dev/null | cut -d ' ' -f 1
 }
 
-# A second ago: a source that changes in this moment is newer, however coarse the file system's clock is.
-tell_time() {
-    echo "@$(($(date +%s) - 1))"
-}
-
-# Writes a file whole, with this time, or leaves it as it is.
+# Writes a file whole, or leaves it as it is.
 keep() {
-    local file=$1 time=$2 text=$3
-    if { printf '%s\n' "$text" > "$file.$$" && touch -d "$time" -- "$file.$$" && mv -f -T -- "$file.$$" "$file"; } \
-        2> /dev/null; then
+    local file=$1 text=$2
+    if { printf '%s\n' "$text" > "$file.$$" && mv -f -T -- "$file.$$" "$file"; } 2> /dev/null; then
         return
     fi
     rm -f -- "$file.$$" 2> /dev/null
     return 1
 }
 
-# Whether something in the crates, or the list of crates, was written or changed in any way since a file was. Where that
-# can't be told, it was.
-has_changed_since() {
-    local newer
-    newer=$(find_in_crates \( -newer "$1" -o -cnewer "$1" \) -print -quit 2> /dev/null) && [[ -z $newer ]] &&
-        [[ -z $(find "$here/crates.txt" \( -newer "$1" -o -cnewer "$1" \) -print 2> /dev/null) ]] && return 1
-    return 0
-}
-
 # The sums beside a program.
 read_sums() {
-    cat -- "$1.built" 2> /dev/null
+    [[ -r $1.built ]] && printf '%s\n' "$(< "$1.built")"
 }
 
 # Whether the sums beside a program have its own.
@@ -85,10 +80,12 @@ has_its_sum() {
     sums=$(read_sums "$1") && sum=$(sum_program "$1") && [[ $sums == *$'\n'"$sum" ]]
 }
 
-# Whether the sums beside a program are those of the sources and of the program.
+# Whether the sums beside a program are those of the sources and of the program. The sum of the sources may be given.
 has_its_sums() {
-    local kept sources sum
-    kept=$(read_sums "$1") && sources=$(sum_sources) && sum=$(sum_program "$1") && [[ $kept == "$sources"$'\n'"$sum" ]]
+    local kept sum sources=${2:-}
+    kept=$(read_sums "$1") && sum=$(sum_program "$1") || return 1
+    [[ -n $sources ]] || sources=$(sum_sources 2> /dev/null) || return 1
+    [[ $kept == "$sources"$'\n'"$sum" ]]
 }
 
 # A program for another machine, or one that needs a newer C library, doesn't.
@@ -96,39 +93,84 @@ starts() {
     [[ -x $1 ]] && "$1" --version > /dev/null 2>&1
 }
 
-# What is in the crates with the same text, but a newer time, as after a checkout and back, is no reason to build. The
-# sums have the time of the last look; where they can't be written, the next run looks again.
-is_build_fresh() {
-    local now sums
-    sums=$(read_sums "$built") && starts "$built" || return 1
-    has_changed_since "$built.built" || return 0
-    now=$(tell_time)
-    has_its_sums "$built" || return 1
-    keep "$built.built" "$now" "$sums" || true
+# The places whose change may make another program the right one, by names below the top. A source that is new or gone
+# changes its folder.
+list_places() (
+    cd -P -- "$here" || return
+    for place in crates.txt dist/{program.sh,sixel,sixel.built} crates/sixel/out{,/sixel,/sixel.built}; do
+        [[ ! -e $place ]] || printf '%s\n' "$place"
+    done
+    find_in_crates -path '*/must-fail' -prune -o \( -type d -o -name '*.rt' -o -name '*.antt' \) -print
+)
+
+# What the file system tells of the places that are read, a line each. One process takes as many as it can.
+stat_places() (
+    cd -P -- "$here" && LC_ALL=C exec xargs -d '\n' -s 1000000 stat -L --printf "$1\n" -- 2> /dev/null
+)
+
+# A sum of which files they are, of their sizes, and of when they were last written and last changed in any way. No program
+# can set back the last of these.
+sum_places() {
+    stat_places '%i %s %.9Y %.9Z' | sha256sum 2> /dev/null
 }
 
-# A clone gives all files new times, so the last look has a file of its own, which no clone has, with the sums that it
-# found. The program itself is summed each time.
-is_dist_fresh() {
-    local looked=$here/dist/looked now sums sum
-    sums=$(read_sums "$dist") && sum=$(sum_program "$dist") && [[ $sums == *$'\n'"$sum" ]] && starts "$dist" || return 1
-    if [[ $(cat -- "$looked" 2> /dev/null) == "$sums" ]] && ! has_changed_since "$looked"; then
-        return 0
+# The second that it is by the clock of the file system, if something can be written beside dist/sixel.
+tell_second() {
+    local file=$looked.$$ status=0
+    { true > "$file" && stat --printf '%Z\n' -- "$file"; } 2> /dev/null || status=$?
+    rm -f -- "$file" 2> /dev/null || true
+    return "$status"
+}
+
+# Keeps for the next call which program is the right one, and the sum of the places before anything was read. A change
+# in the second of that sum could leave it as it is, if the file system counts in seconds: then nothing is kept.
+keep_look() {
+    local second=$1 state=$2 places=$3 last
+    last=$(printf '%s\n' "$places" | stat_places %Z | sort -n | tail -n 1) && [[ $last -lt $second ]] &&
+        keep "$looked" "$state"$'\n'"${program#"$here/"}"$'\n'"$places"
+}
+
+# Sets `program` to the one that the last look found, if no place has changed since.
+recall_program() {
+    local state name now
+    { read -r state && read -r name && now=$(sum_places); } 2> /dev/null < "$looked" || return 1
+    program=$here/$name
+    [[ $now == "$state" ]] && starts "$program"
+}
+
+# Sets `program` to one that has the sum of the sources: that which was built here, else that in dist/. Without crates/
+# there are no sources that dist/sixel could be older than.
+look_for_program() {
+    local places second state= sources
+    program=$dist
+    if [[ ! -e $here/crates ]]; then
+        has_its_sum "$dist" && starts "$dist"
+        return
     fi
-    now=$(tell_time)
-    has_its_sums "$dist" || return 1
-    keep "$looked" "$now" "$sums" || true
+    places=$(list_places 2> /dev/null) && second=$(tell_second) &&
+        state=$(printf '%s\n' "$places" | sum_places) || state=
+    sources=$(sum_sources 2> /dev/null) || return 1
+    for program in "$built" "$dist"; do
+        if has_its_sums "$program" "$sources" && starts "$program"; then
+            [[ -z $state ]] || keep_look "$second" "$state" "$places" || true
+            return
+        fi
+    done
+    return 1
 }
 
 # Why dist/sixel isn't run.
 tell_why() {
+    local sources
     if [[ $(uname -sm) != "Linux x86_64" ]]; then
         echo "dist/sixel is for Linux on x86-64, and this is $(uname -sm)"
     elif [[ ! -e $dist ]]; then
-        echo "there is no dist/sixel"
+        echo "there is no dist/sixel (\`git checkout dist\` brings it back)"
     elif ! has_its_sum "$dist"; then
-        echo "dist/sixel isn't the program of these sources"
-    elif ! has_its_sums "$dist"; then
+        echo "dist/sixel is damaged, or isn't the program of dist/sixel.built (\`git checkout dist\` brings both back)"
+    elif [[ -e $here/crates ]] && ! sources=$(sum_sources 2> /dev/null); then
+        tell_unread
+    elif [[ -e $here/crates ]] && ! has_its_sums "$dist" "$sources"; then
         echo "dist/sixel is older than the sources"
     elif [[ ! -x $dist ]]; then
         echo "dist/sixel can't be executed"
@@ -154,10 +196,10 @@ tell_step() {
 # A line that tells the step and the time so far: on a terminal the same line each second, elsewhere a line for a step
 # but for the counts. An up-to-date program is built before the first.
 show_progress() {
-    local log=$1 step last=
+    local log=$1 why=${2:+$2, so the program is proved and built once} step last=
     # A pause may outlast the build. It holds no stream open for whoever reads what is written here.
     sleep 3 2> /dev/null
-    echo "sixel: proving and building the program once, about 20 minutes on 4 cores; the log is $log" >&2
+    echo "sixel: ${why:-proving and building the program once}, about 20 minutes on 4 cores; the log is $log" >&2
     while kill -0 $$ 2> /dev/null; do
         step=$(tell_step "$log")
         if [[ -t 2 ]]; then
@@ -173,18 +215,18 @@ show_progress() {
 # Proves and builds the program, over what is kept of earlier builds, or ends the script. The words say why, if that
 # isn't known yet.
 build() {
-    local why=${1:+$1, and } log now sources sum progress status=0
+    local why=${1:+$1, and } log sources sum progress status=0
+    [[ -e $here/crates ]] || give_up "${why}there are no sources to build it from"
     command -v rt > /dev/null ||
         give_up "${why}the command rt of the Rattle kit, which proves and builds it, is not on the PATH"
     [[ -w $here/crates/sixel ]] || give_up "${why}the program can't be built: $here can't be written"
     log=$(mktemp 2> /dev/null) || give_up "${why}the program can't be built: no file can be made in ${TMPDIR:-/tmp}"
-    now=$(tell_time)
-    sources=$(sum_sources) || give_up "the program's sources can't be read, so it is not built"
-    show_progress "$log" > /dev/null &
+    sources=$(sum_sources 2> /dev/null) || give_up "$(tell_unread)"
+    show_progress "$log" "${1:-}" > /dev/null &
     progress=$!
     # The kit has no command that builds a program and doesn't run it, so it is asked for its help. Its other compiler's
     # program isn't the proved one.
-    (cd -- "$here/crates/sixel" && env -u RT_BACKEND rt run -- --help) > "$log" 2>&1 < /dev/null || status=$?
+    (cd -P -- "$here/crates/sixel" && env -u RT_BACKEND rt run -- --help) > "$log" 2>&1 < /dev/null || status=$?
     kill "$progress"
     wait "$progress" 2> /dev/null || true
     [[ ! -t 2 ]] || printf '\r\033[K' >&2
@@ -192,13 +234,17 @@ build() {
         tail -n 20 -- "$log" >&2
         give_up "the program could not be built; all that rt wrote is in $log"
     fi
-    keep "$built.built" "$now" "$sources"$'\n'"$sum" || give_up "the program's sums can't be written beside $built"
+    keep "$built.built" "$sources"$'\n'"$sum" || give_up "the program's sums can't be written beside $built"
     rm -f -- "$log"
 }
 
+# Ends the script if a command is missing without which nothing can be summed.
 want_sums() {
-    command -v sha256sum > /dev/null ||
-        give_up "the command sha256sum is missing, so nothing tells which program is that of these sources"
+    local name
+    for name in awk cut find sha256sum sort uname xargs; do
+        command -v "$name" > /dev/null ||
+            give_up "the command $name is missing, so nothing tells which program is that of these sources"
+    done
 }
 
 # Proves and builds the program, whatever is there.
@@ -210,13 +256,12 @@ prove() {
 
 # Sets `program` to that of this checkout's sources, proved and built here or brought along, or builds it.
 find_program() {
-    want_sums
-    program=$built
-    if is_build_fresh; then
+    if recall_program; then
         return
-    elif is_dist_fresh; then
-        program=$dist
-    else
+    fi
+    want_sums
+    if ! look_for_program; then
         build "$(tell_why)"
+        program=$built
     fi
 }
