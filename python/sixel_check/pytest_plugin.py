@@ -3,6 +3,7 @@
 from __future__ import annotations
 
 from pathlib import Path
+from typing import Iterator
 
 import pytest
 
@@ -17,16 +18,22 @@ def pytest_addoption(parser: pytest.Parser) -> None:
     group.addoption(
         "--sixel-pictures",
         metavar="FOLDER",
-        help="where failures put what terminals show, below the name of the test (default: pytest's temporary folder)",
+        help="where failures put what terminals show, one folder a test (without it pytest's temporary folder)",
     )
 
 
 @pytest.fixture(scope="session", autouse=True)
-def _sixel_folder(tmp_path_factory: pytest.TempPathFactory, pytestconfig: pytest.Config) -> None:
+def _sixel_folder(request: pytest.FixtureRequest) -> Iterator[None]:
     """Sets where failures put pictures."""
-    named = pytestconfig.getoption("--sixel-pictures")
+    before = testing.kept_folder, testing.new_folder
+    named = request.config.getoption("--sixel-pictures")
     testing.kept_folder = Path(named).absolute() if named else None
-    testing.new_folder = lambda: tmp_path_factory.mktemp("sixel")
+    # It may be turned off.
+    if request.config.pluginmanager.hasplugin("tmpdir"):
+        temporary = request.getfixturevalue("tmp_path_factory")
+        testing.new_folder = lambda: temporary.mktemp("sixel")
+    yield
+    testing.kept_folder, testing.new_folder = before
 
 
 @pytest.fixture
@@ -38,7 +45,10 @@ def sixel_pictures() -> Pictures:
 @pytest.hookimpl(trylast=True)
 def pytest_runtest_call(item: pytest.Item) -> None:
     """After the test, if it passed, fails it for what was collected."""
-    __tracebackhide__ = True
     pictures = getattr(item, "funcargs", {}).get("sixel_pictures")
     if isinstance(pictures, Pictures):
-        pictures.verify()
+        try:
+            pictures.verify()
+        except AssertionError as fault:
+            # A trace would show only this plugin.
+            pytest.fail(str(fault), pytrace=False)

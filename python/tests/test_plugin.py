@@ -68,8 +68,11 @@ class Plugin(unittest.TestCase):
 
     def run_pytest(self, *words):
         # As the entry point of the wheel loads it.
-        words = ["-p", "sixel_check.pytest_plugin", "-p", "no:cacheprovider", f"--basetemp={self.folder}/temporary", *words]
+        if "no:tmpdir" not in words:
+            words = [f"--basetemp={self.folder}/temporary", *words]
+        words = ["-p", "sixel_check.pytest_plugin", "-p", "no:cacheprovider", *words]
         paths = {**os.environ, "PYTHONPATH": str(ROOT / "python"), "PYTEST_DISABLE_PLUGIN_AUTOLOAD": "1"}
+        paths["TMPDIR"] = str(self.folder)
         got = subprocess.run([find_python(), "-m", "pytest", *words], cwd=self.folder, env=paths, capture_output=True, text=True)
         self.assertEqual(got.stderr, "")
         return got.stdout
@@ -80,9 +83,8 @@ class Plugin(unittest.TestCase):
         self.assertRegex(said, "E +AssertionError: the picture isn't portable: broken Rows 3")
         self.assertRegex(said, r"E +> 3 raster 1 1 2 1 +\"1;1;2;1")
         self.assertRegex(said, "E +AssertionError: xterm shows two pictures: in column 0, row 0")
-        self.assertRegex(said, "E +AssertionError: 2 of 3 pictures aren't portable")
-        self.assertRegex(said, "E +first: the picture isn't portable: broken Rows 3")
-        self.assertRegex(said, "E +third: the picture isn't portable: refused NotSixel 0")
+        self.assertRegex(said, "\n2 of 3 pictures aren't portable\nfirst: the picture isn't portable: broken Rows 3\n")
+        self.assertRegex(said, "\nthird: the picture isn't portable: refused NotSixel 0\n")
         self.assertRegex(said, "E +AssertionError: its own reason")
         # The failures are those of the tests, and show no code of the plugin.
         self.assertNotIn("ERROR", said)
@@ -108,6 +110,10 @@ class Plugin(unittest.TestCase):
         )
         for name in kept:
             self.assertTrue(list((self.folder / "kept" / name).glob("xterm*.png")))
+
+    def test_without_temporary_folder(self):
+        said = self.run_pytest("-p", "no:tmpdir", "-k", "test_good or test_bad")
+        self.assertRegex(said, "1 failed, 1 passed")
 
     def test_help(self):
         said = self.run_pytest("--help")
