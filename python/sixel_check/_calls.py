@@ -49,8 +49,7 @@ def _options(on: Names = (), **values: Union[bool, int, str, None]) -> List[str]
 
 
 def _refusal(ended: Ended) -> InputRefused:
-    first, *others = ended.lines
-    return InputRefused(refused_of(first), "\n".join(others))
+    return InputRefused(refused_of(ended.reason), "\n".join(ended.lines[1:]))
 
 
 def _written(words: List[str], source: Source, timeout: Optional[float]) -> bytes:
@@ -89,7 +88,7 @@ def scan(
     """
     ended = run(["scan", "--json", *_options(wide=wide, eight_bit=eight_bit)], source, timeout)
     answers = ended.objects
-    if answers and answers[-1].get("reason") == "NoString":
+    if answers[-1].get("reason") == "NoString":
         return ()
     found = tuple(Scanned(answer.get("string", 0), outcome_of(answer)) for answer in answers)
     warn(ended, 1)
@@ -99,7 +98,7 @@ def scan(
 def events(source: Source, *, timeout: Optional[float] = SECONDS) -> Listing:
     """Lists the commands of a picture, each with its offset, up to the first fault."""
     ended = run(["list"], source, timeout)
-    refused = refused_of(ended.lines[0]) if ended.status == 2 else None
+    refused = refused_of(ended.reason) if ended.status == 2 else None
     return Listing(tuple(map(_event, ended.output.decode().splitlines())), refused)
 
 
@@ -118,9 +117,9 @@ def differ(
     """
     ended = run(["differ", *_options(background=background)], source, timeout)
     if ended.status == 2:
-        return refused_of(ended.lines[0])
+        return refused_of(ended.reason)
     lines = [line.split() for line in ended.output.decode().splitlines()]
-    if lines[0][0] == "same":
+    if lines and lines[0][0] == "same":
         return Difference((Group(TERMINALS),), (int(lines[0][1]), int(lines[0][2])))
     return Difference(tuple(map(_group, lines)))
 

@@ -3,7 +3,7 @@
 from __future__ import annotations
 
 from dataclasses import dataclass, replace
-from typing import Any, Mapping, Optional, Tuple, TypeVar, Union
+from typing import Any, Mapping, Optional, Tuple, Union
 
 from ._explain import explain
 from ._program import ProgramDied, SixelError
@@ -217,10 +217,7 @@ def refused_of(line: str) -> Refused:
     return Refused(reason, int(offset) if offset else None, explain(reason).summary)
 
 
-Told = TypeVar("Told", Portable, Broken, Refused)
-
-
-def moved(outcome: Told, distance: int) -> Told:
+def moved(outcome: Outcome, distance: int) -> Outcome:
     """The outcome with its offset so many bytes further on."""
     if isinstance(outcome, Portable) or outcome.offset is None:
         return outcome

@@ -9,6 +9,8 @@ from dataclasses import dataclass, field
 from pathlib import Path
 from typing import TYPE_CHECKING, Any, Tuple, Union
 
+from ._program import ProgramDied
+
 if TYPE_CHECKING:
     import numpy
     import PIL.Image
@@ -72,11 +74,14 @@ class Picture:
 
 def picture_of(ppm: bytes) -> Picture:
     """The picture of a PPM that the program wrote."""
-    kind, size, most, samples = ppm.split(b"\n", 3)
-    if (kind, most) != (b"P6", b"100"):
-        raise ValueError("this is no PPM of the program sixel")
-    width, height = map(int, size.split())
-    return Picture(width, height, samples.translate(LEVELS))
+    try:
+        kind, size, most, samples = ppm.split(b"\n", 3)
+        width, height = map(int, size.split())
+        if (kind, most) == (b"P6", b"100"):
+            return Picture(width, height, samples.translate(LEVELS))
+    except ValueError:
+        pass
+    raise ProgramDied("the program wrote no picture, as the program sixel does")
 
 
 def columns_of(picture: Picture, start: int, width: int) -> Picture:

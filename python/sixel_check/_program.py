@@ -51,9 +51,22 @@ class Ended(NamedTuple):
         return [line[len("sixel: ") :] if line.startswith("sixel: ") else line for line in self.said.splitlines()]
 
     @property
+    def reason(self) -> str:
+        """The first of these lines, why nothing was done."""
+        if not self.lines:
+            raise ProgramDied(ending(self.status))
+        return self.lines[0]
+
+    @property
     def objects(self) -> List[Dict[str, Any]]:
         """The JSON lines on standard output."""
-        return [json.loads(line) for line in self.output.splitlines()]
+        try:
+            found: List[Dict[str, Any]] = [json.loads(line) for line in self.output.splitlines()]
+        except ValueError:
+            found = []
+        if not found:
+            raise ProgramDied(f"{ending(self.status, self.said)}, and answered nothing that the program sixel does")
+        return found
 
 
 def find_program() -> str:
@@ -118,7 +131,7 @@ def _run(words: Sequence[str], timeout: Optional[float], **source: Any) -> Ended
     said = ended.stderr.decode(errors="replace")
     if ended.returncode == 3:
         # A usage error: what the caller passed on is wrong.
-        raise ValueError(Ended(3, b"", said).lines[0])
+        raise ValueError(Ended(3, b"", said).reason)
     if ended.returncode not in (0, 1, 2):
         raise ProgramDied(ending(ended.returncode, said))
     return Ended(ended.returncode, ended.stdout, said)

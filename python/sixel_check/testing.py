@@ -7,7 +7,7 @@ import os
 import re
 import tempfile
 from pathlib import Path
-from typing import Callable, Dict, Iterator, List, Optional, Union
+from typing import Callable, Dict, Iterator, List, Optional, Tuple
 
 from . import _calls
 from ._calls import TERMINALS, Names
@@ -52,10 +52,9 @@ def assert_portable(data: Source, on: Names = "all", wide: bool = False) -> None
     With `on=()` no named terminal counts; with `wide` the picture may use 256 colour registers.
     """
     __tracebackhide__ = True
-    text = bytes_of(data)
-    outcome = _calls.check(text, on=on, wide=wide)
-    if not isinstance(outcome, Portable):
-        raise AssertionError(failure(text, outcome, on, wide))
+    said = failure(bytes_of(data), on, wide)[1]
+    if said:
+        raise AssertionError(said)
 
 
 def assert_same_picture(a: Source, b: Source, on: Names = "all") -> None:
@@ -65,7 +64,7 @@ def assert_same_picture(a: Source, b: Source, on: Names = "all") -> None:
     doesn't say what it shows; `on` leaves that terminal out.
     """
     __tracebackhide__ = True
-    texts = (bytes_of(a), bytes_of(b))
+    texts, terminals = (bytes_of(a), bytes_of(b)), _named(on)
     sizes = []
     for text, name in zip(texts, ("first", "second")):
         try:
@@ -73,8 +72,8 @@ def assert_same_picture(a: Source, b: Source, on: Names = "all") -> None:
         except InputRefused as refusal:
             raise AssertionError(f"the {name} picture is {refusal}") from None
         sizes.append((_calls.screens_of(sheet)[0].width, sheet.height))
-    width, height = map(max, zip(*sizes))
-    for background, terminal in itertools.product(BACKGROUNDS, _named(on)):
+    width, height = max(width for width, _ in sizes), max(height for _, height in sizes)
+    for background, terminal in itertools.product(BACKGROUNDS, terminals):
         screens = []
         for text, name in zip(texts, ("first", "second")):
             try:
@@ -115,16 +114,20 @@ def first_difference(a: Picture, b: Picture) -> str:
     return f"in column {column}, row {row} the first has {colours[0]} and the second {colours[1]}"
 
 
-def failure(text: bytes, outcome: Union[Broken, Refused], on: Names = "all", wide: bool = False) -> str:
-    """What a failure says of a picture that isn't portable."""
+def failure(text: bytes, on: Names, wide: bool) -> Tuple[Outcome, str]:
+    """What a check says of a picture, and if it isn't portable, what a failure says."""
+    names = on if isinstance(on, str) else tuple(on)
+    outcome = _calls.check(text, on=names, wide=wide)
+    if isinstance(outcome, Portable):
+        return outcome, ""
     lines = [f"the picture isn't portable: {outcome}", f"  {outcome.message}"]
     if outcome.offset is not None:
         lines += ["  commands, each with its offset:", *(f"  {line}" for line in commands_around(text, outcome.offset))]
-    findings = _calls.survey(text, on=on, wide=wide).findings
-    others = [finding for finding in findings if not (isinstance(outcome, Broken) and finding.rule == outcome.rule)]
+    rule = outcome.rule if isinstance(outcome, Broken) else ""
+    others = [finding for finding in _calls.survey(text, on=names, wide=wide).findings if finding.rule != rule]
     if others:
         lines.append("  also broken: " + ", ".join(map(_told, others)))
-    return "\n".join([*lines, f"  fix: {outcome.fix}", *(f"  {line}" for line in put_pictures(text))])
+    return outcome, "\n".join([*lines, f"  fix: {outcome.fix}", *(f"  {line}" for line in put_pictures(text))])
 
 
 def _told(finding: Finding) -> str:
@@ -189,10 +192,9 @@ class Pictures:
     def add(self, data: Source, name: str = "", *, on: Names = "all", wide: bool = False) -> Outcome:
         """Checks a picture at once, and gives the outcome. The name is for the failure."""
         self._count += 1
-        text = bytes_of(data)
-        outcome = _calls.check(text, on=on, wide=wide)
-        if not isinstance(outcome, Portable):
-            self._failures.append(f"{name or f'picture {self._count}'}: {failure(text, outcome, on, wide)}")
+        outcome, said = failure(bytes_of(data), on, wide)
+        if said:
+            self._failures.append(f"{name or f'picture {self._count}'}: {said}")
         return outcome
 
     def verify(self) -> None:

@@ -318,6 +318,14 @@ class Failures(unittest.TestCase):
                 with self.subTest(call), self.assertRaisesRegex(sixel_check.ProgramDied, "an allocation failed"):
                     getattr(sixel_check, call)(PIXEL)
 
+    def test_another_program(self):
+        """One that isn't sixel at all."""
+        for script in ("exit 0", "exit 2", "exit 3", "echo text", "cat", "echo; exit 1"):
+            with stand_in(script):
+                for call in ("check", "survey", "scan", "sheet", "show"):
+                    with self.subTest(f"{call} by {script}"), self.assertRaises(sixel_check.ProgramDied):
+                        getattr(sixel_check, call)(PIXEL)
+
     def test_hung(self):
         with stand_in("exec sleep 60"):
             began = time.monotonic()
