@@ -6,6 +6,7 @@ import io
 import sys
 from typing import TYPE_CHECKING, Any, Iterable, List, Optional, Tuple, Union
 
+from ._explain import explain
 from ._outcomes import (
     Broken,
     Difference,
@@ -22,7 +23,6 @@ from ._outcomes import (
     outcome_of,
     refused_of,
 )
-from ._explain import explain
 from ._picture import Picture, columns_of, picture_of
 from ._program import SECONDS, Ended, Source, bytes_of, run, warn
 
@@ -243,7 +243,7 @@ def _opaque(image: Any) -> Picture:
     if "transparency" in image.info or image.mode in ("LA", "La", "PA", "RGBA", "RGBa"):
         image = image.convert("RGBA")
         if image.getextrema()[3][0] < 255:
-            raise ValueError("the image has transparent pixels: put it on a background first, as by Image.alpha_composite")
+            raise ValueError("the image has transparent pixels; Image.alpha_composite puts it on a background")
     return Picture(*image.size, image.convert("RGB").tobytes())
 
 

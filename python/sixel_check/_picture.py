@@ -51,9 +51,7 @@ class Picture:
         # The filter of each row is none.
         rows = b"".join(b"\0" + self.rgb[start : start + step] for start in range(0, len(self.rgb), step))
         chunks = ((b"IHDR", size), (b"IDAT", zlib.compress(rows)), (b"IEND", b""))
-        return b"\x89PNG\r\n\x1a\n" + b"".join(
-            struct.pack(">I", len(data)) + kind + data + struct.pack(">I", zlib.crc32(kind + data)) for kind, data in chunks
-        )
+        return b"\x89PNG\r\n\x1a\n" + b"".join(_chunk(kind, data) for kind, data in chunks)
 
     def save(self, path: Union[str, os.PathLike[str]]) -> None:
         """Writes a PNG file."""
@@ -70,6 +68,11 @@ class Picture:
         import numpy
 
         return numpy.frombuffer(self.rgb, numpy.uint8).reshape(self.height, self.width, 3)
+
+
+def _chunk(kind: bytes, data: bytes) -> bytes:
+    """A part of a PNG, with its length before it and its sum behind it."""
+    return struct.pack(">I", len(data)) + kind + data + struct.pack(">I", zlib.crc32(kind + data))
 
 
 def picture_of(ppm: bytes) -> Picture:

@@ -75,8 +75,9 @@ def find_program() -> str:
     if named:
         return named
     here = Path(__file__).resolve().parent
-    # PREFIX/lib/pythonX.Y/site-packages/sixel_check, and what `pip install --target` makes.
-    folders = [above / "bin" for above in [*list(here.parents)[3:4], here.parent]] + [Path(sysconfig.get_path("scripts"))]
+    # PREFIX/lib/pythonX.Y/site-packages/sixel_check, what `pip install --target` makes, and any other layout.
+    tops = [*list(here.parents)[3:4], here.parent]
+    folders = [*(top / "bin" for top in tops), Path(sysconfig.get_path("scripts"))]
     for folder in folders:
         if os.access(folder / "sixel", os.X_OK):
             return str(folder / "sixel")

@@ -48,8 +48,8 @@ def picture_folder() -> Path:
 def assert_portable(data: Source, on: Names = "all", wide: bool = False) -> None:
     """Fails if a picture isn't portable, or if a named terminal shows something else.
 
-    The failure says which rule is broken by which command, what to do, and where the pictures of the four terminals are.
-    With `on=()` no named terminal counts; with `wide` the picture may use 256 colour registers.
+    The failure says which rule is broken by which command, what to do, and where the pictures of the four terminals
+    are. With `on=()` no named terminal counts; with `wide` the picture may use 256 colour registers.
     """
     __tracebackhide__ = True
     said = failure(bytes_of(data), on, wide)[1]

@@ -20,7 +20,8 @@ from shared import PEN, PIXEL, RED, ROOT, UNCOVERED, WIDE, has_children, open_fi
 from sixel_check import Broken, Picture, Portable, Refused
 
 # Names that a command line, a shell or a message could take for something else.
-NAMES = (b"-", b"--json", b"-x", b"a b", b" ", b"'\"", b"a\nb", b"<b>&", b"\xff\xfe", "ü\ufffd".encode(), b"$(x)", b"*", b"\x1b[0m")
+NAMES = (b"-", b"--json", b"-x", b"a b", b" ", b"'\"", b"a\nb", b"<b>&", b"\xff\xfe", b"$(x)", b"*", b"\x1b[0m")
+NAMES += ("ü\ufffd".encode(),)
 CALLS = ("check", "survey", "scan", "events", "differ", "sheet", "render", "show", "mend", "encode")
 
 
@@ -51,12 +52,12 @@ class Sources(unittest.TestCase):
                     pathlib.Path(path).write_bytes(PIXEL)
                     self.assertEqual(sixel_check.check(path), Portable(1, 1))
                     self.assertEqual(sixel_check.render(pathlib.Path(path)).rgb, bytes(3))
-            with mock.patch("os.getcwd", return_value=folder):
-                self.assertEqual(sorted(os.listdir(os.fsencode(folder))), sorted(NAMES))
+            self.assertEqual(sorted(os.listdir(os.fsencode(folder))), sorted(NAMES))
 
     def test_no_source(self):
+        sources = ((1, TypeError), (None, TypeError), (io.StringIO("x"), TypeError), ("/none", FileNotFoundError))
         for call in CALLS:
-            for source, kind in ((1, TypeError), (None, TypeError), (io.StringIO("x"), TypeError), ("/none", FileNotFoundError)):
+            for source, kind in sources:
                 with self.subTest(f"{call} {source!r}"), self.assertRaises(kind):
                     getattr(sixel_check, call)(source)
             with self.subTest(f"{call} of a folder"), self.assertRaises(IsADirectoryError):
@@ -222,7 +223,8 @@ class Pictures(unittest.TestCase):
     def test_screens(self):
         sheet = sixel_check.sheet(PEN)
         self.assertEqual((sheet.width, sheet.height), (4 + 3 * 8, 6))
-        self.assertEqual([sheet.pixel(9 * index, 0) for index in range(4)], [(255, 0, 0), (255, 0, 0), (0, 0, 0), (255, 0, 0)])
+        red, black = (255, 0, 0), (0, 0, 0)
+        self.assertEqual([sheet.pixel(9 * index, 0) for index in range(4)], [red, red, black, red])
         for index, terminal in enumerate(sixel_check.TERMINALS):
             self.assertEqual(sixel_check.show(PEN, on=terminal, box=True).pixel(0, 0), sheet.pixel(9 * index, 0))
 
@@ -287,12 +289,8 @@ class Failures(unittest.TestCase):
             self.try_each(sixel_check.ProgramMissing, "/none/sixel can't be started: No such file")
         with tempfile.NamedTemporaryFile() as file, program(file.name):
             self.try_each(sixel_check.ProgramMissing, "can't be started: Permission denied")
-            file.write(b"\x7fELF of another machine")
-            file.flush()
-            os.chmod(file.name, 0o755)
-        with program(""):
-            with mock.patch("os.access", return_value=False):
-                self.try_each(sixel_check.ProgramMissing, "is missing: it is neither in .*/bin")
+        with program(""), mock.patch("os.access", return_value=False):
+            self.try_each(sixel_check.ProgramMissing, "is missing: it is neither in .*/bin")
 
     def test_other_machine(self):
         with tempfile.TemporaryDirectory() as folder:
@@ -313,7 +311,8 @@ class Failures(unittest.TestCase):
             for call in ("events", "differ", "sheet", "render", "show", "mend", "encode"):
                 with self.subTest(call), self.assertRaisesRegex(sixel_check.ProgramDied, "out of memory"):
                     getattr(sixel_check, call)(PIXEL)
-        with stand_in("""echo '{"file":null,"result":"refused","reason":"OutOfMemory","message":"an allocation failed"}'; exit 2"""):
+        answer = '{"file":null,"result":"refused","reason":"OutOfMemory","message":"an allocation failed"}'
+        with stand_in(f"echo '{answer}'; exit 2"):
             for call in ("check", "survey", "scan"):
                 with self.subTest(call), self.assertRaisesRegex(sixel_check.ProgramDied, "an allocation failed"):
                     getattr(sixel_check, call)(PIXEL)

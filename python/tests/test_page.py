@@ -30,7 +30,8 @@ class Page(unittest.TestCase):
     def test_failure(self):
         """The failing test fails with the lines of the page, but for the folder."""
         program = next(block for kind, block in BLOCKS if "def test_plot():" in block)
-        wanted = [re.sub("^E +", "", line) for kind, block in BLOCKS if block.startswith("E ") for line in block.splitlines()]
+        lines = next(block for kind, block in BLOCKS if block.startswith("E ")).splitlines()
+        wanted = [re.sub("^E +", "", line) for line in lines]
         names = {}
         exec(program, names)
         with self.assertRaises(AssertionError) as caught:

@@ -52,8 +52,9 @@ class TestClass:
 def find_python():
     """A Python that has pytest, or nothing."""
     for python in (sys.executable, "/usr/bin/python3"):
-        if os.path.exists(python) and subprocess.run([python, "-c", "import pytest"], capture_output=True).returncode == 0:
-            return python
+        if os.path.exists(python):
+            if subprocess.run([python, "-c", "import pytest"], capture_output=True).returncode == 0:
+                return python
     return None
 
 
@@ -71,9 +72,10 @@ class Plugin(unittest.TestCase):
         if "no:tmpdir" not in words:
             words = [f"--basetemp={self.folder}/temporary", *words]
         words = ["-p", "sixel_check.pytest_plugin", "-p", "no:cacheprovider", *words]
-        paths = {**os.environ, "PYTHONPATH": str(ROOT / "python"), "PYTEST_DISABLE_PLUGIN_AUTOLOAD": "1"}
-        paths["TMPDIR"] = str(self.folder)
-        got = subprocess.run([find_python(), "-m", "pytest", *words], cwd=self.folder, env=paths, capture_output=True, text=True)
+        paths = {"PYTHONPATH": str(ROOT / "python"), "PYTEST_DISABLE_PLUGIN_AUTOLOAD": "1", "TMPDIR": str(self.folder)}
+        paths = {**os.environ, **paths}
+        how = {"cwd": self.folder, "env": paths, "capture_output": True, "text": True}
+        got = subprocess.run([find_python(), "-m", "pytest", *words], **how)
         self.assertEqual(got.stderr, "")
         return got.stdout
 

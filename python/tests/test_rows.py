@@ -21,7 +21,7 @@ Told = collections.namedtuple("Told", "status output said")
 
 
 def split(words):
-    """The task, the options as the calls take them, the files, and whether it is quiet; or nothing if no call has them."""
+    """The task, the options as calls take them, the files, and whether it is quiet; or nothing if no call has them."""
     task, *rest = words
     options, files, is_quiet = {}, [], False
     while rest:
@@ -146,7 +146,8 @@ class Rows(unittest.TestCase):
 
     def test_scanner(self):
         """One running program says of each what a check says."""
-        rows = [row for row in test_command.rows_of(ROOT / "crates/sixel_rows/data/check.rows") if "--on" not in row.words]
+        rows = test_command.rows_of(ROOT / "crates/sixel_rows/data/check.rows")
+        rows = [row for row in rows if "--on" not in row.words]
         with sixel_check.Scanner() as scanner, sixel_check.Scanner(wide=True) as wide:
             for row in rows:
                 with self.subTest(row.place):
@@ -185,16 +186,18 @@ class FileRows(unittest.TestCase):
                 warnings.simplefilter("always")
                 told = told_by_call(task, dict(options), source)
             notes += [f"sixel: {note.message}" for note in caught if f"sixel: {note.message}" not in notes]
-            is_lines = task in ("check", "survey", "scan", "differ") and not options.get("sheet")
+            has_lines = task in ("check", "survey", "scan", "differ") and not options.get("sheet")
             printed = re.sub("[\0-\x1f]", lambda found: f"\\x{ord(found[0]):02X}", file or "")
             label = f"{printed}: " if file is not None else ""
             status = max(status, told.status)
-            output += b"".join(label.encode() + line for line in told.output.splitlines(True)) if is_lines else told.output
+            pieces = told.output.splitlines(True)
+            output += b"".join(label.encode() + piece for piece in pieces) if has_lines else told.output
             if told.said.startswith("broken"):
                 said.append(f"{label}{told.said}")
             elif told.said:
                 said.append(f"sixel: {label}{told.said}")
         self.assertEqual((status, output), (row.status, row.output))
         # Objects of JSON lack what the program says beyond a refusal.
-        wanted = [line for line in row.said.decode().splitlines() if not re.match("sixel: (this is|the input is|'|[0-9])", line)]
+        beyond = re.compile("sixel: (this is|the input is|'|[0-9])")
+        wanted = [line for line in row.said.decode().splitlines() if not beyond.match(line)]
         self.assertEqual(said + ([] if is_quiet else notes), wanted)

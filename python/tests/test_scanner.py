@@ -135,7 +135,7 @@ class Failures(unittest.TestCase):
 
     def test_missing(self):
         with sixel_check.Scanner() as scanner:
-            with program("/none/sixel"), self.assertRaisesRegex(sixel_check.ProgramMissing, "/none/sixel can't be started"):
+            with program("/none/sixel"), self.assertRaisesRegex(sixel_check.ProgramMissing, "/none/sixel can't be"):
                 scanner.check(PIXEL)
             self.assertTrue(scanner.check(PIXEL).is_portable)
 

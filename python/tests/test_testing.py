@@ -101,7 +101,8 @@ class AssertPortable(WithFolder):
 
     def test_kept_folder(self):
         test = "tests/test_x.py::test_plot[a/b ü] (call)"
-        with mock.patch.object(testing, "kept_folder", self.folder / "new"), mock.patch.dict(os.environ, PYTEST_CURRENT_TEST=test):
+        kept = mock.patch.object(testing, "kept_folder", self.folder / "new")
+        with kept, mock.patch.dict(os.environ, PYTEST_CURRENT_TEST=test):
             for number in ("", "-2"):
                 said = self.failure(assert_portable, UNCOVERED)
                 folder = self.folder / f"new/tests_test_x.py_test_plot_a_b_ü_{number}"
@@ -125,13 +126,14 @@ class AssertSamePicture(WithFolder):
         black = sixel_check.encode(b"P6 9 12 100\n" + bytes(3 * 9 * 12))
         dot = sixel_check.encode(b"P6 9 12 100\n" + bytes(3 * 9 * 12 - 1) + b"d")
         said = self.failure(assert_same_picture, black, dot, on="konsole")
-        self.assertIn("konsole shows two pictures: in column 8, row 11 the first has #000000 and the second #0000ff", said)
+        self.assertIn("konsole shows two pictures: in column 8, row 11 the first has #000000", said)
 
     def test_not_painted(self):
         """White that is painted isn't white that was there."""
         white = b'\x1bPq"1;1;2;6#0;2;0;0;0#1;2;100;100;100#0~#1~\x1b\\'
         bare = b'\x1bPq"1;1;2;6#0;2;0;0;0#0~\x1b\\'
-        self.assertIn("foot shows two pictures: in column 1, row 0", self.failure(assert_same_picture, white, bare, on="foot"))
+        said = self.failure(assert_same_picture, white, bare, on="foot")
+        self.assertIn("foot shows two pictures: in column 1, row 0", said)
 
     def test_other_size(self):
         larger = b'\x1bPq"1;1;2;6#0;2;100;0;0#0~~\x1b\\'
@@ -149,7 +151,8 @@ class AssertSamePicture(WithFolder):
 
     def test_unmodelled(self):
         zero = RED.replace(b"#0~", b"#0!0~")
-        self.assertIn("what xterm shows of the second picture isn't known", self.failure(assert_same_picture, RED, zero))
+        said = self.failure(assert_same_picture, RED, zero)
+        self.assertIn("what xterm shows of the second picture isn't known: refused Unmodelled 25", said)
 
 
 class Collecting(WithFolder):
@@ -165,7 +168,7 @@ class Collecting(WithFolder):
         self.assertFalse(pictures.add(UNCOVERED, "plot <1>").is_portable)
         self.assertFalse(pictures.add(b"x").is_portable)
         said = self.failure(pictures.verify)
-        self.assertTrue(said.startswith("2 of 3 pictures aren't portable\nplot <1>: the picture isn't portable: broken"), said)
+        self.assertIn("2 of 3 pictures aren't portable\nplot <1>: the picture isn't portable: broken Rows 3\n", said)
         self.assertIn("\npicture 3: the picture isn't portable: refused NotSixel 0\n", said)
         pictures.verify()
 

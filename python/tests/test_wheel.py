@@ -36,6 +36,13 @@ class Wheel(unittest.TestCase):
     def run_program(self, *words, **options):
         return subprocess.run(words, capture_output=True, text=True, **options)
 
+    def install(self, wheel, target):
+        words = ["install", "-q", "--no-index", "--no-deps", "--target", target, wheel]
+        got = self.run_program(sys.executable, "-m", "pip", *words)
+        if "No module named pip" in got.stderr:
+            self.skipTest("pip isn't installed (python3-pip)")
+        return got
+
     def test_bytes(self):
         first, second = self.wheels
         self.assertEqual(first.name, second.name)
@@ -51,14 +58,12 @@ class Wheel(unittest.TestCase):
             program = wheel.read(f"sixel_check-{version}.data/scripts/sixel")
             self.assertEqual(program, pathlib.Path(os.environ["SIXEL_PROGRAM"]).read_bytes())
             modules = {pathlib.PurePath(name).name for name in wheel.namelist() if name.startswith("sixel_check/")}
-        self.assertEqual(modules, {path.name for path in (ROOT / "python/sixel_check").glob("*[py.typed]") if path.is_file()})
+        files = {path.name for path in (ROOT / "python/sixel_check").iterdir() if path.is_file()}
+        self.assertEqual(modules, files)
 
     def test_installed(self):
         target = self.folder / "target"
-        words = [sys.executable, "-m", "pip", "install", "-q", "--no-index", "--no-deps", "--target", target, self.wheels[0]]
-        got = self.run_program(*words)
-        if "No module named pip" in got.stderr:
-            self.skipTest("pip isn't installed (python3-pip)")
+        got = self.install(self.wheels[0], target)
         self.assertEqual(got.returncode, 0, got.stderr)
         script = f"import sixel_check; print(sixel_check.check({PIXEL!r}), sixel_check.__file__)"
         plain = {name: value for name, value in os.environ.items() if name != "SIXEL_PROGRAM"}
@@ -71,9 +76,7 @@ class Wheel(unittest.TestCase):
         """pip says that the wheel isn't for this machine."""
         other = self.folder / re.sub("x86_64", "aarch64", self.wheels[0].name)
         other.write_bytes(self.wheels[0].read_bytes())
-        got = self.run_program(sys.executable, "-m", "pip", "install", "-q", "--no-index", "--target", self.folder / "none", other)
-        if "No module named pip" in got.stderr:
-            self.skipTest("pip isn't installed (python3-pip)")
+        got = self.install(other, self.folder / "none")
         self.assertIn("is not a supported wheel on this platform", got.stderr)
 
     def test_usage(self):
