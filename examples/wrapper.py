@@ -275,7 +275,7 @@ def run_failures(clone):
     path = f"{clone.failing_sum}:{clone.bin}:{os.environ['PATH']}"
     for text in ("fifth", "sixth"):
         clone.main.write_text(text)
-        clone.want_unbuilt(0, "can't be read", "where no sum can be made", PATH=path)
+        clone.want_unbuilt(0, "can't all be read", "where no sum can be made", PATH=path)
     clone.want_run("sixth", 1, "where sums can be made again")
 
 
