@@ -4,8 +4,8 @@
     examples/wrapper.py
 
 The program that the stand-in builds writes the text of its source. All is written in a temporary folder. The last line
-counts what passed, what failed, and what was skipped because this machine lacks git or dpkg-deb. tests/run calls this
-too.
+counts what passed, what failed, and what was skipped because this machine lacks git, dpkg-deb or lintian. tests/run
+calls this too.
 """
 
 import os
@@ -275,7 +275,7 @@ def run_failures(clone):
     path = f"{clone.failing_sum}:{clone.bin}:{os.environ['PATH']}"
     for text in ("fifth", "sixth"):
         clone.main.write_text(text)
-        clone.want_unbuilt(0, "can't be read", "where no sum can be made", PATH=path)
+        clone.want_unbuilt(0, "can't all be read", "where no sum can be made", PATH=path)
     clone.want_run("sixth", 1, "where sums can be made again")
 
 
@@ -571,6 +571,13 @@ def run_package(clone):
     want(packed == wanted, f"./package: it lacks {wanted - packed}, and has {packed - wanted}")
     control = (unpacked / "DEBIAN/control").read_text()
     want("\nVersion: 9.8\n" in control and "\nDepends: libc6 (>= 2.34)\n" in control, f"./package: {control}")
+    if not shutil.which("lintian"):
+        skip(1, "lintian, which isn't installed")
+        return
+    got = subprocess.run(["lintian", package], capture_output=True, text=True).stdout
+    # The owner has named neither a licence nor whom to write to.
+    owners = {"no-copyright-file", "malformed-contact", "bogus-mail-host-in-debian-changelog"}
+    want({*re.findall(r"^E: sixel: (\S+)", got, re.MULTILINE)} == owners, f"lintian: {got}")
 
 
 def run_other_dist(clone):
