@@ -244,7 +244,8 @@ def _opaque(image: Any) -> Picture:
         image = image.convert("RGBA")
         if image.getextrema()[3][0] < 255:
             raise ValueError("the image has transparent pixels; Image.alpha_composite puts it on a background")
-    return Picture(*image.size, image.convert("RGB").tobytes())
+    width, height = image.size
+    return Picture(width, height, image.convert("RGB").tobytes())
 
 
 def _reduced(ppm: bytes, colours: int) -> bytes:

@@ -30,7 +30,7 @@ def _sixel_folder(request: pytest.FixtureRequest) -> Iterator[None]:
     testing.kept_folder = Path(named).absolute() if named else None
     # It may be turned off.
     if request.config.pluginmanager.hasplugin("tmpdir"):
-        temporary = request.getfixturevalue("tmp_path_factory")
+        temporary: pytest.TempPathFactory = request.getfixturevalue("tmp_path_factory")
         testing.new_folder = lambda: temporary.mktemp("sixel")
     yield
     testing.kept_folder, testing.new_folder = before

@@ -6,6 +6,7 @@ import io
 import os
 import pathlib
 import pickle
+import random
 import struct
 import tempfile
 import threading
@@ -259,7 +260,7 @@ class OtherLibraries(unittest.TestCase):
             self.assertEqual(sixel_check.render(sixel_check.encode(image.convert(mode))).pixel(0, 0)[1:], (0, 0), mode)
         with self.assertRaisesRegex(ValueError, "transparent"):
             sixel_check.encode(PIL.Image.new("RGBA", (2, 2), (0, 0, 0, 128)))
-        photo = PIL.Image.frombytes("RGB", (64, 64), bytes(index * 31 % 251 for index in range(3 * 64 * 64)))
+        photo = PIL.Image.frombytes("RGB", (64, 64), random.Random(1).randbytes(3 * 64 * 64))
         for wide in (False, True):
             for source in (photo, Picture(64, 64, photo.tobytes()), Picture(64, 64, photo.tobytes()).ppm()):
                 with self.assertRaisesRegex(sixel_check.InputRefused, "TooManyColours"):

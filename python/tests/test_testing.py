@@ -94,10 +94,10 @@ class AssertPortable(WithFolder):
             self.assertIn("the picture isn't portable: refused", self.failure(assert_portable, text))
 
     def test_large(self):
-        """A million commands, of which the last one is wrong."""
-        text = b'\x1bPq"1;1;2;6#0;2;0;0;0#0~~' + b"?$" * 500_000 + b"#0;2;1;1;1\x1b\\"
+        """A hundred thousand commands, of which the last one is wrong."""
+        text = b'\x1bPq"1;1;2;6#0;2;0;0;0#0~~' + b"?$" * 50_000 + b"#0;2;1;1;1\x1b\\"
         said = self.failure(assert_portable, text, on=())
-        self.assertIn("> 1000025 define 0 2 1 1 1", said)
+        self.assertIn("> 100025 define 0 2 1 1 1", said)
 
     def test_kept_folder(self):
         test = "tests/test_x.py::test_plot[a/b ü] (call)"
