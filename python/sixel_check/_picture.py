@@ -3,12 +3,11 @@
 from __future__ import annotations
 
 import os
-import struct
-import zlib
 from dataclasses import dataclass, field
 from pathlib import Path
 from typing import TYPE_CHECKING, Any, Tuple, Union
 
+from ._png import png_of
 from ._program import ProgramDied
 
 if TYPE_CHECKING:
@@ -46,12 +45,7 @@ class Picture:
 
     def png(self) -> bytes:
         """The picture as a PNG."""
-        size = struct.pack(">IIBBBBB", self.width, self.height, 8, 2, 0, 0, 0)
-        step = 3 * self.width
-        # The filter of each row is none.
-        rows = b"".join(b"\0" + self.rgb[start : start + step] for start in range(0, len(self.rgb), step))
-        chunks = ((b"IHDR", size), (b"IDAT", zlib.compress(rows)), (b"IEND", b""))
-        return b"\x89PNG\r\n\x1a\n" + b"".join(_chunk(kind, data) for kind, data in chunks)
+        return png_of(self.width, self.height, self.rgb)
 
     def save(self, path: Union[str, os.PathLike[str]]) -> None:
         """Writes a PNG file."""
@@ -68,11 +62,6 @@ class Picture:
         import numpy
 
         return numpy.frombuffer(self.rgb, numpy.uint8).reshape(self.height, self.width, 3)
-
-
-def _chunk(kind: bytes, data: bytes) -> bytes:
-    """A part of a PNG, with its length before it and its sum behind it."""
-    return struct.pack(">I", len(data)) + kind + data + struct.pack(">I", zlib.crc32(kind + data))
 
 
 def picture_of(ppm: bytes) -> Picture:

@@ -11,12 +11,13 @@ from typing import Callable, Dict, Iterator, List, Optional, Tuple
 
 from . import _calls
 from ._calls import TERMINALS, Names
+from ._commands import commands_around, listing_of, printable
 from ._outcomes import Broken, Finding, InputRefused, Outcome, Portable, Refused
 from ._picture import Picture
-from ._program import SECONDS, Source, bytes_of, run
+from ._program import Source, bytes_of
 
-# How many commands a failure shows before and after the one that breaks a rule, and how many of its bytes.
-BEFORE, AFTER, MOST_BYTES = 3, 2, 40
+# How many bytes of a command a failure shows.
+MOST_BYTES = 40
 # What isn't painted shows the background, so a second one tells it from what is painted in the first one's colour.
 BACKGROUNDS = ("100,100,100", "0,0,0")
 
@@ -122,7 +123,7 @@ def failure(text: bytes, on: Names, wide: bool) -> Tuple[Outcome, str]:
         return outcome, ""
     lines = [f"the picture isn't portable: {outcome}", f"  {outcome.message}"]
     if outcome.offset is not None:
-        lines += ["  commands, each with its offset:", *(f"  {line}" for line in commands_around(text, outcome.offset))]
+        lines += ["  commands, each with its offset:", *(f"  {line}" for line in commands_told(text, outcome.offset))]
     rule = outcome.rule if isinstance(outcome, Broken) else ""
     others = [finding for finding in _calls.survey(text, on=names, wide=wide).findings if finding.rule != rule]
     if others:
@@ -135,31 +136,11 @@ def _told(finding: Finding) -> str:
     return f"{finding.rule}{often} at {finding.offset}"
 
 
-def _offset_of(line: str) -> int:
-    return int(line.partition(" ")[0])
-
-
-def commands_around(text: bytes, offset: int) -> Iterator[str]:
+def commands_told(text: bytes, offset: int) -> Iterator[str]:
     """The command at an offset, marked, and some before and after it, each with its bytes."""
-    # A line for each command, of a large picture a million. Its refusal is known already.
-    lines = run(["list"], text, SECONDS).output.decode().splitlines()
-    at = next((number for number, line in enumerate(lines) if _offset_of(line) >= offset), len(lines))
-    if at == len(lines) or _offset_of(lines[at]) > offset:
-        lines.insert(at, f"{offset} no command")
-    ends = [*map(_offset_of, lines[at + 1 : at + AFTER + 2]), len(text)]
-    first = max(0, at - BEFORE)
-    starts = [*map(_offset_of, lines[first : at + 1])]
-    for line, end in zip(lines[first : at + AFTER + 1], starts[1:] + ends):
-        mark = ">" if _offset_of(line) == offset else " "
-        yield f"{mark} {line:<24} {printable(text[_offset_of(line) : end])}".rstrip()
-
-
-def printable(piece: bytes) -> str:
-    """Bytes of a string in one line, with controls by their names."""
-    more = " .." if len(piece) > MOST_BYTES else ""
-    names = {0x1B: "ESC ", 0x0A: " LF ", 0x0D: " CR ", 0x09: " TAB "}
-    named = (names.get(byte) or (chr(byte) if 0x20 <= byte < 0x7F else f"\\x{byte:02X}") for byte in piece[:MOST_BYTES])
-    return "".join(named).strip() + more
+    for command in commands_around(text, listing_of(text), offset):
+        line = f"{command.offset} {command.words}"
+        yield f"{'>' if command.is_meant else ' '} {line:<24} {printable(command.piece, MOST_BYTES)}".rstrip()
 
 
 def put_pictures(text: bytes) -> Iterator[str]:

@@ -10,6 +10,7 @@ from unittest import mock
 import sixel_check
 from shared import PEN, PIXEL, RED, ROOT, UNCOVERED, WIDE
 from sixel_check import testing
+from sixel_check._commands import printable
 from sixel_check.testing import Pictures, assert_portable, assert_same_picture
 
 # Two columns in a box of one, 12 high.
@@ -175,5 +176,5 @@ class Collecting(WithFolder):
 
 class Pieces(unittest.TestCase):
     def test_printable(self):
-        self.assertEqual(testing.printable(b'\x1bPq"1;\n\r\t\x00\xff\x1b\\'), 'ESC Pq"1; LF  CR  TAB \\x00\\xFFESC \\')
-        self.assertEqual(testing.printable(b"~" * 41), "~" * 40 + " ..")
+        self.assertEqual(printable(b'\x1bPq"1;\n\r\t\x00\xff\x1b\\', 40), 'ESC Pq"1; LF  CR  TAB \\x00\\xFFESC \\')
+        self.assertEqual(printable(b"~" * 41, 40), "~" * 40 + " ..")
