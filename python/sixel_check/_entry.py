@@ -189,5 +189,5 @@ def _mended(name: str, mended: Union[Mended, Refused]) -> Markup:
 
 def mended_name(name: str) -> str:
     """A plain name for the file of a mended string."""
-    stem = re.sub(r"[^A-Za-z0-9._-]+", "_", os.path.splitext(os.path.basename(name))[0]).lstrip(".")
+    stem = re.sub(r"[^A-Za-z0-9._-]+", "_", os.path.splitext(os.path.basename(name))[0]).lstrip("._-")
     return f"{stem or 'picture'}-mended.six"

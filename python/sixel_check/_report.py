@@ -193,12 +193,12 @@ def named(name: str) -> "tuple[str, bytes | str]":
 
 def write(output: str, page: bytes) -> None:
     """Writes a file whole or not at all: an old one stays until the new one is there."""
-    target = os.path.realpath(output)
-    if os.path.exists(target) and not os.path.isfile(target):
+    if os.path.exists(output) and not os.path.isfile(output):
         # Such as a pipe, which nothing can take the place of.
-        with open(target, "wb") as stream:
+        with open(output, "wb") as stream:
             stream.write(page)
         return
+    target = os.path.realpath(output)
     new = os.path.join(os.path.dirname(target), f".{NAME}-{secrets.token_hex(6)}")
     try:
         with open(new, "xb") as file:

@@ -122,10 +122,12 @@ def rgb_of(png):
     rows, step = zlib.decompress(chunks[b"IDAT"]), (3 * width if colour == 2 else width) + 1
     assert set(rows[::step]) == {0}
     samples = b"".join(rows[start + 1 : start + step] for start in range(0, len(rows), step))
-    if colour == 3:
-        palette = chunks[b"PLTE"]
-        samples = b"".join(palette[3 * index : 3 * index + 3] for index in samples)
-    return width, height, samples
+    if colour == 2:
+        return width, height, samples
+    rgb = bytearray(3 * len(samples))
+    for plane in range(3):
+        rgb[plane::3] = samples.translate(chunks[b"PLTE"][plane::3].ljust(256, b"\0"))
+    return width, height, bytes(rgb)
 
 
 def data_of(uri, kind):

@@ -56,29 +56,26 @@ class Told(WithFolder):
             self.assertEqual(len(list(row.all("a"))), counts[name])
         counted = [row.number("data-strings") for row in rows]
         self.assertEqual(counted, sorted(counted, reverse=True))
-
-    def test_options(self):
-        self.try_files(["--on", "none", "--wide"], ["--wide"], EXAMPLES)
-        self.try_files(["--on", "foot,xterm"], ["--on=xterm,foot"], EXAMPLES)
-
-    def test_links(self):
-        """Each link leads to an element of the page, and each name is of one only."""
-        page = self.page(*EXAMPLES)
+        # Each link leads to an element of the page, and each name is of one only.
         names = [each.attributes["id"] for each in page.all() if "id" in each.attributes]
         self.assertEqual(len(names), len(set(names)))
         links = [each.attributes[key] for each in page.all() for key in ("href", "for") if key in each.attributes]
         for link in links:
             self.assertTrue(link == "#" or link.startswith("data:") or link.lstrip("#") in names, link[:60])
 
+    def test_options(self):
+        self.try_files(["--on", "none", "--wide"], ["--wide"], EXAMPLES[::2])
+        self.try_files(["--on", "foot,xterm"], ["--on=xterm,foot"], EXAMPLES[1::4])
+
     def test_words(self):
         entry = self.entry(RED)
-        wanted = "Every terminal of the class, and each of xterm, mlterm, foot and konsole, shows the same 1 by 6 pixels."
-        self.assertEqual(entry.one("p", "verdict").text, wanted)
+        wanted = "Every terminal of the class, and each of xterm, mlterm, foot and konsole, shows the same 1 by 6 pixels"
+        self.assertEqual(entry.one("p", "verdict").text, f"{wanted}.")
         self.assertEqual(entry.one("p", "line").text, f"portable 1 6, {len(RED)} bytes")
         self.assertEqual(list(entry.all("details")) + list(entry.all("a", "download")), [])
         entry = self.entry(UNCOVERED, "--on=none")
-        wanted = "A pixel of the box that no set bit covers, at the terminator. The rule is Uncovered, broken at offset 24, in "
-        self.assertEqual(entry.one("p", "verdict").text, f"{wanted}column 1, row 0.")
+        wanted = "A pixel of the box that no set bit covers, at the terminator. The rule is Uncovered, broken at offset 24"
+        self.assertEqual(entry.one("p", "verdict").text, f"{wanted}, in column 1, row 0.")
         self.assertEqual(entry.one("h2").text, f"{self.folder}/a.six")
         self.assertIn("Broken", entry.one("span", "chip").text)
         entry = self.entry(b"x")
