@@ -148,10 +148,14 @@ def _fault(
 ) -> Markup:
     message = element("span", fault.message, class_="message")
     summary = element("summary", element("code", name), " ", message, " ", element("span", times, class_="times"))
-    fix = element("p", element("strong", "Fix:"), f" {fault.fix}", class_="fix")
+    fix = [element("p", element("strong", "Fix:"), f" {fault.fix}", class_="fix")]
+    if inspected.hint:
+        # Commands are in backquotes.
+        pieces = _sentence(inspected.hint).split("`")
+        fix.append(element("p", *(element("code", it) if at % 2 else it for at, it in enumerate(pieces)), class_="fix"))
     commands = _commands(inspected.commands_at(fault.offset), fault.offset)
     is_first = fault in (inspected.outcome, *inspected.findings[:1])
-    return element("details", summary, fix, commands, class_="fault", open="" if is_first else None, **data)
+    return element("details", summary, *fix, commands, class_="fault", open="" if is_first else None, **data)
 
 
 def _commands(commands: Sequence[Command], offset: Optional[int]) -> Markup:

@@ -7,10 +7,10 @@ from typing import Mapping, Optional, Sequence, Tuple, Union
 
 from . import _calls
 from ._calls import TERMINALS
-from ._commands import Command, commands_around, listing_of
+from ._commands import Command, commands_around
 from ._outcomes import Broken, Difference, Finding, Group, InputRefused, Outcome, Portable, Refused
 from ._picture import Picture
-from ._program import ProgramMissing, SixelError
+from ._program import SECONDS, ProgramMissing, SixelError, run
 
 # The program refuses a string of more bytes, so no more are read.
 MOST = 1 << 28
@@ -62,6 +62,8 @@ class Inspected:
     #: How many bytes it has.
     size: int
     outcome: Union[Outcome, Unread]
+    #: Of a refused one what the program says besides, such as how to make sixel text of a PNG; or empty.
+    hint: str = ""
     #: The broken rules, that of the outcome first.
     findings: Tuple[Finding, ...] = ()
     #: The commands at and around each offset of the outcome and the findings.
@@ -105,11 +107,11 @@ def _inspect(name: str, text: bytes, options: Options) -> Inspected:
         return Inspected(name, len(text), outcome, shown=_shown(text, options))
     findings = tuple(sorted(survey.findings, key=lambda finding: (not _is_of(finding, outcome), finding.offset)))
     offsets = {outcome.offset, *(finding.offset for finding in findings)}
-    listing = listing_of(text)
-    commands = {offset: commands_around(text, listing, offset) for offset in offsets if offset is not None}
+    listing = run(["list"], text, SECONDS)
+    commands = {offset: commands_around(text, listing.output, offset) for offset in offsets if offset is not None}
     if isinstance(outcome, Refused):
-        return Inspected(name, len(text), outcome, (), commands)
-    return Inspected(name, len(text), outcome, findings, commands, _shown(text, options), _mended(text, options))
+        return Inspected(name, len(text), outcome, " ".join(listing.lines[1:]), (), commands)
+    return Inspected(name, len(text), outcome, "", findings, commands, _shown(text, options), _mended(text, options))
 
 
 def _is_of(finding: Finding, outcome: Outcome) -> bool:

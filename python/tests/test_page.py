@@ -1,12 +1,16 @@
 """The examples of docs/PYTHON.md, as they are written."""
 
 import doctest
+import glob
 import os
+import pathlib
 import re
+import tempfile
 import unittest
 
 import sixel_check
-from shared import ROOT
+from pages import run_report
+from shared import RED, ROOT, UNCOVERED
 from sixel_check import testing
 
 PAGE = (ROOT / "docs/PYTHON.md").read_text()
@@ -42,6 +46,21 @@ class Page(unittest.TestCase):
         # With the change that the page tells it passes.
         exec(program.replace("~", "~~"), names)
         names["test_plot"]()
+
+    def test_report(self):
+        """The report of three plots, of which one isn't portable."""
+        call, said = next(block for kind, block in BLOCKS if block.startswith("$ sixel-report")).splitlines()
+        _, _, files, *words = call.split()
+        here = os.getcwd()
+        with tempfile.TemporaryDirectory() as folder:
+            os.chdir(folder)
+            try:
+                os.mkdir("plots")
+                for name, text in (("a", RED), ("b", UNCOVERED), ("c", RED)):
+                    pathlib.Path(f"plots/{name}.six").write_bytes(text)
+                self.assertEqual(run_report(*sorted(glob.glob(files)), *words), (1, f"{said}\n"))
+            finally:
+                os.chdir(here)
 
     def test_code(self):
         """Each piece of code is Python."""

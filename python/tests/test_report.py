@@ -69,13 +69,13 @@ class Told(WithFolder):
 
     def test_words(self):
         entry = self.entry(RED)
-        wanted = "Every terminal of the class, and each of xterm, mlterm, foot and konsole, shows the same 1 by 6 pixels"
-        self.assertEqual(entry.one("p", "verdict").text, f"{wanted}.")
+        wanted = "Every terminal of the class, and each of xterm, mlterm, foot and konsole, shows the same"
+        self.assertEqual(entry.one("p", "verdict").text, f"{wanted} 1 by 6 pixels.")
         self.assertEqual(entry.one("p", "line").text, f"portable 1 6, {len(RED)} bytes")
         self.assertEqual(list(entry.all("details")) + list(entry.all("a", "download")), [])
         entry = self.entry(UNCOVERED, "--on=none")
-        wanted = "A pixel of the box that no set bit covers, at the terminator. The rule is Uncovered, broken at offset 24"
-        self.assertEqual(entry.one("p", "verdict").text, f"{wanted}, in column 1, row 0.")
+        wanted = "A pixel of the box that no set bit covers, at the terminator. The rule is Uncovered, broken at"
+        self.assertEqual(entry.one("p", "verdict").text, f"{wanted} offset 24, in column 1, row 0.")
         self.assertEqual(entry.one("h2").text, f"{self.folder}/a.six")
         self.assertIn("Broken", entry.one("span", "chip").text)
         entry = self.entry(b"x")

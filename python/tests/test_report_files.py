@@ -119,6 +119,10 @@ class Hostile(WithFolder):
         self.assert_harmless(page)
         reasons = [entry.one("details", "fault").attributes["data-reason"] for entry in page.all("article")]
         self.assertEqual(reasons, ["NotSixel"] * 3)
+        # The program says besides how to make sixel text of a PNG.
+        said = [each.text for each in next(page.all("article")).all("p", "fix")]
+        self.assertEqual(said[0], f"Fix: {sixel_check.explain('NotSixel').fix}")
+        self.assertRegex(said[1], r"^This is a PNG; pngtopnm [^`]* \| sixel encode makes sixel text of it\.$")
 
     def test_largest(self):
         row = b"".join(bytes([index % 7, index % 2 * 99, 0]) for index in range(2048))
