@@ -1,4 +1,4 @@
-"""The plugin of pytest, in a pytest of its own: with the first Python that has one."""
+"""The plugin of pytest, in a pytest of its own: with the Python of SIXEL_PYTEST, or the first one that has a pytest."""
 
 import functools
 import os
@@ -51,8 +51,8 @@ class TestClass:
 @functools.lru_cache(maxsize=None)
 def find_python():
     """A Python that has pytest, or nothing."""
-    for python in (sys.executable, "/usr/bin/python3"):
-        if os.path.exists(python):
+    for python in (os.environ.get("SIXEL_PYTEST"), sys.executable, "/usr/bin/python3"):
+        if python and os.path.exists(python):
             if subprocess.run([python, "-c", "import pytest"], capture_output=True).returncode == 0:
                 return python
     return None
@@ -72,7 +72,8 @@ class Plugin(unittest.TestCase):
         if "no:tmpdir" not in words:
             words = [f"--basetemp={self.folder}/temporary", *words]
         words = ["-p", "sixel_check.pytest_plugin", "-p", "no:cacheprovider", *words]
-        paths = {"PYTHONPATH": str(ROOT / "python"), "PYTEST_DISABLE_PLUGIN_AUTOLOAD": "1", "TMPDIR": str(self.folder)}
+        python = os.pathsep.join(filter(None, (str(ROOT / "python"), os.environ.get("PYTHONPATH"))))
+        paths = {"PYTHONPATH": python, "PYTEST_DISABLE_PLUGIN_AUTOLOAD": "1", "TMPDIR": str(self.folder)}
         paths = {**os.environ, **paths}
         how = {"cwd": self.folder, "env": paths, "capture_output": True, "text": True}
         got = subprocess.run([find_python(), "-m", "pytest", *words], **how)
