@@ -11,6 +11,8 @@ from ._explain import explain
 from ._inspect import Options
 from ._markup import Content, Markup, element, listed
 
+# How each report begins, and no other file.
+BEGINNING = "<!doctype html>\n<!-- sixel-report -->\n"
 # Nothing is loaded, and no script runs.
 POLICY = "default-src 'none'; img-src data:; style-src 'unsafe-inline'; base-uri 'none'; form-action 'none'"
 
@@ -28,7 +30,7 @@ def page_of(entries: Sequence[Entry], options: Options, version: str) -> str:
         *_filter(counts),
         element("main", *(entry.markup for entry in entries), id="strings", tabindex=-1),
     )
-    return f"<!doctype html>\n{element('html', _head(heading), body, lang='en')}\n"
+    return f"{BEGINNING}{element('html', _head(heading), body, lang='en')}\n"
 
 
 def heading_of(entries: Sequence[Entry]) -> str:

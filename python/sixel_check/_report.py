@@ -20,7 +20,7 @@ from ._calls import TERMINALS
 from ._entry import Entry, entry_of
 from ._inspect import MOST, Options, inspect
 from ._markup import readable
-from ._page import heading_of, page_of
+from ._page import BEGINNING, heading_of, page_of
 from ._program import SECONDS, SixelError, SixelWarning, run
 
 NAME = "sixel-report"
@@ -29,8 +29,6 @@ STATUSES = {"portable": 0, "broken": 1, "refused": 2, "unread": 2}
 FAILED, USAGE, INTERRUPTED = 2, 3, 130
 # Of prctl(2): the signal that a process gets when its parent ends.
 PR_SET_PDEATHSIG = 1
-# How a report begins. No other file is written over.
-BEGINNING = b"<!doctype html>"
 
 EPILOG = """\
 The exit status is 0 if all strings are portable, 1 if one breaks a rule, 2 if one is refused or can't be read or the
@@ -132,7 +130,7 @@ def fault_of(output: str, files: Sequence[str]) -> str:
     with contextlib.suppress(OSError):
         if os.path.isfile(target) and os.path.getsize(target):
             with open(target, "rb") as old:
-                if old.read(len(BEGINNING)) != BEGINNING:
+                if old.read(len(BEGINNING)) != BEGINNING.encode():
                     return f"{readable(output)} is no report; it isn't overwritten"
     return ""
 

@@ -156,7 +156,7 @@ class WithFolder(unittest.TestCase):
         if status is not None:
             self.assertEqual(got, status)
         text = self.output.read_text(encoding="utf-8")
-        self.assertTrue(text.startswith("<!doctype html>\n"))
+        self.assertTrue(text.startswith("<!doctype html>\n<!-- sixel-report -->\n<html lang=\"en\"><head>"))
         return Page(text).top
 
     def entry(self, text, *words):

@@ -4,10 +4,12 @@ import collections
 import os
 import subprocess
 import sys
+import unittest
 
 import sixel_check
 from pages import Page, WithFolder, data_of, rgb_of, told_by_page, told_by_program
 from shared import PEN, PIXEL, RED, ROOT, UNCOVERED
+from sixel_check._png import png_of, small_png_of
 
 EXAMPLES = sorted(map(str, (ROOT / "examples").glob("*/*.six")))
 # Two columns in a box of one, 12 high.
@@ -210,3 +212,16 @@ class Shown(WithFolder):
         entry = self.entry(UNCOVERED)
         said = entry.one("p", "mended").text
         self.assertRegex(said, "bytes, broken Rows 6: still not portable, a height that is no multiple of six")
+
+
+class Png(unittest.TestCase):
+    def test_small(self):
+        """With a palette if there are few colours; the picture is the same in any case."""
+        for count in (1, 2, 3, 15, 16, 17, 300):
+            colours = [bytes((at * 37 % 251, at * 11 % 256, at % 7)) for at in range(count)]
+            rgb = b"".join(colours[at * at % count] for at in range(35 * 24)) + b"".join(colours) + bytes(3 * 35 * 40)
+            rgb = rgb[: 3 * 35 * 60]
+            small = small_png_of(35, 60, rgb)
+            self.assertEqual(rgb_of(small), (35, 60, rgb))
+            self.assertEqual(b"PLTE" in small, count <= 16)
+            self.assertEqual(rgb_of(png_of(35, 60, rgb)), (35, 60, rgb))

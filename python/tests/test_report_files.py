@@ -192,7 +192,7 @@ class Written(WithFolder):
         self.assertEqual(Page(got.stdout).top.one("h1").text, "1 of 1 string is portable")
 
     def test_usage(self):
-        other = self.put(b"notes", "notes.txt")
+        other = self.put(b"<!doctype html>\n<html>", "other.html")
         for words, said in (
             ([], "the following arguments are required: FILE"),
             (["-o", self.output], "the following arguments are required: FILE"),
@@ -210,7 +210,7 @@ class Written(WithFolder):
             with self.subTest(words):
                 self.assertEqual(status, 3)
                 self.assertRegex(told, f"^sixel-report: {re.escape(said)}.*\nusage: sixel-report ")
-        self.assertEqual(self.files(), ["a.six", "notes.txt"])
+        self.assertEqual(self.files(), ["a.six", "other.html"])
         self.assertEqual(pathlib.Path(self.source).read_bytes(), RED)
 
     def test_statuses(self):

@@ -71,6 +71,12 @@ class Wheel(unittest.TestCase):
         self.assertEqual((got.stdout, got.stderr), (f"portable 1 1 {target}/sixel_check/__init__.py\n", ""))
         got = self.run_program(target / "bin/sixel", "--version")
         self.assertRegex(got.stdout, r"^sixel \d+\.\d+")
+        source, report = ROOT / "examples/wide/rainbow.six", self.folder / "report.html"
+        words = [target / "bin/sixel-report", source, "--wide", "-o", report]
+        got = self.run_program(*words, env={**plain, "PYTHONPATH": str(target)}, cwd="/")
+        said = f"sixel-report: wrote {report}: 1 of 1 string is portable\n"
+        self.assertEqual((got.returncode, got.stdout, got.stderr), (0, "", said))
+        self.assertIn("--page: #f6f7f9;", report.read_text())
 
     def test_other_machine(self):
         """pip says that the wheel isn't for this machine."""
