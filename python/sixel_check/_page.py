@@ -58,7 +58,7 @@ def _top(heading: str, counts: Dict[str, int], options: Options, version: str) -
     pieces = [element("span", class_=name, style=f"flex-grow: {count}") for name, count in counts.items() if count]
     flags = [*(["--wide"] if options.wide else []), *([f"--on {','.join(options.on)}"] if options.on else [])]
     how: List[Content] = ["Checked as by ", element("code", " ".join(["sixel survey", *flags])), f" {version}. "]
-    how.append(f"The screens are by models of {listed(TERMINALS)}. ")
+    how.append(f"Models of {listed(TERMINALS)} draw the screens. ")
     how.append("A portable string shows the same picture on every terminal of the class in docs/RULES.md.")
     return element(
         "header",

@@ -73,29 +73,25 @@ def main(words: Optional[Sequence[str]] = None) -> int:
     """Runs the command, by default with the words of the command line, and gives its exit status."""
     asking = parser()
     asked = asking.parse_args(words)
+    options = Options(names_of(asked.on), asked.wide, asked.background)
     try:
-        fault = fault_of(asked.output, asked.files)
-        options = Options(names_of(asked.on), asked.wide, asked.background)
-        # What is wrong with an option is told before any file is read.
-        _calls.check(b"", on=asked.on if asked.on != "none" else ())
-        _calls.differ(b"", background=options.background)
-    except ValueError as wrong:
-        fault = str(wrong)
-    except SixelError as failure:
-        return failed(str(failure))
-    if fault:
-        asking.error(fault)
-    try:
-        version = run(["--version"], b"", SECONDS).output.decode().split()[-1]
+        fault = fault_of(asked.output, asked.files) or fault_of_options(asked.on, asked.background)
+        if fault:
+            asking.error(fault)
         with progress(len(asked.files), not asked.quiet) as tell:
             entries = entries_of(asked.files, options, tell)
-        write(asked.output, page_of(entries, options, version).encode())
-    except OSError as failure:
-        return failed(f"{readable(asked.output)}: write failed: {failure.strerror}")
-    except SixelError as failure:
-        return failed(str(failure))
+        version = run(["--version"], b"", SECONDS).output.decode().split()[-1]
+        page = page_of(entries, options, version).encode()
     except concurrent.futures.process.BrokenProcessPool:
         return failed("a process of the report was killed; memory may have run out")
+    except (SixelError, OSError, MemoryError) as failure:
+        return failed(str(failure) or "out of memory")
+    except KeyboardInterrupt:
+        return INTERRUPTED
+    try:
+        write(asked.output, page)
+    except OSError as failure:
+        return failed(f"{readable(asked.output)}: write failed: {failure.strerror}")
     except KeyboardInterrupt:
         return INTERRUPTED
     if not asked.quiet:
@@ -132,6 +128,16 @@ def fault_of(output: str, files: Sequence[str]) -> str:
             with open(target, "rb") as old:
                 if old.read(len(BEGINNING)) != BEGINNING.encode():
                     return f"{readable(output)} is no report; it isn't overwritten"
+    return ""
+
+
+def fault_of_options(on: str, background: str) -> str:
+    """What the program says is wrong with two options, or nothing."""
+    try:
+        _calls.check(b"", on="" if on == "none" else on)
+        _calls.differ(b"", background=background)
+    except ValueError as fault:
+        return str(fault)
     return ""
 
 
