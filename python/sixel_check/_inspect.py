@@ -62,12 +62,12 @@ class Inspected:
     #: How many bytes it has.
     size: int
     outcome: Union[Outcome, Unread]
-    #: Of a refused one what the program says besides, such as how to make sixel text of a PNG; or empty.
-    hint: str = ""
     #: The broken rules, that of the outcome first.
     findings: Tuple[Finding, ...] = ()
     #: The commands at and around each offset of the outcome and the findings.
     commands: Mapping[int, Sequence[Command]] = field(default_factory=dict)
+    #: For a refused one what the program says besides, such as how to make sixel text of a PNG; or empty.
+    hint: str = ""
     #: None if the string is refused. It may be refused only here, such as one that paints nothing.
     shown: Union[Shown, Refused, None] = None
     #: For a broken one. It may be refused.
@@ -110,8 +110,9 @@ def _inspect(name: str, text: bytes, options: Options) -> Inspected:
     listing = run(["list"], text, SECONDS)
     commands = {offset: commands_around(text, listing.output, offset) for offset in offsets if offset is not None}
     if isinstance(outcome, Refused):
-        return Inspected(name, len(text), outcome, " ".join(listing.lines[1:]), (), commands)
-    return Inspected(name, len(text), outcome, "", findings, commands, _shown(text, options), _mended(text, options))
+        return Inspected(name, len(text), outcome, commands=commands, hint=" ".join(listing.lines[1:]))
+    shown, mended = _shown(text, options), _mended(text, options)
+    return Inspected(name, len(text), outcome, findings, commands, shown=shown, mended=mended)
 
 
 def _is_of(finding: Finding, outcome: Outcome) -> bool:

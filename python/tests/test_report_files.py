@@ -10,7 +10,6 @@ import stat
 import subprocess
 import sys
 import time
-import unittest
 
 import sixel_check
 from pages import Page, WithFolder, data_of, rgb_of, run_report
