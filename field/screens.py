@@ -156,9 +156,12 @@ def xterm(screen, program, background, options):
 
 
 def mlterm(screen, program, background, options):
-    # A cell of this font has 10 by 22 pixels.
-    cells = f"{screen.width // 10}x{screen.height // 22}+0+0"
-    return ["mlterm", "--type=xcore", "--fontsize=16", f"--geometry={cells}", "--sbmod=none", "--borderless=true",
+    # A cell of this font has 10 by 20 pixels, and there are 2 around all cells. Without the file the font depends on what
+    # is installed.
+    (screen.folder / ".mlterm").mkdir(exist_ok=True)
+    (screen.folder / ".mlterm/font").write_text("DEFAULT = 10x20\nISO8859_1 = 10x20\nISO10646_UCS4_1 = 10x20\n")
+    cells = f"{(screen.width - 4) // 10}x{(screen.height - 4) // 20}+0+0"
+    return ["mlterm", "--type=xcore", "--aa=false", f"--geometry={cells}", "--sbmod=none", "--borderless=true",
             "--fg=white", f"--bg=#{background}", *options, "-e", *program]
 
 
