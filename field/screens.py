@@ -96,25 +96,31 @@ class Screen:
         if not wait_for(lambda: accepts(self.folder / "run" / "field"), PATIENCE):
             raise TimeoutError("weston didn't start")
 
-    def picture(self, top=0):
-        """The screen as a PIL image, from a row down. The server keeps it in a file, after a head of the format of
-        xwd."""
-        from PIL import Image
+    def pixels(self, top=0):
+        """The screen's bytes from a row down, and how many a row has. The server keeps them in a file, after a head of the
+        format of xwd."""
         with open(self.folder / "Xvfb_screen0", "rb") as kept:
             head = struct.unpack(">25I", kept.read(100))
             kept.seek(head[0] + 12 * head[19] + top * head[12])
-            pixels = kept.read((self.height - top) * head[12])
-        return Image.frombytes("RGB", (self.width, self.height - top), pixels, "raw", "BGRX", head[12])
+            return kept.read((self.height - top) * head[12]), head[12]
+
+    def picture(self, top=0):
+        """The screen as a PIL image, from a row down."""
+        return self.image(*self.pixels(top))
+
+    def image(self, pixels, row):
+        from PIL import Image
+        return Image.frombytes("RGB", (self.width, len(pixels) // row), pixels, "raw", "BGRX", row)
 
     def at_rest(self):
-        """The screen, once two pictures of it are the same."""
-        last = self.picture()
+        """The screen, once it is the same twice."""
+        last = self.pixels()
         until = time.monotonic() + PATIENCE
         while time.monotonic() < until:
             time.sleep(0.1)
-            last, before = self.picture(), last
+            last, before = self.pixels(), last
             if last == before:
-                return last
+                return self.image(*last)
         raise TimeoutError("the screen doesn't come to rest")
 
     def has(self, colour, picture=None):
