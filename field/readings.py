@@ -220,12 +220,12 @@ def xterm_sixel(x, band, count, bits):
     return min(room, count), bits, count <= room
 
 
-def painted(events):
-    """How many rows there are down to the lowest pixel that is painted."""
+def painted(events, blank=0):
+    """How many rows there are down to the lowest pixel that is painted. A sixel without a set bit has so many."""
     rows = y = 0
     for kind, *numbers in events:
-        if kind == "sixel" and numbers[0] and numbers[1]:
-            rows = max(rows, y + numbers[1].bit_length())
+        if kind == "sixel" and numbers[0] and (numbers[1] or blank):
+            rows = max(rows, y + max(numbers[1].bit_length(), blank))
         y += 6 * (kind == "newline")
     return rows
 
@@ -307,7 +307,8 @@ def mixes(start):
 def mlterm(data):
     """A definition selects. The box is never filled. Register 0 starts as the text's colour, others as the background;
     but those from 448 on have colours of chance. Colour system 3 gives samples, and 9 percentages. If it mixes, a pixel
-    is kept as the number of its register."""
+    is kept as the number of its register, and blanks are in register 0: so is all from the origin to the last column and
+    the last row of any sixel, of which a blank has one."""
     try:
         events = written.read(data, swallows=True)
     except ValueError:
@@ -342,7 +343,7 @@ def mlterm(data):
             buffer.x = 0
             given.append((kind,))
     setting = Setting(lambda register: BACKGROUND if register else TEXT, at_end=mixed, mixes=mixed, rows=rows)
-    return setting, given
+    return setting, [("box", extent(given)[0], painted(given, 1))] * mixed + given
 
 
 def mlterm_colour(system, *numbers):
