@@ -154,7 +154,7 @@ XTERM_START = """000000 3333cc cc2121 33cc33 cc33cc 33cccc cccc33 878787 424242 
 
 def xterm(data):
     """A definition doesn't select. What it takes for a mistake ends the string: what was drawn before stays, and the rest
-    isn't drawn. A mistake is a number out of range, an unknown colour system, a select or a repeat without a number, raster
+    isn't drawn. A mistake is a colour out of range, an unknown colour system, a select or a repeat without a number, raster
     attributes of one number or none, with a ratio or a side of 0, or a side above 1,000; and a sixel with a set bit that
     has no room. A hue is taken down to a multiple of 60."""
     events = written.read(data)
@@ -162,13 +162,13 @@ def xterm(data):
     setting = Setting(palette(XTERM_START), at_end=True, selected=3)
     if events[0].numbers[0] > 9:
         return setting, []
-    given, box, begun, x, band = [], (0, 0), False, 0, 0
+    given, box, ratio, place, begun, x, band = [], (0, 0), (1, 1), 0, False, 0, 0
     for event in events:
         kind, numbers = event.kind, event.numbers
         if kind == "raster":
-            ratio, sides = numbers[:2], numbers[2:]
-            if counted(event) < 2 or 0 in ratio or max(ratio) > XTERM_NUMBER:
+            if counted(event) < 2 or 0 in numbers[:2]:
                 break
+            ratio, sides, place = numbers[:2], numbers[2:], event.place
             if counted(event) == 4:
                 if 0 in sides or max(sides) > XTERM_LARGEST:
                     break
@@ -203,8 +203,13 @@ def xterm(data):
         elif kind in MOVING:
             x, band = 0, band + (kind == "newline")
             given.append((kind,))
+    # The last ratio is that of the whole picture. Numbers above the greatest are negative.
+    negative = [number > XTERM_NUMBER for number in ratio]
+    if all(negative):
+        raise Unsaid(place, "a ratio of two numbers above 32,767")
     setting.rows = box[1]
-    return setting, given + xterm_after(events[-1].after, max(painted(given), box[1]))
+    after = xterm_after(events[-1].after, max(painted(given), box[1]))
+    return setting, [] if any(negative) else given + after
 
 
 def xterm_sixel(x, band, count, bits):
@@ -220,12 +225,12 @@ def xterm_sixel(x, band, count, bits):
     return min(room, count), bits, count <= room
 
 
-def painted(events, blank=0):
-    """How many rows there are down to the lowest pixel that is painted. A sixel without a set bit has so many."""
+def painted(events):
+    """How many rows there are down to the lowest pixel that is painted."""
     rows = y = 0
     for kind, *numbers in events:
-        if kind == "sixel" and numbers[0] and (numbers[1] or blank):
-            rows = max(rows, y + max(numbers[1].bit_length(), blank))
+        if kind == "sixel" and all(numbers):
+            rows = max(rows, y + numbers[1].bit_length())
         y += 6 * (kind == "newline")
     return rows
 
@@ -308,13 +313,13 @@ def mlterm(data):
     """A definition selects. The box is never filled. Register 0 starts as the text's colour, others as the background;
     but those from 448 on have colours of chance. Colour system 3 gives samples, and 9 percentages. If it mixes, a pixel
     is kept as the number of its register, and blanks are in register 0: so is all from the origin to the last column and
-    the last row of any sixel, of which a blank has one."""
+    the last row that is painted. Of a blank, and of a sixel in register 0, one row is."""
     try:
         events = written.read(data, swallows=True)
     except ValueError:
         raise Unsaid(len(data), "it swallows the terminator") from None
     mixed = mixes(events[0])
-    given, defined, register, rows, buffer = [], set(), 0, 0, Buffer()
+    given, defined, register, rows, low, buffer = [], set(), 0, 0, 0, Buffer()
     for event in events:
         kind, numbers = event.kind, event.numbers
         if kind == "raster":
@@ -336,14 +341,16 @@ def mlterm(data):
                 raise Unsaid(event.place, "a sixel that is past its memory, or past column or row 32,767")
             if event.bits and register > 255 and register not in defined:
                 raise Unsaid(event.place, "paint in a register above 255 that isn't defined")
-            given.append((kind, count, event.bits))
+            bits = 0 if mixed and not register else event.bits
+            low = max(low, buffer.y + max(1, bits.bit_length()))
+            given.append((kind, count, bits))
         elif kind in MOVING:
             if kind == "newline":
                 buffer.newline()
             buffer.x = 0
             given.append((kind,))
     setting = Setting(lambda register: BACKGROUND if register else TEXT, at_end=mixed, mixes=mixed, rows=rows)
-    return setting, [("box", extent(given)[0], painted(given, 1))] * mixed + given
+    return setting, [("box", extent(given)[0], low)] * mixed + given
 
 
 def mlterm_colour(system, *numbers):
