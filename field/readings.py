@@ -154,75 +154,95 @@ XTERM_START = """000000 3333cc cc2121 33cc33 cc33cc 33cccc cccc33 878787 424242 
 
 def xterm(data):
     """A definition doesn't select. What it takes for a mistake ends the string: what was drawn before stays, and the rest
-    isn't drawn. A mistake is a colour out of range, an unknown colour system, a select or a repeat without a number, raster
-    attributes of one number or none, with a ratio or a side of 0, or a side above 1,000; and a sixel with a set bit that
-    has no room. A hue is taken down to a multiple of 60."""
+    isn't drawn. A number above 9 in the introducer is such a mistake, too."""
     events = written.read(data)
     refuse_eight(events)
-    setting = Setting(palette(XTERM_START), at_end=True, selected=3)
-    if events[0].numbers[0] > 9:
-        return setting, []
-    given, box, ratio, place, begun, x, band = [], (0, 0), (1, 1), 0, False, 0, 0
-    for event in events:
-        kind, numbers = event.kind, event.numbers
-        if kind == "raster":
-            if counted(event) < 2 or 0 in numbers[:2]:
+    reading = Xterm(fills=second(events) != 1)
+    if events[0].numbers[0] <= 9:
+        for event in events[1:-1]:
+            if not reading.take(event):
                 break
-            ratio, sides, place = numbers[:2], numbers[2:], event.place
-            if counted(event) == 4:
-                if 0 in sides or max(sides) > XTERM_LARGEST:
-                    break
-                box = max(box[0], sides[0]), max(box[1], sides[1])
-        elif kind == "define":
-            if max(numbers[1] == HUE and max(numbers[2:]), numbers[0]) > XTERM_NUMBER:
-                raise Unsaid(event.place, "a number above 32,767")
-            if nearest(numbers) != numbers:
-                break
-            register, system, first, *rest = numbers
-            given.append((kind, register % 1024, system, first // 60 * 60 if system == HUE else first, *rest))
-        elif kind == "select":
-            if not event.words[0]:
-                break
-            if numbers[0] > XTERM_NUMBER:
-                raise Unsaid(event.place, "a number above 32,767")
-            given.append((kind, numbers[0] % 1024))
-        elif kind == "sixel":
-            if event.words == (b"",):
-                break
-            # The first sixel fills the box: the largest width and the largest height before it.
-            given += [("box", *box)] * (second(events) != 1 and not begun)
-            begun = True
-            columns, bits, stays = xterm_sixel(x, band, event.count, event.bits)
-            given.append((kind, columns, bits))
-            x += columns
-            if not stays:
-                if not event.words:
-                    break
-                x = 0
-                given.append(("return",))
-        elif kind in MOVING:
-            x, band = 0, band + (kind == "newline")
-            given.append((kind,))
     # The last ratio is that of the whole picture. Numbers above the greatest are negative.
-    negative = [number > XTERM_NUMBER for number in ratio]
+    negative = [number > XTERM_NUMBER for number in reading.ratio]
     if all(negative):
-        raise Unsaid(place, "a ratio of two numbers above 32,767")
-    setting.rows = box[1]
-    after = xterm_after(events[-1].after, max(painted(given), box[1]))
-    return setting, [] if any(negative) else given + after
+        raise Unsaid(reading.place, "a ratio of two numbers above 32,767")
+    rows = max(painted(reading.given), reading.box[1])
+    given = [] if any(negative) else reading.given + xterm_after(events[-1].after, rows)
+    return Setting(palette(XTERM_START), at_end=True, selected=3, rows=rows), given
 
 
-def xterm_sixel(x, band, count, bits):
-    """How many columns of a sixel it takes, with which bits, and whether that is all. Blanks always have room. Else a column
-    above 999 has none, and one in a band that reaches past row 1,000 is painted and has none."""
-    if not bits:
-        return count, 0, True
-    top = 6 * band
-    bits &= (1 << max(0, min(6, XTERM_LARGEST - top))) - 1
-    room = max(0, XTERM_LARGEST - x)
-    if top + 6 > XTERM_LARGEST:
-        return min(room, count, 1), bits, count == 0
-    return min(room, count), bits, count <= room
+class Xterm:
+    """What it has read so far. `take` and what it calls say whether the string goes on."""
+
+    def __init__(self, fills):
+        self.given, self.fills = [], fills
+        self.box, self.ratio, self.place = (0, 0), (1, 1), 0
+        self.x = self.band = 0
+
+    def take(self, event):
+        if event.kind in MOVING:
+            self.x, self.band = 0, self.band + (event.kind == "newline")
+            self.given.append((event.kind,))
+            return True
+        return {"raster": self.raster, "define": self.define, "select": self.select, "sixel": self.sixel}[event.kind](event)
+
+    def raster(self, event):
+        """Fewer than four numbers only set the ratio; fewer than two, a 0 and a large side end the string."""
+        numbers, count = event.numbers, counted(event)
+        if count < 2 or 0 in numbers[:2]:
+            return False
+        self.ratio, self.place = numbers[:2], event.place
+        if count < 4:
+            return True
+        width, height = numbers[2:]
+        if not 0 < width <= XTERM_LARGEST or not 0 < height <= XTERM_LARGEST:
+            return False
+        self.box = max(self.box[0], width), max(self.box[1], height)
+        return True
+
+    def define(self, event):
+        """A colour out of range or an unknown system ends the string. A hue is taken down to a multiple of 60."""
+        register, system, first, *rest = event.numbers
+        if register > XTERM_NUMBER or system == HUE and max(first, *rest) > XTERM_NUMBER:
+            raise Unsaid(event.place, "a number above 32,767")
+        if nearest(event.numbers) != event.numbers:
+            return False
+        self.given.append(("define", register % 1024, system, first // 60 * 60 if system == HUE else first, *rest))
+        return True
+
+    def select(self, event):
+        register, = event.numbers
+        if register > XTERM_NUMBER:
+            raise Unsaid(event.place, "a number above 32,767")
+        self.given.append(("select", register % 1024))
+        return event.words[0] != b""
+
+    def sixel(self, event):
+        """The first one fills the box, of the largest width and the largest height before it. What has no room ends the
+        string, or goes to column 0 if it is a repeat."""
+        if event.words == (b"",):
+            return False
+        self.given += [("box", *self.box)] * self.fills
+        self.fills = False
+        columns, bits, fits = self.room(event.count, event.bits)
+        self.given.append(("sixel", columns, bits))
+        self.x += columns
+        if not fits and event.words:
+            self.x = 0
+            self.given.append(("return",))
+        return fits or bool(event.words)
+
+    def room(self, count, bits):
+        """How many columns of a sixel it takes, with which bits, and whether that is all. Blanks always have room. Else a
+        column above 999 has none, and one in a band that reaches past row 999 has none once it is painted."""
+        if not bits:
+            return count, 0, True
+        top = 6 * self.band
+        bits &= (1 << max(0, min(6, XTERM_LARGEST - top))) - 1
+        columns = min(count, max(0, XTERM_LARGEST - self.x))
+        if top + 6 > XTERM_LARGEST:
+            return min(columns, 1), bits, count == 0
+        return columns, bits, columns == count
 
 
 def painted(events):
