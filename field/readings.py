@@ -1,9 +1,9 @@
 """What four real terminals show of a sixel string: a model of each, as a reading and a setting. `field/models` compares
 them with the terminals.
 
-A reading turns a string into the events for a plain terminal, or says at which offset it ends (Unsaid): what the terminal
-shows from there on isn't in the model. A setting says what the plain terminal is. That one knows four things only: a box
-that it fills with register 0, registers with colours, sixels of six bits, and a place.
+A reading turns a string into the events for a plain terminal, or says at which offset it ends (Unsaid): what the
+terminal shows from there on isn't in the model. A setting says what the plain terminal is. That one knows four things
+only: a box that it fills with register 0, registers with colours, sixels of six bits, and a place.
 
 The events of the string are those of written.py. An event for the plain terminal is a tuple: ("box", width, height),
 ("define", register, system, x, y, z), ("select", register), ("sixel", count, bits), ("return",), ("newline",), and
@@ -89,8 +89,8 @@ def shown(setting, events, width, height):
 
 
 def stretched(ratio, screen, blank, height):
-    """The rows of a picture on a screen that shows `height` rows. A row of the screen shows the picture's row at its middle,
-    and between two rows the upper one."""
+    """The rows of a picture on a screen that shows `height` rows. A row of the screen shows the picture's row at its
+    middle, and between two rows the upper one."""
     many, few = ratio
     rows = len(screen)
     high = rows * many // few
@@ -153,8 +153,8 @@ XTERM_START = """000000 3333cc cc2121 33cc33 cc33cc 33cccc cccc33 878787 424242 
 
 
 def xterm(data):
-    """A definition doesn't select. What it takes for a mistake ends the string: what was drawn before stays, and the rest
-    isn't drawn. A number above 9 in the introducer is such a mistake, too."""
+    """A definition doesn't select. What it takes for a mistake ends the string: what was drawn before stays, and the
+    rest isn't drawn. A first number above 9 in the introducer is such a mistake, too."""
     events = written.read(data)
     refuse_eight(events)
     reading = Xterm(fills=second(events) != 1)
@@ -184,7 +184,8 @@ class Xterm:
             self.x, self.band = 0, self.band + (event.kind == "newline")
             self.given.append((event.kind,))
             return True
-        return {"raster": self.raster, "define": self.define, "select": self.select, "sixel": self.sixel}[event.kind](event)
+        works = {"raster": self.raster, "define": self.define, "select": self.select, "sixel": self.sixel}
+        return works[event.kind](event)
 
     def raster(self, event):
         """Fewer than four numbers only set the ratio; fewer than two, a 0 and a large side end the string."""
@@ -233,8 +234,8 @@ class Xterm:
         return fits or bool(event.words)
 
     def room(self, count, bits):
-        """How many columns of a sixel it takes, with which bits, and whether that is all. Blanks always have room. Else a
-        column above 999 has none, and one in a band that reaches past row 999 has none once it is painted."""
+        """How many columns of a sixel it takes, with which bits, and whether that is all. Blanks always have room. Else
+        a column above 999 has none, and one in a band that reaches past row 999 has none once it is painted."""
         if not bits:
             return count, 0, True
         top = 6 * self.band
@@ -256,8 +257,8 @@ def painted(events):
 
 
 def xterm_after(after, rows):
-    """What follows the end. A blank clears a cell: the cursor is at the left, in the last line of text that the picture's
-    rows reach."""
+    """What follows the end. A blank clears a cell: the cursor is at the left, in the last line of text that the
+    picture's rows reach."""
     given, (wide, high) = [], XTERM_CELL
     column, line = 0, max(0, rows - 1) // high
     for byte in after:
@@ -283,8 +284,8 @@ MOST, RIGHT, DOWN = 32767, 512, 516
 
 
 class Buffer:
-    """The pixels of mlterm's picture: so wide and so high, in a block of memory that has room for so many. `reach` is the
-    greatest column at which a data command ended."""
+    """The pixels of mlterm's picture: so wide and so high, in a block of memory that has room for so many. `reach` is
+    the greatest column at which a data command ended."""
 
     def __init__(self):
         self.width = self.height = self.room = self.reach = self.x = self.y = 0
@@ -331,9 +332,10 @@ def mixes(start):
 
 def mlterm(data):
     """A definition selects. The box is never filled. Register 0 starts as the text's colour, others as the background;
-    but those from 448 on have colours of chance. Colour system 3 gives samples, and 9 percentages. If it mixes, a pixel
-    is kept as the number of its register, and blanks are in register 0: so is all from the origin to the last column and
-    the last row that is painted. Of a blank, and of a sixel in register 0, one row is."""
+    but those from 448 on have colours of chance. Colour system 3 gives samples, and 9 percentages.
+
+    If it mixes, a pixel is kept as the number of its register, and blanks are in register 0: so is all from the origin
+    to the last column and the last row that is painted. Of a blank, and of a sixel in register 0, one row is."""
     try:
         events = written.read(data, swallows=True)
     except ValueError:
@@ -486,8 +488,8 @@ class Konsole:
             self.given.append((event.kind,))
 
     def rest(self, event):
-        """Raster attributes with two or four numbers count now. To others the command gives its numbers, and is lost: of
-        a repeat the count is one command, and the sixel the next."""
+        """Raster attributes with two or four numbers count now. To others the command gives its numbers, and is lost:
+        of a repeat the count is one command, and the sixel the next."""
         if len(self.waiting) in (2, 4):
             self.raster(*[min(int(word or b"0"), KONSOLE_NUMBER) for word in self.waiting])
             self.waiting = None

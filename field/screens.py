@@ -97,8 +97,8 @@ class Screen:
             raise TimeoutError("weston didn't start")
 
     def pixels(self, top=0):
-        """The screen's bytes from a row down, and how many a row has. The server keeps them in a file, after a head of the
-        format of xwd."""
+        """The screen's bytes from a row down, and how many a row has. The server keeps them in a file, after a head of
+        the format of xwd."""
         with open(self.folder / "Xvfb_screen0", "rb") as kept:
             head = struct.unpack(">25I", kept.read(100))
             kept.seek(head[0] + 12 * head[19] + top * head[12])
@@ -162,8 +162,8 @@ def xterm(screen, program, background, options):
 
 
 def mlterm(screen, program, background, options):
-    # A cell of this font has 10 by 20 pixels, and there are 2 around all cells. Without the file the font depends on what
-    # is installed.
+    # A cell of this font has 10 by 20 pixels, and there are 2 around all cells. Without the file the font depends on
+    # what is installed.
     (screen.folder / ".mlterm").mkdir(exist_ok=True)
     (screen.folder / ".mlterm/font").write_text("DEFAULT = 10x20\nISO8859_1 = 10x20\nISO10646_UCS4_1 = 10x20\n")
     cells = f"{(screen.width - 4) // 10}x{(screen.height - 4) // 20}+0+0"

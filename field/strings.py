@@ -39,7 +39,7 @@ def string(chance, number):
 
 
 def introducer(writer, plain):
-    """The numbers of the introducer. Those of a plain one do no harm: the first is at most 9, and mlterm doesn't mix."""
+    """The numbers of the introducer. A plain one does no harm: its first is at most 9, and mlterm doesn't mix."""
     numbers = [writer.chance.randrange(10) for _ in range(writer.chance.choice([0, 0, 0, 1, 2, 2, 3]))]
     if numbers and not plain and writer.one_in(4):
         numbers[writer.chance.randrange(len(numbers))] = writer.chance.choice([*range(10, 100, 5), *LARGE_NUMBERS])
@@ -83,7 +83,8 @@ class Writer:
     def raster(self, width=None, height=None):
         """Raster attributes, of this size or any."""
         ratio = self.chance.choice(RATIOS) if self.odd_ratios else (1, 1)
-        self.add(b'"' + self.spelled([*ratio, width or self.chance.choice(WIDTHS), height or self.chance.choice(HEIGHTS)]))
+        sides = width or self.chance.choice(WIDTHS), height or self.chance.choice(HEIGHTS)
+        self.add(b'"' + self.spelled([*ratio, *sides]))
 
     def define(self, register=None):
         if register is None:
@@ -153,7 +154,8 @@ def tidy(writer):
 
 
 def any_order(writer, most=25):
-    works = [(writer.sixel, 9), (writer.select, 5), (writer.define, 5), (writer.raster, writer.chance.choice([1, 2, 8])),
+    rasters = writer.chance.choice([1, 2, 8])
+    works = [(writer.sixel, 9), (writer.select, 5), (writer.define, 5), (writer.raster, rasters),
              (lambda: writer.move(b"$"), 3), (lambda: writer.move(b"-"), 3)]
     for work in writer.chance.choices(*zip(*works), k=writer.chance.randint(min(most, 2), most)):
         work()
@@ -163,7 +165,8 @@ def few_numbers(writer):
     """Raster attributes with fewer than four numbers, or with sides of 0, among other commands."""
     any_order(writer, 8)
     for _ in range(writer.chance.randint(1, 3)):
-        numbers = [*writer.chance.choice(RATIOS), writer.chance.choice([0, *WIDTHS]), writer.chance.choice([0, *HEIGHTS])]
+        sides = writer.chance.choice([0, *WIDTHS]), writer.chance.choice([0, *HEIGHTS])
+        numbers = [*writer.chance.choice(RATIOS), *sides]
         piece = b'"' + writer.spelled(numbers[:writer.chance.randint(0, 4)])
         place = writer.chance.choice([1, writer.chance.randint(1, len(writer.pieces))])
         writer.pieces.insert(place, piece)

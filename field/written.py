@@ -1,7 +1,7 @@
 """Reads a sixel string as it is written. It knows nothing of the program, and `field/models` compares the two.
 
-A terminal tells more apart than what a command means: an empty number from a 0, and `05` from `5`. So an event keeps the
-digits.
+A terminal tells more apart than what a command means: an empty number from a 0, and `05` from `5`. So an event keeps
+the digits.
 """
 import re
 from dataclasses import dataclass
@@ -38,8 +38,8 @@ class Event:
 
 
 def read(data, swallows=False):
-    """The events of a string; if `swallows`, as mlterm sees it, which takes a command without a number and the byte after
-    it for nothing. ValueError if it is no string, or if nothing ends it."""
+    """The events of a string; if `swallows`, as mlterm sees it, which takes a command without a number and the byte
+    after it for nothing. ValueError if it is no string, or if nothing ends it."""
     start = START.match(data)
     if not start:
         raise ValueError("no introducer")
