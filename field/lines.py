@@ -58,6 +58,7 @@ LINES = [
     Line("mlterm", "swallows the byte behind a select without a number", '0;1q"1;1;2;6#0;2;100;0;0#1;2;0;0;100#~~'),
     Line("mlterm", "swallows the byte behind a repeat without a number", f"0;1q{RED}{GREEN}#1!~#2~~"),
     Line("mlterm", "swallows the byte behind raster attributes without a number", f'0;1q{RED}{GREEN}#1~"#2~~'),
+    Line("mlterm", "swallows the first byte of the terminator, and paints the second", '0;1q"1;1;6;12#0!6~-!6~#'),
     Line("mlterm", "takes a repeat of 0 as one", f"0;1q{RED}{GREEN}#1!0~#2~~"),
     Line("mlterm", "takes colour system 9 as percentages", '0;1q"1;1;12;6#5;9;24;0;20#5!6~'),
     Line("mlterm", "takes colour system 3 as samples", '0;1q"1;1;12;6#5;3;24;0;20#5!6~'),

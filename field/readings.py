@@ -281,6 +281,8 @@ def palette(words):
 
 # mlterm 3.9.0. The machine code of its decoder says how its buffer grows, and when it copies past it.
 MOST, RIGHT, DOWN = 32767, 512, 516
+# This comes after each string.
+MLTERM_END = b"\x1b\\"
 
 
 class Buffer:
@@ -339,7 +341,8 @@ def mlterm(data):
     try:
         events = written.read(data, swallows=True)
     except ValueError:
-        raise Unsaid(len(data), "it swallows the terminator") from None
+        # It has swallowed the terminator. What ends the string is another one.
+        events = written.read(data + MLTERM_END, swallows=True)
     mixed = mixes(events[0])
     given, defined, register, rows, low, buffer = [], set(), 0, 0, 0, Buffer()
     for event in events:

@@ -68,7 +68,8 @@ class Screen:
         ready, told = os.pipe()
         self.server = subprocess.Popen(
             ["Xvfb", "-displayfd", str(told), "-screen", "0", f"{width}x{height}x24", "-fbdir", self.folder,
-             "-nolisten", "tcp", "-noreset", "-nocursor"], pass_fds=[told], stdout=self.log, stderr=self.log)
+             "-nolisten", "tcp", "-noreset", "-nocursor"], pass_fds=[told], stdout=self.log, stderr=self.log,
+            start_new_session=True)
         os.close(told)
         with os.fdopen(ready) as line:
             self.display = ":" + line.readline().strip()
@@ -81,8 +82,9 @@ class Screen:
         self.compositor = None
 
     def start(self, words, **more):
+        """Starts a program in a session of its own: a stop of this one by its terminal doesn't end it."""
         return subprocess.Popen(words, env={**self.environment, **more}, cwd=self.folder, stdin=subprocess.DEVNULL,
-                                stdout=self.log, stderr=self.log)
+                                stdout=self.log, stderr=self.log, start_new_session=True)
 
     def needs_wayland(self):
         """Starts weston, which shows one full window inside the X server. With input devices it draws a pointer of its
