@@ -204,7 +204,7 @@ class Xterm:
     def define(self, event):
         """A colour out of range or an unknown system ends the string. A hue is taken down to a multiple of 60."""
         register, system, first, *rest = event.numbers
-        if register > XTERM_NUMBER or system == HUE and max(first, *rest) > XTERM_NUMBER:
+        if system in (HUE, RGB) and max(register, first, *rest) > XTERM_NUMBER:
             raise Unsaid(event.place, "a number above 32,767")
         if nearest(event.numbers) != event.numbers:
             return False
