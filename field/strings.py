@@ -58,7 +58,6 @@ class Writer:
         self.odd_colours = self.one_in(8)
         self.odd_repeats = self.one_in(20)
         self.odd_ratios = self.one_in(4)
-        self.odd_sides = self.one_in(8)
         self.bare = self.one_in(10)
         self.missing = self.one_in(2)
         self.zeros = self.one_in(3)
