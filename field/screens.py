@@ -68,7 +68,8 @@ class Screen:
         ready, told = os.pipe()
         self.server = subprocess.Popen(
             ["Xvfb", "-displayfd", str(told), "-screen", "0", f"{width}x{height}x24", "-fbdir", self.folder,
-             "-nolisten", "tcp", "-noreset", "-nocursor"], pass_fds=[told], stdout=self.log, stderr=self.log)
+             "-nolisten", "tcp", "-noreset", "-nocursor"], pass_fds=[told], stdout=self.log, stderr=self.log,
+            start_new_session=True)
         os.close(told)
         with os.fdopen(ready) as line:
             self.display = ":" + line.readline().strip()
@@ -81,8 +82,9 @@ class Screen:
         self.compositor = None
 
     def start(self, words, **more):
+        """Starts a program in a session of its own: a stop of this one by its terminal doesn't end it."""
         return subprocess.Popen(words, env={**self.environment, **more}, cwd=self.folder, stdin=subprocess.DEVNULL,
-                                stdout=self.log, stderr=self.log)
+                                stdout=self.log, stderr=self.log, start_new_session=True)
 
     def needs_wayland(self):
         """Starts weston, which shows one full window inside the X server. With input devices it draws a pointer of its
@@ -96,25 +98,31 @@ class Screen:
         if not wait_for(lambda: accepts(self.folder / "run" / "field"), PATIENCE):
             raise TimeoutError("weston didn't start")
 
-    def picture(self, top=0):
-        """The screen as a PIL image, from a row down. The server keeps it in a file, after a head of the format of
-        xwd."""
-        from PIL import Image
+    def pixels(self, top=0):
+        """The screen's bytes from a row down, and how many a row has. The server keeps them in a file, after a head of
+        the format of xwd."""
         with open(self.folder / "Xvfb_screen0", "rb") as kept:
             head = struct.unpack(">25I", kept.read(100))
             kept.seek(head[0] + 12 * head[19] + top * head[12])
-            pixels = kept.read((self.height - top) * head[12])
-        return Image.frombytes("RGB", (self.width, self.height - top), pixels, "raw", "BGRX", head[12])
+            return kept.read((self.height - top) * head[12]), head[12]
+
+    def picture(self, top=0):
+        """The screen as a PIL image, from a row down."""
+        return self.image(*self.pixels(top))
+
+    def image(self, pixels, row):
+        from PIL import Image
+        return Image.frombytes("RGB", (self.width, len(pixels) // row), pixels, "raw", "BGRX", row)
 
     def at_rest(self):
-        """The screen, once two pictures of it are the same."""
-        last = self.picture()
+        """The screen, once it is the same twice."""
+        last = self.pixels()
         until = time.monotonic() + PATIENCE
         while time.monotonic() < until:
             time.sleep(0.1)
-            last, before = self.picture(), last
+            last, before = self.pixels(), last
             if last == before:
-                return last
+                return self.image(*last)
         raise TimeoutError("the screen doesn't come to rest")
 
     def has(self, colour, picture=None):
@@ -156,9 +164,12 @@ def xterm(screen, program, background, options):
 
 
 def mlterm(screen, program, background, options):
-    # A cell of this font has 10 by 22 pixels.
-    cells = f"{screen.width // 10}x{screen.height // 22}+0+0"
-    return ["mlterm", "--type=xcore", "--fontsize=16", f"--geometry={cells}", "--sbmod=none", "--borderless=true",
+    # A cell of this font has 10 by 20 pixels, and there are 2 around all cells. Without the file the font depends on
+    # what is installed.
+    (screen.folder / ".mlterm").mkdir(exist_ok=True)
+    (screen.folder / ".mlterm/font").write_text("DEFAULT = 10x20\nISO8859_1 = 10x20\nISO10646_UCS4_1 = 10x20\n")
+    cells = f"{(screen.width - 4) // 10}x{(screen.height - 4) // 20}+0+0"
+    return ["mlterm", "--type=xcore", "--aa=false", f"--geometry={cells}", "--sbmod=none", "--borderless=true",
             "--fg=white", f"--bg=#{background}", *options, "-e", *program]
 
 
