@@ -1,7 +1,7 @@
 # Completions of sixel for bash, by `completions/check --write`.
 
 _sixel() {
-    local IFS=$' \t\n' command= ended= operands=0 options= names= valued= i
+    local IFS=$' \t\n' command= ended= operands=0 options= names= valued= value front name i
     # The words before the one at the cursor. bash splits `--width=8` at the =.
     for ((i = 1; i < COMP_CWORD; i++)); do
         if [[ ! $ended && ${COMP_WORDS[i]} == -- ]]; then
@@ -18,14 +18,22 @@ _sixel() {
             ((++operands))
         fi
     done
-    # The word at the cursor is the value of an option: one of a few, or a number or a colour.
+    # The word at the cursor is the value of an option: one of a few or several of them, or a number or a colour.
     if ((i != COMP_CWORD)); then
+        value=${2#=} front=
         case $command:$valued in
-            check:--on) options='xterm mlterm foot konsole all' ;;
-            survey:--on) options='xterm mlterm foot konsole all' ;;
+            check:--on) options='xterm mlterm foot konsole all' names='xterm mlterm foot konsole' ;;
+            survey:--on) options='xterm mlterm foot konsole all' names='xterm mlterm foot konsole' ;;
             show:--on) options='xterm mlterm foot konsole' ;;
         esac
-        [[ ! $options ]] || mapfile -t COMPREPLY < <(compgen -W "$options" -- "${2#=}")
+        # After a comma: each name that isn't there yet. `all` stands by itself.
+        if [[ $names && $value == *,* ]]; then
+            front=${value%,*}, options=
+            for name in $names; do
+                [[ ,$front == *,@($name|all),* ]] || options+=" $name"
+            done
+        fi
+        [[ ! $options ]] || mapfile -t COMPREPLY < <(compgen -P "$front" -W "$options" -- "${value#"$front"}")
         return
     fi
     # For a command that takes any number of files or names the operands don't count.

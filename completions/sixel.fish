@@ -8,6 +8,19 @@ function __fish_sixel_is
     end
 end
 
+# The values for a list of these names at the cursor: each or `all`, and after a comma each that isn't there yet. `all`
+# stands by itself.
+function __fish_sixel_names
+    set -l front (commandline -ct | string replace -rf -- '^(--on=)?(.*,)[^,]*$' '$2')
+    if test -z "$front"
+        printf '%s\n' $argv all
+        return
+    end
+    for name in $argv
+        string match -qr -- ",($name|all)," ",$front"; or echo $front$name
+    end
+end
+
 complete -c sixel -f
 complete -c sixel -n __fish_use_subcommand -s h -l help -d 'Print help'
 complete -c sixel -n __fish_use_subcommand -s V -l version -d 'Print version'
@@ -29,7 +42,7 @@ complete -c sixel -n '__fish_sixel_is list' -s V -l version -d 'Print version'
 
 complete -c sixel -n '__fish_sixel_is check' -F
 complete -c sixel -n '__fish_sixel_is check' -l wide -d 'Use 256 colour registers instead of 16'
-complete -c sixel -n '__fish_sixel_is check' -l on -x -a 'xterm mlterm foot konsole all' -d 'Count the rules of these terminals, too: xterm, mlterm, foot, konsole or all'
+complete -c sixel -n '__fish_sixel_is check' -l on -x -a '(__fish_sixel_names xterm mlterm foot konsole)' -d 'Count the rules of these terminals, too: xterm, mlterm, foot, konsole or all'
 complete -c sixel -n '__fish_sixel_is check' -s q -l quiet -d 'Print no verdict; use the exit status'
 complete -c sixel -n '__fish_sixel_is check' -l failed -d 'Print only the lines of files that aren\'t portable'
 complete -c sixel -n '__fish_sixel_is check' -l json -d 'Print objects of JSON, one a line, also for refusals'
@@ -39,7 +52,7 @@ complete -c sixel -n '__fish_sixel_is check' -s V -l version -d 'Print version'
 
 complete -c sixel -n '__fish_sixel_is survey' -F
 complete -c sixel -n '__fish_sixel_is survey' -l wide -d 'Use 256 colour registers instead of 16'
-complete -c sixel -n '__fish_sixel_is survey' -l on -x -a 'xterm mlterm foot konsole all' -d 'Count the rules of these terminals, too: xterm, mlterm, foot, konsole or all'
+complete -c sixel -n '__fish_sixel_is survey' -l on -x -a '(__fish_sixel_names xterm mlterm foot konsole)' -d 'Count the rules of these terminals, too: xterm, mlterm, foot, konsole or all'
 complete -c sixel -n '__fish_sixel_is survey' -l json -d 'Print objects of JSON, one a line, also for refusals'
 complete -c sixel -n '__fish_sixel_is survey' -l explain -d 'End with a hint on each rule or refusal, also into a pipe'
 complete -c sixel -n '__fish_sixel_is survey' -s h -l help -d 'Print help'
@@ -85,7 +98,7 @@ complete -c sixel -n '__fish_sixel_is differ' -s V -l version -d 'Print version'
 
 complete -c sixel -n '__fish_sixel_is mend' -F
 complete -c sixel -n '__fish_sixel_is mend' -l wide -d 'Use 256 colour registers instead of 16'
-complete -c sixel -n '__fish_sixel_is mend' -s q -l quiet -d 'Leave out the note on a picture of one colour'
+complete -c sixel -n '__fish_sixel_is mend' -s q -l quiet -d 'Leave out the note on pixels in the background\'s colour'
 complete -c sixel -n '__fish_sixel_is mend' -l background -x -d 'What isn\'t painted: red, green and blue in percent, or \'#RRGGBB\' [default: 0,0,0]'
 complete -c sixel -n '__fish_sixel_is mend' -l showing -d 'Show each pixel in the final colour of its register'
 complete -c sixel -n '__fish_sixel_is mend' -l define-selects -d 'Let a colour definition also select its register'

@@ -187,8 +187,8 @@ def early_answers(folder: str) -> "Iterator[tuple[str, Ended, Ended]]":
     ppm = b"makes a PPM (P6) of it\n"
     for words, given, said in [
         ("check", b"x", b"sixel: NotSixel at 0\n"),
-        ("encode", b"\x89PNG", b"sixel: Header at 0\nsixel: this is a PNG; `pngtopnm -mix | pnmdepth 255 | ppmtoppm` " + ppm),
-        ("encode", b"RIFF\x24\0\0\0WEBP", b"sixel: Header at 0\nsixel: this is a WebP; `dwebp -ppm - -o -` " + ppm),
+        ("encode", b"\x89PNG", b"sixel: Header at 0\nsixel: this is a PNG; `pngtopnm -mix | pnmdepth 255 | ppmtoppm | pnmquant 16` " + ppm),
+        ("encode", b"RIFF\x24\0\0\0WEBP", b"sixel: Header at 0\nsixel: this is a WebP; `dwebp -ppm - -o - | pnmquant 16` " + ppm),
         ("check", b"GIF8", b"sixel: NotSixel at 0\nsixel: this is a GIF; `giftopnm | ppmtoppm | pnmquant 16 | sixel encode` "
          b"makes sixel text of it\n"),
     ]:

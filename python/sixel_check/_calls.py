@@ -86,13 +86,12 @@ def scan(
 
     With `eight_bit` the bytes 90 and 9C start and end a picture, too.
     """
-    ended = run(["scan", "--json", *_options(wide=wide, eight_bit=eight_bit)], source, timeout)
-    answers = ended.objects
+    answers = run(["scan", "--json", *_options(wide=wide, eight_bit=eight_bit)], source, timeout).objects
     if answers[-1].get("reason") == "NoString":
         return ()
-    found = tuple(Scanned(answer.get("string", 0), outcome_of(answer)) for answer in answers)
-    warn(ended, 1)
-    return found
+    return tuple(
+        Scanned(answer.get("string", 0), outcome_of(answer), answer.get("wrapped", False)) for answer in answers
+    )
 
 
 def events(source: Source, *, timeout: Optional[float] = SECONDS) -> Listing:

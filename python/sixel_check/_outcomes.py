@@ -107,6 +107,8 @@ class Scanned:
     #: Where it starts. This offset and the one of the outcome are counted from the start of the text.
     offset: int
     outcome: Outcome
+    #: Whether it is wrapped for tmux or GNU Screen; RECIPES.md tells how to unwrap it.
+    wrapped: bool = False
 
     def __str__(self) -> str:
         return f"{self.offset} {self.outcome}"

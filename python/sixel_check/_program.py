@@ -35,7 +35,7 @@ class ProgramHung(SixelError):
 
 
 class SixelWarning(UserWarning):
-    """A note of the program on what it did, such as that a picture has only one colour."""
+    """A note of the program on what it did, such as that a mended picture has pixels in the background's colour."""
 
 
 class Ended(NamedTuple):

@@ -140,11 +140,13 @@ class Answers(unittest.TestCase):
         first, second = sixel_check.scan(b"ab" + PIXEL + b"\x1bPq?5")
         self.assertEqual((first.offset, first.outcome), (2, Portable(1, 1)))
         self.assertEqual(str(second), f"28 refused BadByte {28 + 4}")
+        plain, wrapped = sixel_check.scan(PIXEL + b"\x1bP" + PIXEL)
+        self.assertEqual((plain.wrapped, wrapped.wrapped), (False, True))
 
     def test_notes(self):
         """The program's notes are warnings of the line that called."""
-        for call, options in (("mend", {}), ("show", {"box": True}), ("scan", {})):
-            text = {"mend": PIXEL, "show": WIDE, "scan": b"\x1bP" + PIXEL}[call]
+        for call, options in (("mend", {}), ("show", {"box": True})):
+            text = {"mend": UNCOVERED, "show": WIDE}[call]
             with self.subTest(call), warnings.catch_warnings(record=True) as caught:
                 warnings.simplefilter("always")
                 getattr(sixel_check, call)(text, **options)

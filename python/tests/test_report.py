@@ -204,8 +204,7 @@ class Shown(WithFolder):
         entry = self.entry(OUTSIDE, "--background=#ff8000")
         link = entry.one("a", "download")
         mended = data_of(link.attributes["href"], "application/octet-stream")
-        with self.assertWarns(sixel_check.SixelWarning):
-            self.assertEqual(mended, sixel_check.mend(OUTSIDE, background="#ff8000"))
+        self.assertEqual(mended, sixel_check.mend(OUTSIDE, background="#ff8000"))
         self.assertEqual(link.attributes["download"], "a-mended.six")
         self.assertEqual(entry.one("p", "mended").one("span").text, f"{len(mended)} bytes, portable 2 12")
         # What named terminals do otherwise stays.

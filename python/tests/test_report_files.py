@@ -274,13 +274,16 @@ class Failures(WithFolder):
     def test_killed(self):
         """Its processes end with it, and with an interrupt it leaves no report."""
         real = os.environ["SIXEL_PROGRAM"]
-        script = f'case "$1" in survey) sleep 0.4 ;; esac; exec "{real}" "$@"'
+        hold = self.output.with_name("hold")
+        script = f'case "$1" in survey) while [ -e "{hold}" ]; do sleep 0.01; done ;; esac; exec "{real}" "$@"'
         for number, status in ((signal.SIGKILL, -9), (signal.SIGINT, 130)):
+            hold.touch()
             with stand_in(script):
                 words = [*COMMAND, self.put(RED), self.put(UNCOVERED, "b.six"), "-o", self.output]
                 ended = subprocess.Popen(words, env=environment(), stderr=subprocess.PIPE)
                 workers = self.workers(ended.pid)
                 ended.send_signal(number)
+                hold.unlink()
                 self.assertEqual(ended.stderr.read(), b"")
                 ended.stderr.close()
                 self.assertEqual(ended.wait(), status)

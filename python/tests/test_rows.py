@@ -15,6 +15,7 @@ FLAGS = {"--wide", "--showing", "--fill", "--define-selects", "--box", "--eight-
 VALUES = {"--on": str, "--background": str, "--width": int, "--height": int}
 # What the words of a row ask for that no call has: other lines, and streams.
 UNCALLED = {"--json", "--explain", "--failed", "--help", "-h", "--version", "-V"}
+WRAPPED = test_command.WRAPPED_LINE.decode().strip().removeprefix("sixel: ")
 TASKS = ("check", "survey", "scan", "list", "render", "show", "differ", "mend", "encode")
 
 Told = collections.namedtuple("Told", "status output said")
@@ -29,6 +30,9 @@ def split(words):
         name = word[2:].replace("-", "_")
         if word in FLAGS or word == "--sheet":
             options[name] = True
+        elif word == "--on" and name in options and task in ("check", "survey"):
+            values = [options[name], rest.pop(0)]
+            options[name] = "all" if "all" in map(str.lower, values) else ",".join(values)
         elif word in VALUES:
             options[name] = VALUES[word](rest.pop(0))
         elif word == "-q":
@@ -77,6 +81,9 @@ def told_by_call(task, options, source):
             return lines(not outcome.is_portable, *(getattr(got, "findings", ()) or [outcome]))
         if task == "scan":
             found = sixel_check.scan(source, **options)
+            if any(string.wrapped for string in found):
+                # The program has a note in place of the member.
+                warnings.warn(WRAPPED, sixel_check.SixelWarning)
             return lines(not all(it.outcome.is_portable for it in found), *found) if found else Told(2, b"", "NoString")
         if task == "list":
             listing = sixel_check.events(source, **options)
@@ -187,7 +194,7 @@ class FileRows(unittest.TestCase):
                 told = told_by_call(task, dict(options), source)
             notes += [f"sixel: {note.message}" for note in caught if f"sixel: {note.message}" not in notes]
             has_lines = task in ("check", "survey", "scan", "differ") and not options.get("sheet")
-            printed = re.sub("[\0-\x1f]", lambda found: f"\\x{ord(found[0]):02X}", file or "")
+            printed = re.sub("[\0-\x1f\x7f-\x9f]", lambda found: f"\\x{ord(found[0]):02X}", file or "")
             label = f"{printed}: " if file is not None else ""
             status = max(status, told.status)
             pieces = told.output.splitlines(True)
@@ -198,6 +205,6 @@ class FileRows(unittest.TestCase):
                 said.append(f"sixel: {label}{told.said}")
         self.assertEqual((status, output), (row.status, row.output))
         # Objects of JSON lack what the program says beyond a refusal.
-        beyond = re.compile("sixel: (this is|the input is|'|[0-9])")
+        beyond = re.compile("sixel: (this (is|begins)|the input is|'|[0-9]+ of )")
         wanted = [line for line in row.said.decode().splitlines() if not beyond.match(line)]
         self.assertEqual(said + ([] if is_quiet else notes), wanted)

@@ -37,9 +37,13 @@ side name fallback = record (new_rule name) {
   parser = Some (parser.Signed (pos 1) (pos most_screen_side));
 }
 
--- `--on NAME` or `--on NAMES`
+-- `--on NAME`
 abbrev pub on : Rule
 on = record (new_rule (codes "on")) { long = Some (codes "on"); value_names = 1 }
+
+-- `--on NAMES`, any number of times
+abbrev pub names : Rule
+names = record on { action = Some Append }
 
 -- `--background COLOUR`, with the default `fallback`
 abbrev pub background : Text → Rule
@@ -58,7 +62,7 @@ abbrev pub check_app : App
 check_app =
     with_rule (with_rule (with_rule (with_rule (with_rule (with_rule (with_rule (new_app (codes "check"))
     (flag (codes "wide")))
-    on)
+    names)
     quiet)
     (flag (codes "failed")))
     (flag (codes "json")))
@@ -70,7 +74,7 @@ abbrev pub survey_app : App
 survey_app =
     with_rule (with_rule (with_rule (with_rule (with_rule (new_app (codes "survey"))
     (flag (codes "wide")))
-    on)
+    names)
     (flag (codes "json")))
     (flag (codes "explain")))
     files
@@ -126,7 +130,7 @@ explain_app =
     with_rule (new_app (codes "explain")) (record (new_rule (codes "name")) { action = Some Append; value_names = 1 })
 
 -- `sixel`, with a version, which each subcommand has too, and with a required subcommand; an option may be given again,
--- and its last value counts
+-- and its last value counts; of `--on NAMES` all do
 abbrev pub sixel_app : App
 sixel_app =
     with_subcommand (with_subcommand (with_subcommand (with_subcommand (with_subcommand (with_subcommand
@@ -149,5 +153,6 @@ subcommands = map (λ s. s.name) sixel_app.subs
 abbrev pub may_get_a_tip : ErrorKind → Bool
 may_get_a_tip kind.InvalidSubcommand = true
 may_get_a_tip kind.UnknownArgument = true
+may_get_a_tip kind.TooManyValues = true
 may_get_a_tip kind.ValueValidation = true
 may_get_a_tip _ = false

@@ -5,8 +5,8 @@ ghost use Rattle.clap.specs.Walk.{rule_of};
 ghost use Rattle.clap.specs.Simple.{app_of, new_app};
 ghost use Rattle.clap.specs.declared.builder.command.Command.TheViews.{out-Command as fields_of};
 ghost use Rattle.sixel_commands.specs.Commands.{background, check_app, differ_app, explain_app, file, files, flag};
-ghost use Rattle.sixel_commands.specs.Commands.{mend_app, on, plain_app, profiled_app, quiet, scan_app, show_app, side};
-ghost use Rattle.sixel_commands.specs.Commands.{sixel_app, survey_app};
+ghost use Rattle.sixel_commands.specs.Commands.{mend_app, names, on, plain_app, profiled_app, quiet, scan_app, show_app};
+ghost use Rattle.sixel_commands.specs.Commands.{side, sixel_app, survey_app};
 
 mod help;
 
@@ -18,10 +18,10 @@ use std::alloc::{AllocError, Global};
 const NAME: &str = "sixel";
 
 /// What `--version` prints after the program's name.
-const VERSION: &str = "1.0.0";
+const VERSION: &str = "1.1.0";
 
-/// Each task is a subcommand, and so is `explain`. An option may be given again, and its last value counts. `--version`
-/// may be given before a subcommand or after it.
+/// Each task is a subcommand, and so is `explain`. An option may be given again, and its last value counts; of the names
+/// of terminals all do. `--version` may be given before a subcommand or after it.
 pub fn sixel_command<'a>(alloc: Global) -> Result<Command<'a>, AllocError>
     ensures { IfOk result (λ c. app_of c ≡ sixel_app) }
 {
@@ -286,7 +286,10 @@ pub fn mend_command<'a>(alloc: Global) -> Result<Command<'a>, AllocError>
         help::MEND,
     )?
     .arg(wide_arg(alloc))?
-    .arg(quiet_arg(alloc, "Leave out the note on a picture of one colour"))?
+    .arg(quiet_arg(
+        alloc,
+        "Leave out the note on pixels in the background's colour",
+    ))?
     .arg(background_arg(
         alloc,
         "0,0,0",
@@ -329,7 +332,7 @@ fn side_arg<'a>(alloc: Global, name: &'a str, fallback: &'a str, help: &'a str) 
         .help(help)
 }
 
-/// `--on NAME` of a terminal, or `--on NAMES` of several.
+/// `--on`, with this name for its value in the help.
 fn on_arg<'a>(alloc: Global, value: &'a str, help: &'a str) -> Arg<'a>
     ensures rule { rule_of result ≡ on }
     ensures local { result.global ≡ false }
@@ -340,9 +343,9 @@ fn on_arg<'a>(alloc: Global, value: &'a str, help: &'a str) -> Arg<'a>
         .help(help)
 }
 
-/// `--on NAMES`, of terminals whose rules count.
+/// `--on NAMES`, of terminals whose rules count: the values of all its uses.
 fn names_arg<'a>(alloc: Global) -> Arg<'a>
-    ensures rule { rule_of result ≡ on }
+    ensures rule { rule_of result ≡ names }
     ensures local { result.global ≡ false }
 {
     on_arg(
@@ -350,6 +353,7 @@ fn names_arg<'a>(alloc: Global) -> Arg<'a>
         "NAMES",
         "Count the rules of these terminals, too: xterm, mlterm, foot, konsole or all",
     )
+    .action(ArgAction::Append)
 }
 
 /// `--background COLOUR`, with a default.

@@ -1,6 +1,6 @@
 //! Usage errors of our own, and tips for clap's.
 
-ghost use Rattle.std.specs.Prelude.{◌≡◌, IfOk, IfSome, IsNone, false};
+ghost use Rattle.std.specs.Prelude.{◌≡◌, IfOk, IfSome, false, true};
 ghost use Rattle.clap.specs.Values.{kind_of};
 ghost use Rattle.sixel_commands.specs.Commands.{may_get_a_tip};
 
@@ -11,6 +11,7 @@ use crate::commands::{
 use clap::error::ErrorKind;
 use clap::{Command, Error};
 use sixel_explain::{nearest, topics_asked};
+use sixel_printing::printed;
 use sixel_report::MOST_SCREEN_SIDE;
 use std::alloc::{AllocError, Global};
 
@@ -19,6 +20,9 @@ const START: &str = "error: ";
 
 /// What clap's text of a value that isn't taken has before its reason, if the option is a side.
 const SIDE: &str = " <N>': ";
+
+/// How clap's text of an argument that isn't expected begins if that is a backslash behind one dash.
+const BACKSLASH: &str = "unexpected argument '-\\'";
 
 /// How clap's tip on `--` begins.
 const DASHES: &str = "  tip: to pass '--";
@@ -64,6 +68,7 @@ pub fn conflict_error(alloc: Global, reason: &str) -> Result<Error, AllocError>
 pub fn terminal_error(alloc: Global, name: &str) -> Result<Error, AllocError>
     ensures { IfOk result (λ e. kind_of e ≡ ErrorKind.InvalidValue) }
 {
+    let name = printed(alloc, name)?;
     let reason = format!(in alloc;
         "invalid value '{name}' for '--on <NAME>'\n  [possible values: xterm, mlterm, foot, konsole]"
     )?;
@@ -102,6 +107,7 @@ pub fn unsurveyed_error(alloc: Global, value: &str) -> Result<Error, AllocError>
 }
 
 fn names_reason(alloc: Global, value: &str) -> Result<String, AllocError> {
+    let value = printed(alloc, value)?;
     format!(in alloc;
         "invalid value '{value}' for '--on <NAMES>'\n  \
         [possible values: xterm, mlterm, foot, konsole with commas between them, or all]"
@@ -160,6 +166,7 @@ pub fn sheet_error(alloc: Global) -> Result<Error, AllocError>
 }
 
 fn colour_reason(alloc: Global, value: &str) -> Result<String, AllocError> {
+    let value = printed(alloc, value)?;
     format!(in alloc;
         "invalid value '{value}' for '--background <COLOUR>': \
         expected three percentages, as in 100,50,0, or samples, as in '#ff8000'"
@@ -181,8 +188,9 @@ pub fn unnamed_error(alloc: Global, said: &[&str]) -> Result<Error, AllocError>
 
 fn unnamed_reason(alloc: Global, said: &[&str]) -> Result<String, AllocError> {
     let word = first_unnamed(alloc, said)?;
+    let name = printed(alloc, word)?;
     let unnamed = format!(in alloc;
-        "no rule or refusal has the name '{word}'; 'sixel explain' lists the names"
+        "no rule or refusal has the name '{name}'; 'sixel explain' lists the names"
     )?;
     match nearest(alloc, word)? {
         Some(name) => { format!(in alloc; "{unnamed}\n\n  tip: a similar name exists: '{name}'") }
@@ -200,23 +208,96 @@ fn first_unnamed<'a>(alloc: Global, said: &[&'a str]) -> Result<&'a str, AllocEr
     Ok("")
 }
 
-/// This usage error of clap, with a tip if a file was named that can't be read there, without clap's tip on `--`, and
-/// with the numbers that a side may have. The kind stays.
+/// This usage error of clap, with control characters by number. It gets a tip if a file was named in place of a
+/// subcommand, or a second file; it loses clap's tip on `--`, and says which numbers a side may have. The kind stays.
 pub fn with_tip(alloc: Global, words: &[String], error: Error) -> Error
     ensures kind { kind_of result ≡ kind_of error }
     ensures kept { may_get_a_tip (kind_of error) ≡ false → result ≡ error }
 {
-    match tipped(alloc, words, &error) {
-        Ok(Some(tipped)) => tipped,
+    if !may_get_a_tip(error.kind()) {
+        return error;
+    }
+    match error_in_print(alloc, words, error.kind()) {
+        Ok(Some(again)) => again,
         Ok(None) => error,
         Err(_) => error,
     }
 }
 
+/// Whether we may change the text of such an error.
+fn may_get_a_tip(kind: ErrorKind) -> bool
+    ensures { may_get_a_tip kind ≡ result }
+{
+    match kind {
+        ErrorKind::InvalidSubcommand | ErrorKind::UnknownArgument => true,
+        ErrorKind::ValueValidation | ErrorKind::TooManyValues => true,
+        _ => false,
+    }
+}
+
+/// Whether two kinds, of which we may change the text, are the same.
+fn is_same_tip(a: ErrorKind, b: ErrorKind) -> bool
+    ensures { result ≡ true → a ≡ b }
+{
+    match (a, b) {
+        (ErrorKind::InvalidSubcommand, ErrorKind::InvalidSubcommand) => true,
+        (ErrorKind::UnknownArgument, ErrorKind::UnknownArgument) => true,
+        (ErrorKind::ValueValidation, ErrorKind::ValueValidation) => true,
+        (ErrorKind::TooManyValues, ErrorKind::TooManyValues) => true,
+        _ => false,
+    }
+}
+
+/// The error of this kind that clap finds in the words as they are printed, with our text if there is one. clap prints
+/// words as they are, so one with a line feed would end the line.
+fn error_in_print(
+    alloc: Global,
+    words: &[String],
+    kind: ErrorKind,
+) -> Result<Option<Error>, AllocError>
+    ensures { IfOk result (λ found. IfSome found (λ e. kind_of e ≡ kind)) }
+{
+    let words = printed_words(alloc, words)?;
+    let Some(error) = error_of_words(alloc, words.as_slice(), kind)? else {
+        return Ok(None);
+    };
+    match tipped(alloc, words.as_slice(), &error)? {
+        Some(tipped) => Ok(Some(tipped)),
+        None => Ok(Some(error)),
+    }
+}
+
+fn printed_words(alloc: Global, words: &[String]) -> Result<Vec<String>, AllocError> {
+    let mut lines = Vec::new(alloc);
+    for word in words {
+        lines.push(printed(alloc, word.as_str())?)?;
+    }
+    Ok(lines)
+}
+
+/// The error that clap finds in the words, if it is of this kind.
+fn error_of_words(
+    alloc: Global,
+    words: &[String],
+    kind: ErrorKind,
+) -> Result<Option<Error>, AllocError>
+    ensures { IfOk result (λ found. IfSome found (λ e. kind_of e ≡ kind)) }
+{
+    let command = sixel_command(alloc)?;
+    let error = match command.try_get_matches_from(words) {
+        Ok(_matches) => return Ok(None),
+        Err(error) => error,
+    };
+    if is_same_tip(error.kind(), kind) {
+        Ok(Some(error))
+    } else {
+        Ok(None)
+    }
+}
+
 /// The usage error with another text, if there is one for it.
 fn tipped(alloc: Global, words: &[String], error: &Error) -> Result<Option<Error>, AllocError>
-    ensures kind { IfOk result (λ tipped. IfSome tipped (λ e. kind_of e ≡ kind_of error.now)) }
-    ensures none { may_get_a_tip (kind_of error.now) ≡ false → IfOk result IsNone }
+    ensures { IfOk result (λ tipped. IfSome tipped (λ e. kind_of e ≡ kind_of error.now)) }
 {
     let [_, name, ..] = words else {
         return Ok(None);
@@ -226,7 +307,7 @@ fn tipped(alloc: Global, words: &[String], error: &Error) -> Result<Option<Error
             let tipped = path_error(alloc, name.as_str())?;
             Ok(Some(tipped))
         }
-        ErrorKind::UnknownArgument => unknown_error(alloc, name.as_str(), error),
+        ErrorKind::UnknownArgument => unknown_error(alloc, words, name.as_str(), error),
         ErrorKind::ValueValidation => side_error(alloc, error),
         _ => Ok(None),
     }
@@ -276,11 +357,17 @@ fn side_reason(alloc: Global, told: &str) -> Result<Option<String>, AllocError> 
 }
 
 /// The error of clap for an argument that isn't expected, if its text changes.
-fn unknown_error(alloc: Global, name: &str, error: &Error) -> Result<Option<Error>, AllocError>
+fn unknown_error(
+    alloc: Global,
+    words: &[String],
+    name: &str,
+    error: &Error,
+) -> Result<Option<Error>, AllocError>
     ensures { IfOk result (λ tipped. IfSome tipped (λ e. kind_of e ≡ ErrorKind.UnknownArgument)) }
 {
     let told = format!(in alloc; "{error}")?;
-    let Some(reason) = unknown_reason(alloc, name, told.as_str())? else {
+    let told = told.as_str();
+    let Some(reason) = unknown_reason(alloc, words, name, told)? else {
         return Ok(None);
     };
     let command = match name {
@@ -302,9 +389,32 @@ fn unknown_error(alloc: Global, name: &str, error: &Error) -> Result<Option<Erro
     Ok(Some(tipped))
 }
 
+/// The first option of one dash that has a backslash, as a control character by number has.
+fn numbered_option(words: &[String]) -> Option<&str> {
+    for word in words {
+        let text = word.as_str();
+        if text.starts_with('-') && !text.starts_with("--") && text.contains('\\') {
+            return Some(text);
+        }
+    }
+    None
+}
+
 /// What clap's text says: of an option that begins with `--` without the tip on `--`, and of a second file with a tip.
-fn unknown_reason(alloc: Global, name: &str, told: &str) -> Result<Option<String>, AllocError> {
+/// Of an option of one dash that has a control character clap names the backslash, and we the option.
+fn unknown_reason(
+    alloc: Global,
+    words: &[String],
+    name: &str,
+    told: &str,
+) -> Result<Option<String>, AllocError> {
     let told = told.strip_prefix(START).unwrap_or(told);
+    if told.starts_with(BACKSLASH) {
+        if let Some(option) = numbered_option(words) {
+            let reason = format!(in alloc; "unexpected argument '{option}' found")?;
+            return Ok(Some(reason));
+        }
+    }
     let (reason, more) = told.split_once("\n\n").unwrap_or((told, ""));
     if more.starts_with(DASHES) {
         let plain = String::from_str(alloc, reason)?;

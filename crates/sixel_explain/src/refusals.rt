@@ -98,7 +98,7 @@ pieces.
 
 Programs: use img2sixel without -P, and with -S for an animation; and gnuplot's
 sixelgd without animate. mpv always writes other escape sequences first. More:
-docs/RECIPES.md.
+RECIPES.md, in share/doc/sixel/ or docs/.
 ";
 
 const BAD_BYTE: &str = "BadByte: unexpected byte
@@ -187,7 +187,7 @@ Fix: pass one string, or one PPM, at a time.
 
 Programs: use img2sixel or chafa with one file, and gnuplot with one plot. For
 one picture of an animation, use img2sixel -S, chafa --animate off or
-ImageMagick FILE[0]. More: docs/RECIPES.md.
+ImageMagick FILE[0]. More: RECIPES.md, in share/doc/sixel/ or docs/.
 ";
 
 const HEADER: &str = "Header: not a valid P6 header

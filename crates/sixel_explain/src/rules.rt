@@ -115,8 +115,8 @@ strings. sixel mend finds the size.
 
 Programs: use gnuplot's sixelgd instead of its sixeltek, and sixel encode
 instead of ppmtosixel: those two declare no size. For a side above 2,048 use
-ImageMagick -resize 2048x2048, or pnmscale -xysize 2048 2048. More:
-docs/RECIPES.md.
+ImageMagick -resize 2048x2048, or pnmscale -xysize 2048 2048. More: RECIPES.md,
+in share/doc/sixel/ or docs/.
 ";
 
 const REGISTER: &str = "Register: a register above 15, or above 255 with --wide
@@ -136,7 +136,7 @@ Fix: reduce the picture to 16 colours and number them from 0. Or check with
 the promise then covers only these. sixel mend keeps up to 256 registers apart.
 
 Programs: use img2sixel -p 16, chafa -c 16, ImageMagick -colors 16, or gnuplot's
-sixelgd without truecolor. More: docs/RECIPES.md.
+sixelgd without truecolor. More: RECIPES.md, in share/doc/sixel/ or docs/.
 ";
 
 const COLOUR_VALUE: &str =
@@ -185,7 +185,8 @@ Fix: select a register after the last definition, and again after each later
 one. sixel mend paints in the register selected last, at first 0; with
 --define-selects a definition selects.
 
-Programs: use img2sixel -p 2 instead of -e. More: docs/RECIPES.md.
+Programs: use img2sixel -p 2 instead of -e. More: RECIPES.md, in
+share/doc/sixel/ or docs/.
 ";
 
 const UNDEFINED: &str = "Undefined: painting in a register that is not defined yet
@@ -217,7 +218,8 @@ Fix: give the second colour its own register. A picture has at most 16 colours,
 or 256 with --wide. sixel mend keeps the colour at the time of painting; with
 --showing it takes the last one.
 
-Programs: use img2sixel -p 16 instead of -I. More: docs/RECIPES.md.
+Programs: use img2sixel -p 16 instead of -I. More: RECIPES.md, in
+share/doc/sixel/ or docs/.
 ";
 
 const OUTSIDE: &str = "Outside: a set bit outside the box
@@ -237,7 +239,8 @@ below the last row: here ~ sets six rows in a box of one, and @ sets only the
 first. sixel mend makes the box as large as what is painted.
 
 Programs: use sixel encode or ImageMagick instead of img2sixel, which paints
-below a picture of fewer than six rows. More: docs/RECIPES.md.
+below a picture of fewer than six rows. More: RECIPES.md, in share/doc/sixel/ or
+docs/.
 ";
 
 const UNCOVERED: &str = "Uncovered: a pixel of the box that no set bit covers, at the terminator
@@ -257,7 +260,7 @@ the colour of --background.
 
 Programs: use chafa -t 1, gnuplot's sixelgd without transparent, or ImageMagick
 -background white -flatten, which puts a colour under the picture. More:
-docs/RECIPES.md.
+RECIPES.md, in share/doc/sixel/ or docs/.
 ";
 
 const EIGHT_BIT: &str = "EightBit: the byte 90 as the introducer, or 9C as the terminator
@@ -279,5 +282,5 @@ Output of check: broken EightBit 0
 Fix: write ESC P and ESC \\. sixel mend writes these.
 
 Programs: use img2sixel without -8, and sixel encode instead of ppmtosixel,
-which has no option for it. More: docs/RECIPES.md.
+which has no option for it. More: RECIPES.md, in share/doc/sixel/ or docs/.
 ";

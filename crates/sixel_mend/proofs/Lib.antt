@@ -8,3 +8,12 @@ pub mod TerminalLemmas
 pub mod MendLemmas
 pub mod RepeatLemmas
 pub mod RunLemmas
+pub mod PaintedLemmas
+pub mod RgbLemmas
+pub mod SwapLemmas
+pub mod ReplaceLemmas
+pub mod SettleLemmas
+pub mod HiddenLemmas
+pub mod NotingLemmas
+pub mod MarkedLemmas
+pub mod PixelLemmas

@@ -1,9 +1,11 @@
 -- What an extent stores, event by event.
 use Rattle.std.proofs.Common.{◌≡◌, ◌==◌, ℕ, suc, ◌+◌, ◌-◌, ◌*◌, ◌<◌, ◌≤◌, Bool, true, false, cond, max, min, Option}
 use Rattle.std.proofs.Common.{None, List, [], ◌∷◌, ◌++◌, length, refl, sym, ap, ap₂, subst, ◌∙◌, append_assoc}
-use Rattle.std.proofs.Common.{append-nil, arith}
+use Rattle.std.proofs.Common.{◌||◌, append-nil, arith}
 use Rattle.std.specs.Prelude.{if◌then◌else◌, slice_index}
+use Rattle.std.specs.List.{list_any}
 use Rattle.std.specs.Option.{option_map, option_or}
+use Rattle.std.proofs.lemmas.List.Folds.{list_any-append}
 use Rattle.sixel_grammar.specs.declared.command.Command.{Command}
 use Rattle.sixel_grammar.specs.declared.command.Command.TheVariants.{Sixel}
 use Rattle.sixel_grammar.specs.declared.command.Event.{Event}
@@ -23,8 +25,8 @@ use Rattle.sixel_terminal.proofs.StandLemmas.{map_or}
 use Rattle.sixel_mend.specs.declared.extent.Extent.{Extent}
 use Rattle.sixel_mend.specs.declared.extent.Sides.{Sides}
 use Rattle.sixel_mend.specs.Extents.{depth, next_height, next_width, reached}
-use Rattle.sixel_mend.specs.Measures.{Measures, most, next_band, next_column, next_declared, reached_column}
-use Rattle.sixel_mend.specs.Measures.{reached_row, sides_of}
+use Rattle.sixel_mend.specs.Measures.{Measures, defines_hls, most, next_band, next_column, next_declared}
+use Rattle.sixel_mend.specs.Measures.{next_has_hls, reached_column, reached_row, sides_of}
 use Rattle.sixel_mend.specs.Screens.{mending_terminal}
 use Rattle.sixel_mend.proofs.ExtentLemmas.{extent_none, extent_push}
 
@@ -50,10 +52,21 @@ capped_side side rows to = by (rows == 0)
 
 -- ---- one more event
 
+or_false : (b : Bool) → b ≡ (b || false)
+or_false true = refl
+or_false false = refl
+
+hls_push : (before : List Event) (event : Event)
+    → (list_any defines_hls before || defines_hls event) ≡ list_any defines_hls (before ++ event ∷ [])
+hls_push before event =
+    ap (λ (b : Bool). list_any defines_hls before || b) (or_false (defines_hls event))
+    ∙ sym (list_any-append defines_hls before (event ∷ []))
+
 pub measures_push : {e : Extent} (f : Extent) {before : List Event} (event : Event) → Measures e before
     → f.column ≡ next_column e event → f.band ≡ next_band e event → f.width ≡ reached_column e event
-    → f.height ≡ reached_row e event → f.declared ≡ next_declared e event → Measures f (before ++ event ∷ [])
-measures_push f {before} event s c b w h d =
+    → f.height ≡ reached_row e event → f.declared ≡ next_declared e event → f.has_hls ≡ next_has_hls e event
+    → Measures f (before ++ event ∷ [])
+measures_push f {before} event s c b w h d l =
     let rows = depth (bits_of event) in
     let columns = columns_of 1 event in
     record {
@@ -80,6 +93,7 @@ measures_push f {before} event s c b w h d =
           d ∙ ap (λ (o : Option Sides). option_or o (option_map sides_of (raster_of event))) s.declared_is
           ∙ sym (map_or sides_of (raster_before before) (raster_of event))
           ∙ ap (option_map sides_of) (sym (raster_push before event));
+      has_hls_is = l ∙ ap (λ (b : Bool). b || defines_hls event) s.has_hls_is ∙ hls_push before event;
     }
 
 -- an event that is no command
@@ -88,15 +102,15 @@ pub measures_idle : {e : Extent} {before : List Event} (event : Event)
 measures_idle (Step command) no_step s = absurd (no_step command refl)
 measures_idle {e} (Start eight parameters) no_step s =
     measures_push e (Start eight parameters) s (omega (arith, s.column_is)) (omega (arith, s.band_is))
-    refl refl (or_none e.declared)
+    refl refl (or_none e.declared) (or_false e.has_hls)
 measures_idle {e} (Finish eight) no_step s =
     measures_push e (Finish eight) s (omega (arith, s.column_is)) (omega (arith, s.band_is)) refl refl
-    (or_none e.declared)
+    (or_none e.declared) (or_false e.has_hls)
 
 pub measures_none : (e : Extent) → e.column ≡ 0 → e.band ≡ 0 → e.width ≡ 0 → e.height ≡ 0 → e.declared ≡ None
-    → Measures e []
+    → e.has_hls ≡ false → Measures e []
 unfolding column band raster_before earliest since
-measures_none e c b w h d = record {
+measures_none e c b w h d l = record {
   column_is = c;
   band_is = b;
   width = 0;
@@ -105,6 +119,7 @@ measures_none e c b w h d = record {
   width_is = w;
   height_is = h;
   declared_is = d;
+  has_hls_is = l;
 }
 
 -- ---- a stretch that reaches no further
@@ -126,6 +141,7 @@ one_inside {e} bits s across down =
     measures_push (moved e 1) (Step (Sixel bits)) s (omega (arith, s.width_is, across))
     (omega (arith, s.band_is)) (sym (side_stays e.width (depth bits) (e.column + 1) across))
     (sym (side_stays e.height (depth bits) (6 * e.band + depth bits) down)) (or_none e.declared)
+    (or_false e.has_hls)
 
 pub measures_stretch : (bytes : List ℕ) {e : Extent} {before : List Event} → Measures e before
     → e.column + length bytes ≤ e.width

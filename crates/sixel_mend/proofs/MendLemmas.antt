@@ -1,6 +1,6 @@
 -- The size of a string, judged; and the picture of what a terminal shows of it.
 use Rattle.std.proofs.Common.{◌≡◌, ◌==◌, ◌≤◌, ◌<◌, ◌&&◌, ◌||◌, ◌*◌, ℕ, Bool, true, false, Option, Some, None, List, Ok}
-use Rattle.std.proofs.Common.{Err, max, IfOk, IfErr, length, min, nat_lt, refl, sym, ap, subst, ◌∙◌, arith}
+use Rattle.std.proofs.Common.{Err, max, length, min, nat_lt, refl, sym, ap, subst, ◌∙◌, arith}
 use Rattle.std.specs.Prelude.{Result, if◌then◌else◌}
 use Rattle.std.specs.Option.{option_map, option_map_or}
 use Rattle.std.proofs.lemmas.Bool.{le-ltb, lt-ltb}
@@ -10,7 +10,7 @@ use Rattle.sixel_grammar.specs.declared.command.Placed.{Placed}
 use Rattle.sixel_grammar.specs.Document.{Document, events_of}
 use Rattle.sixel_model.specs.declared.colour.Parts.{Parts}
 use Rattle.sixel_model.specs.Events.{Attributes}
-use Rattle.sixel_model.specs.Pictures.{PictureValue, is_side, most_side}
+use Rattle.sixel_model.specs.Pictures.{is_side, most_side}
 use Rattle.sixel_model.specs.Rules.{raster_before}
 use Rattle.sixel_ppm.specs.PpmReading.{distinct, picture_of}
 use Rattle.sixel_mend.specs.declared.extent.Extent.{Extent}
@@ -158,7 +158,7 @@ sides_accepted w h u judgement =
     by false true d e f = cc
     by false false d e f = sides_from w h d e
 
-few_sides : (w h : ℕ) → (is_side w && is_side h) ≡ true → (w ≤ 2048) × (h ≤ 2048)
+pub few_sides : (w h : ℕ) → (is_side w && is_side h) ≡ true → (w ≤ 2048) × (h ≤ 2048)
 few_sides w h sides = (grind (arith, nat_tests), grind (arith, nat_tests))
 
 pub size_accepted : {m : Mending} {events : List Event} {w h : ℕ} → IsSized m events w h
@@ -208,33 +208,19 @@ pub whole_screen : (m : Mending) (events : List Event) (w h : ℕ) → length (m
 unfolding screen_on
 whole_screen m events w h = length_rows w h (shown_on (mending_terminal m w h) events)
 
--- what the numbering of the colours gives is what mending gives
-pub numbered : (registers : ℕ) {m : Mending} {bytes : List ℕ} {events : List Placed} {w h : ℕ} (colours : List Parts)
-    (result : Result PictureValue MendFault) → IsMeasured m bytes events w h
-    → colours ≡ mended_colours m (events_of events) w h
-    → IfOk result (λ (p : PictureValue). p ≡ picture_of registers w h colours)
-    → IfOk result (λ (p : PictureValue). length (distinct colours) ≤ registers)
-    → IfErr result (IsNumberingFault registers colours) → Mends registers m bytes result
-numbered registers {m} {events} {w} {h} colours (Ok p) d is picture few refused =
-    let small = subst (λ (cs : List Parts). length (distinct cs) ≤ registers) is few in (
-      events,
-      d.document,
-      (
-        w,
-        h,
-        d.size,
-        ap (λ (q : PictureValue). Ok q) (picture ∙ ap (picture_of registers w h) is)
-            ∙ is_mended registers m (events_of events) w h d.sides small,
-      ),
-    )
-numbered registers {m} {events} {w} {h} colours (Err TooManyColours) d is picture few refused =
+-- a fault of the numbering of the colours
+pub numbering_refused : (registers : ℕ) {m : Mending} {bytes : List ℕ} {events : List Placed} {w h : ℕ}
+    (colours : List Parts) (fault : MendFault) → IsMeasured m bytes events w h
+    → colours ≡ mended_colours m (events_of events) w h → IsNumberingFault registers colours fault
+    → Mends registers m bytes (Err fault)
+numbering_refused registers {m} {events} {w} {h} colours TooManyColours d is refused =
     let many = subst (λ (cs : List Parts). registers < length (distinct cs)) is refused in
     (events, d.document, (w, h, d.size, is_too_many registers m (events_of events) w h d.sides many))
-numbered registers {events} {w} {h} colours (Err OutOfMemory) d is picture few refused =
+numbering_refused registers {events} {w} {h} colours OutOfMemory d is refused =
     (events, d.document, (w, h, d.size, d.sides))
-numbered registers colours (Err (Grammar f)) d is picture few refused = absurd refused
-numbered registers colours (Err Empty) d is picture few refused = absurd refused
-numbered registers colours (Err TooLarge) d is picture few refused = absurd refused
+numbering_refused registers colours (Grammar f) d is refused = absurd refused
+numbering_refused registers colours Empty d is refused = absurd refused
+numbering_refused registers colours TooLarge d is refused = absurd refused
 
 -- a fault of the second reading
 pub reading_refused : (registers : ℕ) {m : Mending} {bytes : List ℕ} {events : List Placed} {w h : ℕ}

@@ -110,7 +110,7 @@ pixel_found registers width height f x y few across down =
 
 -- ---- such a picture is one
 
-length_palette : (n : ℕ) (seen : List Parts) → length (palette_of n seen) ≡ n
+pub length_palette : (n : ℕ) (seen : List Parts) → length (palette_of n seen) ≡ n
 length_palette zero seen = refl
 length_palette (suc n) [] = ap suc (length_palette n [])
 length_palette (suc n) (c ∷ seen) = ap suc (length_palette n seen)

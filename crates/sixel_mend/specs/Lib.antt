@@ -1,6 +1,8 @@
 pub mod Screens
 pub mod Sizes
+pub mod Painted
 pub mod Mended
+pub mod Marking
 pub mod Extents
 pub mod Measures
 pub mod Measuring

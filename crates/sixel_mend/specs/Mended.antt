@@ -11,7 +11,9 @@ use Rattle.sixel_terminal.specs.Drawing.{screen_on}
 use Rattle.sixel_mend.specs.declared.mending.MendFault.{MendFault}
 use Rattle.sixel_mend.specs.declared.mending.MendFault.TheVariants.{Grammar, Empty, TooLarge, TooManyColours}
 use Rattle.sixel_mend.specs.declared.mending.MendFault.TheVariants.{OutOfMemory}
+use Rattle.sixel_mend.specs.declared.mending.Mended.{Mended}
 use Rattle.sixel_mend.specs.declared.mending.Mending.{Mending}
+use Rattle.sixel_mend.specs.Painted.{hidden_pixels}
 use Rattle.sixel_mend.specs.Screens.{mending_terminal}
 use Rattle.sixel_mend.specs.Sizes.{IsSize}
 
@@ -47,3 +49,16 @@ Mends registers m bytes (Err OutOfMemory) =
     (events : List Placed) × Document events bytes × HasSides m (events_of events)
 Mends registers m bytes answer =
     (events : List Placed) × Document events bytes × MendsEvents registers m (events_of events) answer
+
+-- the picture is the one that mending gives for these events, and the number that of its hidden pixels
+abbrev pub MendsEventsNoting : ℕ → Mending → List Event → Mended → Type 0
+MendsEventsNoting registers m events answer =
+    (width : ℕ) × (height : ℕ) × IsSize m events width height
+    × (Ok answer.picture ≡ mended registers m events width height)
+    × (answer.hidden ≡ hidden_pixels m events width height)
+
+-- what mending gives for these bytes, with the number of painted pixels that look like those that aren't painted
+abbrev pub MendsNoting : ℕ → Mending → List ℕ → Result Mended MendFault → Type 0
+MendsNoting registers m bytes (Err fault) = Mends registers m bytes (Err fault)
+MendsNoting registers m bytes (Ok answer) =
+    (events : List Placed) × Document events bytes × MendsEventsNoting registers m (events_of events) answer

@@ -12,6 +12,7 @@ ghost use Rattle.sixel_terminal.specs.Stretches.{sixels_of};
 ghost use Rattle.sixel_mend.specs.Extents.{depth, reached};
 ghost use Rattle.sixel_mend.specs.declared.mending.Mending.{Mending as AMending};
 ghost use Rattle.sixel_mend.specs.Measures.{IsSized, Measures, most, next_band, next_column, next_declared};
+ghost use Rattle.sixel_mend.specs.Measures.{next_has_hls};
 ghost use Rattle.sixel_mend.specs.Measures.{reached_column};
 ghost use Rattle.sixel_mend.specs.Measures.{reached_row};
 
@@ -39,6 +40,8 @@ pub(crate) struct Extent {
     pub height: u32,
     /// The box of the first raster attributes.
     pub declared: Option<Sides>,
+    /// Whether some definition gives an HLS colour.
+    pub has_hls: bool,
 }
 
 /// How many rows of its band a sixel reaches down.
@@ -83,6 +86,7 @@ impl Extent {
             width: 0,
             height: 0,
             declared: None,
+            has_hls: false,
         }
     }
 
@@ -117,6 +121,7 @@ impl Extent {
         ensures width { result.width ≡ reached_column self (Step command) }
         ensures height { result.height ≡ reached_row self (Step command) }
         ensures declared { result.declared ≡ next_declared self (Step command) }
+        ensures hls { result.has_hls ≡ next_has_hls self (Step command) }
     {
         match command {
             Command::Sixel(bits) => self.reaching(1, bits),
@@ -125,13 +130,17 @@ impl Extent {
                 declared: self.declared.or(Some(Sides { width, height })),
                 ..self
             },
+            Command::Define { system, .. } => Extent {
+                has_hls: self.has_hls || system == 1,
+                ..self
+            },
             Command::CarriageReturn => Extent { column: 0, ..self },
             Command::NextLine => Extent {
                 column: 0,
                 band: self.band.saturating_add(1),
                 ..self
             },
-            _ => self,
+            Command::Select(_) => self,
         }
     }
 

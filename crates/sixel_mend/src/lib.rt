@@ -2,7 +2,9 @@
 #![tactic(auto)]
 
 mod extent;
+mod hiding;
 mod making;
+mod marking;
 mod measuring;
 mod mending;
 mod numbering;
@@ -10,4 +12,4 @@ mod terminal;
 
 pub use making::{mend, mend_measured, size_of};
 pub use measuring::Measurer;
-pub use mending::{MendFault, Mending};
+pub use mending::{MendFault, Mended, Mending};

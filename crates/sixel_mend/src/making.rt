@@ -8,12 +8,15 @@ ghost use Rattle.sixel_model.specs.Profiles.{count_of};
 ghost use Rattle.sixel_mend.specs.declared.mending.Mending.{Mending as AMending};
 ghost use Rattle.sixel_mend.specs.Judging.{IsReadingFault, judged};
 ghost use Rattle.sixel_mend.specs.Measuring.{HasMeasured};
-ghost use Rattle.sixel_mend.specs.Mended.{Mends, mended_colours};
+ghost use Rattle.sixel_mend.specs.Marking.{IsMarkedScreen};
+ghost use Rattle.sixel_mend.specs.Mended.{Mends, MendsNoting, mended_colours};
 ghost use Rattle.sixel_mend.specs.Sizes.{IsSize};
 
+use crate::hiding::hidden_between;
+use crate::marking::{mark_for, settled_parts};
 use crate::measuring::Measurer;
-use crate::mending::{MendFault, Mending};
-use crate::numbering::picture_of;
+use crate::mending::{MendFault, Mended, Mending};
+use crate::numbering::parts_of;
 use crate::terminal::terminal_of;
 use sixel_grammar::follow_document;
 use sixel_model::{MOST_SIDE, Picture, Profile};
@@ -23,7 +26,8 @@ use std::alloc::Global;
 /// Makes a portable picture of a sixel string: what a terminal shows of it, on a screen that has all of its paint and its
 /// declared box. `encode` writes it as text.
 ///
-/// The string is read twice, first for its size. Nothing is allocated for a string whose size no picture may have.
+/// The string is read two or three times, first for its size. Nothing is allocated for a string whose size no picture
+/// may have.
 pub fn mend(
     alloc: Global,
     profile: Profile,
@@ -34,23 +38,65 @@ pub fn mend(
 {
     let mut measurer = Measurer::new();
     measurer.feed(bytes)?;
-    mend_measured(alloc, profile, mending, &measurer, bytes)
+    let mended = mend_measured(alloc, profile, mending, &measurer, bytes)?;
+    Ok(mended.picture)
 }
 
-/// As `mend`, of a string that this measurer has read. The string is read once more.
+/// As `mend`, for a string that this measurer has read. It also counts the painted pixels that look like those that
+/// aren't painted.
+///
+/// The string is drawn over a mark, a colour that shows which pixels aren't painted. It is drawn again, over the
+/// background, only if the first screen doesn't tell the picture: if some pixels aren't painted, and others may be
+/// painted in the mark or in the background's colour, or if there are too many colours.
 pub fn mend_measured(
     alloc: Global,
     profile: Profile,
     mending: &Mending,
     measurer: &Measurer,
     bytes: &[u8],
-) -> Result<Picture, MendFault>
+) -> Result<Mended, MendFault>
     requires { HasMeasured measurer.now bytes.now }
-    ensures { Mends (count_of profile) mending.now bytes.now result }
+    ensures { MendsNoting (count_of profile) mending.now bytes.now result }
 {
     let (width, height) = size_of(measurer)?;
+    let has_hls = measurer.extent()?.has_hls;
+    let background = mending.background;
+    let mark = mark_for(background);
+    let marking = Mending {
+        background: mark,
+        ..*mending
+    };
+    let screen = screen_of(alloc, &marking, width, height, bytes)?;
+    match settled_parts(alloc, profile, mark, background, has_hls, screen.pixels())? {
+        Some(parts) => Ok(Mended {
+            picture: parts.into_picture(width, height),
+            hidden: 0,
+        }),
+        None => mend_again(alloc, profile, mending, width, height, bytes, &screen),
+    }
+}
+
+/// The picture of a string that was drawn over a mark, and what it hides. The string is drawn again, over the background.
+fn mend_again(
+    alloc: Global,
+    profile: Profile,
+    mending: &Mending,
+    width: u32,
+    height: u32,
+    bytes: &[u8],
+    marked: &Screen,
+) -> Result<Mended, MendFault>
+    requires sides { IsTrue (is_side width && is_side height) }
+    requires marked { IsMarkedScreen mending.now bytes.now width height marked.now.colours }
+    ensures { MendsNoting (count_of profile) mending.now bytes.now result }
+{
     let screen = screen_of(alloc, mending, width, height, bytes)?;
-    picture_of(alloc, profile, width, height, screen.pixels())
+    let parts = parts_of(alloc, profile, screen.pixels())?;
+    let hidden = hidden_between(marked.pixels(), screen.pixels());
+    Ok(Mended {
+        picture: parts.into_picture(width, height),
+        hidden,
+    })
 }
 
 /// Refuses a size that no picture may have.

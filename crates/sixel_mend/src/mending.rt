@@ -1,7 +1,7 @@
 //! What is chosen of the terminal that shows a string, and why a string isn't mended.
 
 use sixel_grammar::{Fault, Halt};
-use sixel_model::Colour;
+use sixel_model::{Colour, Picture};
 use std::alloc::AllocError;
 use std::convert::Infallible;
 
@@ -15,6 +15,15 @@ pub struct Mending {
     pub showing: bool,
     /// A definition of a register also selects it.
     pub selects: bool,
+}
+
+/// The mended picture of a string, and what it hides.
+#[derive(Debug, Drop)]
+pub struct Mended {
+    pub picture: Picture,
+    /// How many painted pixels look like those that aren't painted: as many as were painted in the background's colour,
+    /// if some pixel isn't painted. 0 if each one is.
+    pub hidden: u32,
 }
 
 /// Why a string isn't mended. If several of the first four reasons apply, the first one in this order is reported.

@@ -1,19 +1,20 @@
-//! Makes a picture of pixels, whose colours get registers in the order in which they are first seen.
+//! Makes the parts of a picture of pixels, whose colours get registers in the order in which they are first seen.
 
-ghost use Rattle.std.specs.Prelude.{◌≡◌, ◌≤◌, ◌*◌, ◌&&◌, [], IfErr, IfOk, IfSome, IsTrue, List, None, OnSome, Some};
+ghost use Rattle.std.specs.Prelude.{◌≡◌, ◌≤◌, ◌*◌, ◌&&◌, [], ℕ, IfErr, IfOk, IfSome, IsTrue, List, None, OnSome, Some};
 ghost use Rattle.std.specs.Prelude.{◌≢◌, ◌+◌, ◌-◌, ◌++◌, OnOk, length, map, replicate, slice_get, vec_capacity};
 ghost use Rattle.std.specs.Prelude.{vec_len};
 ghost use Rattle.sixel_model.specs.declared.colour.Parts.{Parts};
-ghost use Rattle.sixel_model.specs.Pictures.{is_side};
+ghost use Rattle.sixel_model.specs.Pictures.{is_side, picture_of_parts};
 ghost use Rattle.sixel_model.specs.Profiles.{count_of};
 ghost use Rattle.sixel_ppm.specs.PpmColours.{Fills, HasRegister, Numbers};
-ghost use Rattle.sixel_ppm.specs.PpmReading.{distinct, picture_of, with_colour};
+ghost use Rattle.sixel_ppm.specs.PpmReading.{with_colour};
 ghost use Rattle.sixel_ppm.specs.PpmSamples.{HoldsPixels};
 ghost use Rattle.sixel_terminal.specs.Screens.{colour_in_ink};
+ghost use Rattle.sixel_mend.specs.Marking.{IsNumbered};
 ghost use Rattle.sixel_mend.specs.Numbering.{AreAll, AreNumbered, IsNumberingFault, KnowsLast};
 
 use crate::mending::MendFault;
-use sixel_model::{Picture, Profile};
+use sixel_model::{Palette, Picture, Profile};
 use sixel_ppm::Numbering;
 use sixel_terminal::Pixel;
 use std::alloc::Global;
@@ -23,6 +24,26 @@ use std::alloc::Global;
 pub(crate) struct Numbered {
     pub pixel: Pixel,
     pub register: u8,
+}
+
+/// The palette of a picture, and the register of each pixel, row by row.
+#[derive(Debug, Drop)]
+pub(crate) struct PictureParts {
+    pub palette: Palette,
+    pub registers: Vec<u8>,
+}
+
+impl PictureParts {
+    /// The picture of this size. The parts are those of some colours, one for each pixel.
+    pub(crate) fn into_picture(self, width: u32, height: u32) -> Picture
+        requires sides { IsTrue (is_side width && is_side height) }
+        requires numbered { (count : ℕ) × (colours : List Parts)
+            × IsNumbered count self.palette self.registers.items colours × (length colours ≡ width * height) }
+        ensures { result ≡ picture_of_parts width height self.palette self.registers.items }
+    {
+        let PictureParts { palette, registers } = self;
+        Picture::of_parts(width, height, palette, registers)
+    }
 }
 
 /// The register of the last pixel, if this one shows the same.
@@ -214,24 +235,19 @@ fn registers_of(
     Ok(registers)
 }
 
-/// The picture of the colours that these pixels show, row by row. `TooManyColours`: there are more different ones than
-/// registers.
-pub(crate) fn picture_of(
+/// The palette and the registers of the colours that these pixels show. `TooManyColours`: there are more different ones
+/// than registers.
+pub(crate) fn parts_of(
     alloc: Global,
     profile: Profile,
-    width: u32,
-    height: u32,
     pixels: &[Pixel],
-) -> Result<Picture, MendFault>
-    requires sides { IsTrue (is_side width && is_side height) }
-    requires whole { length pixels.now ≡ width * height }
-    ensures picture { IfOk result (λ p.
-        p ≡ picture_of (count_of profile) width height (map colour_in_ink pixels.now)) }
-    ensures few { IfOk result (λ p. length (distinct (map colour_in_ink pixels.now)) ≤ count_of profile) }
+) -> Result<PictureParts, MendFault>
+    ensures numbered { IfOk result (λ parts. IsNumbered (count_of profile) parts.palette parts.registers.items
+        (map colour_in_ink pixels.now)) }
     ensures refused { IfErr result (IsNumberingFault (count_of profile) (map colour_in_ink pixels.now)) }
 {
     let mut numbering = Numbering::new(profile);
     let registers = registers_of(alloc, &mut numbering, pixels)?;
     let palette = numbering.into_palette();
-    Ok(Picture::of_parts(width, height, palette, registers))
+    Ok(PictureParts { palette, registers })
 }

@@ -4,7 +4,7 @@ use Rattle.std.proofs.Common.{flat_map, refl, sym, true}
 use Rattle.std.specs.List.{AllByRecursion}
 use Rattle.std.specs.Prelude.{decimal}
 use Rattle.json.specs.Print.{ends, escape, escape_byte, print_from, quoted, token_text}
-use Rattle.json.specs.Token.{end_object}
+use Rattle.json.specs.Token.{boolean, end_object}
 use Rattle.sixel_report.specs.Texts.{Text}
 use Rattle.sixel_messages.specs.declared.names.Spelling.TheVariants.{Quoted}
 use Rattle.sixel_messages.specs.Json.{Member, file_member, json_line, next_member, next_members, number_member}
@@ -21,6 +21,10 @@ pub next_number : (name : Text) (n : ℕ)
     → next_member (number_member name n) ≡ 44 ∷ ((quoted name ++ 58 ∷ []) ++ decimal n)
 unfolding next_member print_from
 next_number name n = ap (λ (t : Text). 44 ∷ ((quoted name ++ 58 ∷ []) ++ t)) (append-nil (decimal n))
+
+pub next_true : (name : Text) → next_member (name, boolean true) ≡ 44 ∷ ((quoted name ++ 58 ∷ []) ++ codes "true")
+unfolding next_member print_from
+next_true name = refl
 
 -- ---- all members
 

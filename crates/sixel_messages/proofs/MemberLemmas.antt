@@ -1,5 +1,5 @@
 -- Each value of the members is one token.
-use Rattle.std.proofs.Common.{◌≡◌, ◌∷◌, ◌++◌, ℕ, [], List, Option, None, Some, refl}
+use Rattle.std.proofs.Common.{◌≡◌, ◌∷◌, ◌++◌, ℕ, Bool, false, true, [], List, Option, None, Some, refl}
 use Rattle.sixel_grammar.specs.declared.fault.Fault.{Fault}
 use Rattle.sixel_model.specs.declared.rule.Rule.{Rule}
 use Rattle.sixel_model.specs.declared.rule.Rule.TheVariants as rule
@@ -16,7 +16,7 @@ use Rattle.sixel_report.specs.declared.item.Item.TheVariants.{Asked, AskedEntry,
 use Rattle.sixel_report.specs.declared.item.Item.TheVariants.{Unmodelled}
 use Rattle.sixel_messages.specs.declared.unopened.Unopened.{Unopened}
 use Rattle.sixel_messages.specs.Json.{Member, answer_members, broken_at, fault_members, item_members, outcome_members}
-use Rattle.sixel_messages.specs.Json.{pixel_members, plain_refusal, unread_members}
+use Rattle.sixel_messages.specs.Json.{pixel_members, plain_refusal, unread_members, wrapped_members}
 use Rattle.sixel_messages.proofs.JsonLemmas.{AllEnd}
 
 pub both_end : (a b : List Member) → AllEnd a → AllEnd b → AllEnd (a ++ b)
@@ -42,13 +42,18 @@ answer_ends (Portable width height) = (refl, (refl, (refl, tt)))
 answer_ends (Broken finding) = (refl, (refl, broken_ends finding.rule finding.place finding.pixel))
 answer_ends (Refused fault) = (refl, (refl, (refl, (refl, tt))))
 
+wrapped_ends : (wrapped : Bool) → AllEnd (wrapped_members wrapped)
+wrapped_ends true = (refl, tt)
+wrapped_ends false = tt
+
 pub item_ends : (item : Item) → AllEnd (item_members item)
 unfolding item_members
 item_ends (Outcome o) = outcome_ends o
 item_ends (Asked f) = (refl, (refl, (refl, (refl, tt))))
 item_ends (Entry e) = (refl, (refl, (refl, broken_ends e.rule e.place e.pixel)))
 item_ends (AskedEntry e) = (refl, (refl, (refl, (refl, (refl, tt)))))
-item_ends (String s) = (refl, answer_ends s.answer)
+item_ends (String s) =
+    (refl, both_end (wrapped_members s.wrapped) (answer_members s.answer) (wrapped_ends s.wrapped) (answer_ends s.answer))
 item_ends (Same width height) = tt
 item_ends (Group g) = tt
 item_ends (Unmodelled named place) = tt

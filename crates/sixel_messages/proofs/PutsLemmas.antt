@@ -1,5 +1,5 @@
 -- On texts that are put in turn.
-use Rattle.std.proofs.Common.{◌+◌, List, [], ◌∷◌, ◌++◌, refl, sym}
+use Rattle.std.proofs.Common.{List, [], ◌∷◌, ◌++◌, refl, sym}
 use Rattle.sixel_io.specs.Devices.{SinkState, change}
 use Rattle.sixel_report.specs.Exits.{IsPut}
 use Rattle.sixel_messages.specs.Puts.{ArePut}

@@ -1,7 +1,7 @@
 -- The lines of `--json`: an object of JSON for each item, each refused input and each file that can't be opened.
-use Rattle.std.specs.Prelude.{◌∷◌, ◌++◌, ℕ, [], List, Option, None, Some, codes, decimal, flat_map}
-use Rattle.json.specs.Print.{escape_byte, print}
-use Rattle.json.specs.Token.{Token, begin_object, end_object, key, null, number, string}
+use Rattle.std.specs.Prelude.{◌∷◌, ◌++◌, ℕ, Bool, false, true, [], List, Option, None, Some, codes, decimal, flat_map}
+use Rattle.json.specs.Print.{escape, print}
+use Rattle.json.specs.Token.{Token, begin_object, boolean, end_object, key, null, number, string}
 use Rattle.sixel_grammar.specs.declared.fault.Fault.{Fault}
 use Rattle.sixel_model.specs.declared.rule.Rule.{Rule as ARule}
 use Rattle.sixel_model.specs.declared.rule.Rule.TheVariants as rule
@@ -29,19 +29,15 @@ use Rattle.sixel_report.specs.Texts.{Text, named_rule_name, ppm_reason_name, rea
 use Rattle.sixel_messages.specs.declared.unopened.Unopened.{Unopened}
 use Rattle.sixel_messages.specs.declared.names.Spelling.{Spelling}
 use Rattle.sixel_messages.specs.declared.names.Spelling.TheVariants.{Printed, Quoted}
-use Rattle.sixel_messages.specs.Names.{printed_byte}
+use Rattle.sixel_printing.specs.Printing.{printed}
 use Rattle.sixel_messages.specs.Unopened.{reason_text}
 
 -- ---- spelling
 
--- how a byte of a name is spelled: for people, or between the quotes of a string of JSON
-abbrev pub spelled_byte : Spelling → ℕ → Text
-spelled_byte Printed byte = printed_byte byte
-spelled_byte Quoted byte = escape_byte byte
-
--- how a name is spelled
+-- how a name is spelled: for people, or between the quotes of a string of JSON
 abbrev pub spelled : Spelling → Text → Text
-spelled spelling name = flat_map (spelled_byte spelling) name
+spelled Printed name = printed name
+spelled Quoted name = escape name
 
 -- ---- objects
 
@@ -161,9 +157,15 @@ answer_members (Portable width height) = size_members width height
 answer_members (Broken finding) = finding_members finding
 answer_members (Refused fault) = refusal_members fault
 
--- a string of a scan: its offset, and its answer
+-- that a string of a scan is wrapped for tmux or GNU Screen, if it is
+abbrev pub wrapped_members : Bool → List Member
+wrapped_members true = (codes "wrapped", boolean true) ∷ []
+wrapped_members false = []
+
+-- a string of a scan: its offset, whether it is wrapped, and its answer
 abbrev pub string_members : Scanned → List Member
-string_members s = number_member (codes "string") s.place ∷ answer_members s.answer
+string_members s =
+    number_member (codes "string") s.place ∷ (wrapped_members s.wrapped ++ answer_members s.answer)
 
 -- what a check, a survey or a scan says; a comparison of terminals has no JSON
 unfoldable pub item_members : Item → List Member

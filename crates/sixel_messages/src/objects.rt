@@ -9,7 +9,7 @@ ghost use Rattle.sixel_messages.specs.Json.{broken_members, entry_members, fault
 ghost use Rattle.sixel_messages.specs.Json.{item_members, json_line, message_member, next_member, next_members};
 ghost use Rattle.sixel_messages.specs.Json.{not_read_members, number_member, object_line, outcome_members};
 ghost use Rattle.sixel_messages.specs.Json.{pixel_members, plain_refusal, refusal_members, refused_at, refused_members};
-ghost use Rattle.sixel_messages.specs.Json.{size_members, string_members, text_member, unread_members};
+ghost use Rattle.sixel_messages.specs.Json.{size_members, string_members, text_member, unread_members, wrapped_members};
 
 use crate::names::{is_plain, put_quoted, quoted_byte};
 use crate::unopened::{Unopened, reason_words};
@@ -25,11 +25,11 @@ use sixel_report::{Item, RunFault, named_rule_name, ppm_reason_name, reason_name
 use sixel_scan::{Answer, Scanned};
 use sixel_survey::Entry;
 
-/// What follows the file in an object, up to the end of its line: at most 1,106 bytes.
-type Rest = ArrayVec<u8, 1106>;
+/// What follows the file in an object, up to the end of its line: at most 1,156 bytes.
+type Rest = ArrayVec<u8, 1156>;
 
 fn push_all(text: &mut Rest, part: &[u8])
-    requires { array_vec_len text.old + length part.now ≤ 1106 }
+    requires { array_vec_len text.old + length part.now ≤ 1156 }
     ensures items { text.new.items ≡ text.old.items ++ part.now }
     ensures len { array_vec_len text.new ≡ array_vec_len text.old + length part.now }
 {
@@ -38,7 +38,7 @@ fn push_all(text: &mut Rest, part: &[u8])
 
 /// A byte as between the quotes of a string.
 fn push_byte(text: &mut Rest, byte: u8)
-    requires { array_vec_len text.old + 6 ≤ 1106 }
+    requires { array_vec_len text.old + 6 ≤ 1156 }
     ensures items { text.new.items ≡ text.old.items ++ escape_byte byte }
     ensures len { array_vec_len text.new ≤ array_vec_len text.old + 6 }
 {
@@ -51,7 +51,7 @@ fn push_byte(text: &mut Rest, byte: u8)
 
 /// A text as between the quotes of a string.
 fn push_escaped(text: &mut Rest, part: &[u8])
-    requires { array_vec_len text.old + 6 * length part.now ≤ 1106 }
+    requires { array_vec_len text.old + 6 * length part.now ≤ 1156 }
     ensures items { text.new.items ≡ text.old.items ++ escape part.now }
     ensures len { array_vec_len text.new ≤ array_vec_len text.old + 6 * length part.now }
 {
@@ -61,7 +61,7 @@ fn push_escaped(text: &mut Rest, part: &[u8])
 }
 
 fn push_string(text: &mut Rest, part: &str)
-    requires { array_vec_len text.old + 6 * length part.now + 2 ≤ 1106 }
+    requires { array_vec_len text.old + 6 * length part.now + 2 ≤ 1156 }
     ensures items { text.new.items ≡ text.old.items ++ quoted part.now }
     ensures len { array_vec_len text.new ≤ array_vec_len text.old + 6 * length part.now + 2 }
 {
@@ -72,7 +72,7 @@ fn push_string(text: &mut Rest, part: &str)
 
 /// The name of a member that isn't the first.
 fn push_name(text: &mut Rest, name: &str)
-    requires { array_vec_len text.old + 6 * length name.now + 4 ≤ 1106 }
+    requires { array_vec_len text.old + 6 * length name.now + 4 ≤ 1156 }
     ensures items { text.new.items ≡ text.old.items ++ 44 ∷ (quoted name.now ++ 58 ∷ []) }
     ensures len { array_vec_len text.new ≤ array_vec_len text.old + 6 * length name.now + 4 }
 {
@@ -84,7 +84,7 @@ fn push_name(text: &mut Rest, name: &str)
 /// A member that is a text.
 fn push_text(text: &mut Rest, name: &str, value: &str)
     requires short { length name.now ≤ 8 }
-    requires room { array_vec_len text.old + 6 * length value.now + 54 ≤ 1106 }
+    requires room { array_vec_len text.old + 6 * length value.now + 54 ≤ 1156 }
     ensures items { text.new.items ≡ text.old.items ++ next_member (text_member name.now value.now) }
     ensures len { array_vec_len text.new ≤ array_vec_len text.old + 6 * length value.now + 54 }
 {
@@ -95,7 +95,7 @@ fn push_text(text: &mut Rest, name: &str, value: &str)
 /// A member that is a number: it has at most 20 digits.
 fn push_number(text: &mut Rest, name: &str, value: u64)
     requires short { length name.now ≤ 8 }
-    requires room { array_vec_len text.old + 72 ≤ 1106 }
+    requires room { array_vec_len text.old + 72 ≤ 1156 }
     ensures items { text.new.items ≡ text.old.items ++ next_member (number_member name.now value) }
     ensures len { array_vec_len text.new ≤ array_vec_len text.old + 72 }
 {
@@ -106,7 +106,7 @@ fn push_number(text: &mut Rest, name: &str, value: u64)
 
 /// What is wrong, in words.
 fn push_message(text: &mut Rest, topic: Topic)
-    requires { array_vec_len text.old + 594 ≤ 1106 }
+    requires { array_vec_len text.old + 594 ≤ 1156 }
     ensures items { text.new.items ≡ text.old.items ++ next_member (message_member topic) }
     ensures len { array_vec_len text.new ≤ array_vec_len text.old + 594 }
 {
@@ -115,7 +115,7 @@ fn push_message(text: &mut Rest, topic: Topic)
 
 /// The column and the row of a pixel, if the rule names one.
 fn push_pixel(text: &mut Rest, rule: Rule, pixel: Option<(u64, u64)>)
-    requires { array_vec_len text.old + 144 ≤ 1106 }
+    requires { array_vec_len text.old + 144 ≤ 1156 }
     ensures items { text.new.items ≡ text.old.items ++ next_members (pixel_members rule pixel) }
     ensures len { array_vec_len text.new ≤ array_vec_len text.old + 144 }
 {
@@ -130,7 +130,7 @@ fn push_pixel(text: &mut Rest, rule: Rule, pixel: Option<(u64, u64)>)
 
 /// Which rule is broken.
 fn push_broken(text: &mut Rest, rule: NamedRule)
-    requires { array_vec_len text.old + 222 ≤ 1106 }
+    requires { array_vec_len text.old + 222 ≤ 1156 }
     ensures items { text.new.items ≡ text.old.items ++ next_members (broken_members rule) }
     ensures len { array_vec_len text.new ≤ array_vec_len text.old + 222 }
 {
@@ -140,7 +140,7 @@ fn push_broken(text: &mut Rest, rule: NamedRule)
 
 /// Where a rule is broken, and what it forbids.
 fn push_broken_at(text: &mut Rest, rule: Rule, place: u64, pixel: Option<(u64, u64)>)
-    requires { array_vec_len text.old + 810 ≤ 1106 }
+    requires { array_vec_len text.old + 810 ≤ 1156 }
     ensures items { text.new.items ≡ text.old.items ++ next_members (broken_at rule place pixel) }
     ensures len { array_vec_len text.new ≤ array_vec_len text.old + 810 }
 {
@@ -150,7 +150,7 @@ fn push_broken_at(text: &mut Rest, rule: Rule, place: u64, pixel: Option<(u64, u
 }
 
 fn push_finding(text: &mut Rest, finding: &Finding)
-    requires { array_vec_len text.old + 1032 ≤ 1106 }
+    requires { array_vec_len text.old + 1032 ≤ 1156 }
     ensures items { text.new.items ≡ text.old.items ++ next_members (finding_members finding.now) }
     ensures len { array_vec_len text.new ≤ array_vec_len text.old + 1032 }
 {
@@ -160,7 +160,7 @@ fn push_finding(text: &mut Rest, finding: &Finding)
 
 /// The same of a rule that a named terminal asks for. None names a pixel.
 fn push_asked_at(text: &mut Rest, rule: AskedRule, place: u64)
-    requires { array_vec_len text.old + 666 ≤ 1106 }
+    requires { array_vec_len text.old + 666 ≤ 1156 }
     ensures items { text.new.items ≡ text.old.items ++ next_members (asked_at rule place) }
     ensures len { array_vec_len text.new ≤ array_vec_len text.old + 666 }
 {
@@ -169,7 +169,7 @@ fn push_asked_at(text: &mut Rest, rule: AskedRule, place: u64)
 }
 
 fn push_asked(text: &mut Rest, finding: &AskedFinding)
-    requires { array_vec_len text.old + 888 ≤ 1106 }
+    requires { array_vec_len text.old + 888 ≤ 1156 }
     ensures items { text.new.items ≡ text.old.items ++ next_members (asked_members finding.now) }
     ensures len { array_vec_len text.new ≤ array_vec_len text.old + 888 }
 {
@@ -179,7 +179,7 @@ fn push_asked(text: &mut Rest, finding: &AskedFinding)
 
 /// The size of a portable picture.
 fn push_size(text: &mut Rest, width: u32, height: u32)
-    requires { array_vec_len text.old + 246 ≤ 1106 }
+    requires { array_vec_len text.old + 246 ≤ 1156 }
     ensures items { text.new.items ≡ text.old.items ++ next_members (size_members width height) }
     ensures len { array_vec_len text.new ≤ array_vec_len text.old + 246 }
 {
@@ -189,7 +189,7 @@ fn push_size(text: &mut Rest, width: u32, height: u32)
 }
 
 fn push_outcome(text: &mut Rest, outcome: &Outcome)
-    requires { array_vec_len text.old + 1032 ≤ 1106 }
+    requires { array_vec_len text.old + 1032 ≤ 1156 }
     ensures items { text.new.items ≡ text.old.items ++ next_members (outcome_members outcome.now) }
     ensures len { array_vec_len text.new ≤ array_vec_len text.old + 1032 }
 {
@@ -200,7 +200,7 @@ fn push_outcome(text: &mut Rest, outcome: &Outcome)
 }
 
 fn push_entry(text: &mut Rest, entry: &Entry)
-    requires { array_vec_len text.old + 1104 ≤ 1106 }
+    requires { array_vec_len text.old + 1104 ≤ 1156 }
     ensures items { text.new.items ≡ text.old.items ++ next_members (entry_members entry.now) }
     ensures len { array_vec_len text.new ≤ array_vec_len text.old + 1104 }
 {
@@ -210,7 +210,7 @@ fn push_entry(text: &mut Rest, entry: &Entry)
 }
 
 fn push_asked_entry(text: &mut Rest, asked: &AskedEntry)
-    requires { array_vec_len text.old + 960 ≤ 1106 }
+    requires { array_vec_len text.old + 960 ≤ 1156 }
     ensures items { text.new.items ≡ text.old.items ++ next_members (asked_entry_members asked.now) }
     ensures len { array_vec_len text.new ≤ array_vec_len text.old + 960 }
 {
@@ -222,7 +222,7 @@ fn push_asked_entry(text: &mut Rest, asked: &AskedEntry)
 /// Why an input is refused: the reason has at most 14 letters.
 fn push_refused(text: &mut Rest, reason: &str)
     requires short { length reason.now ≤ 14 }
-    requires room { array_vec_len text.old + 240 ≤ 1106 }
+    requires room { array_vec_len text.old + 240 ≤ 1156 }
     ensures items { text.new.items ≡ text.old.items ++ next_members (refused_members reason.now) }
     ensures len { array_vec_len text.new ≤ array_vec_len text.old + 240 }
 {
@@ -233,7 +233,7 @@ fn push_refused(text: &mut Rest, reason: &str)
 /// A refusal for this reason at this offset.
 fn push_refused_at(text: &mut Rest, reason: &str, place: u64, topic: Topic)
     requires short { length reason.now ≤ 14 }
-    requires room { array_vec_len text.old + 906 ≤ 1106 }
+    requires room { array_vec_len text.old + 906 ≤ 1156 }
     ensures items { text.new.items ≡ text.old.items ++ next_members (refused_at reason.now place topic) }
     ensures len { array_vec_len text.new ≤ array_vec_len text.old + 906 }
 {
@@ -243,7 +243,7 @@ fn push_refused_at(text: &mut Rest, reason: &str, place: u64, topic: Topic)
 }
 
 fn push_refusal(text: &mut Rest, fault: &Fault)
-    requires { array_vec_len text.old + 906 ≤ 1106 }
+    requires { array_vec_len text.old + 906 ≤ 1156 }
     ensures items { text.new.items ≡ text.old.items ++ next_members (refusal_members fault.now) }
     ensures len { array_vec_len text.new ≤ array_vec_len text.old + 906 }
 {
@@ -252,7 +252,7 @@ fn push_refusal(text: &mut Rest, fault: &Fault)
 }
 
 fn push_answer(text: &mut Rest, answer: &Answer)
-    requires { array_vec_len text.old + 1032 ≤ 1106 }
+    requires { array_vec_len text.old + 1032 ≤ 1156 }
     ensures items { text.new.items ≡ text.old.items ++ next_members (answer_members answer.now) }
     ensures len { array_vec_len text.new ≤ array_vec_len text.old + 1032 }
 {
@@ -263,21 +263,34 @@ fn push_answer(text: &mut Rest, answer: &Answer)
     }
 }
 
+/// That a string of a scan is wrapped, if it is.
+fn push_wrapped(text: &mut Rest, wrapped: bool)
+    requires { array_vec_len text.old + 50 ≤ 1156 }
+    ensures items { text.new.items ≡ text.old.items ++ next_members (wrapped_members wrapped) }
+    ensures len { array_vec_len text.new ≤ array_vec_len text.old + 50 }
+{
+    if wrapped {
+        push_name(text, "wrapped");
+        push_all(text, b"true");
+    }
+}
+
 /// A string of a scan.
 fn push_scanned(text: &mut Rest, scanned: &Scanned)
-    requires { array_vec_len text.old + 1104 ≤ 1106 }
+    requires { array_vec_len text.old + 1154 ≤ 1156 }
     ensures items { text.new.items ≡ text.old.items ++ next_members (string_members scanned.now) }
-    ensures len { array_vec_len text.new ≤ array_vec_len text.old + 1104 }
+    ensures len { array_vec_len text.new ≤ array_vec_len text.old + 1154 }
 {
     push_number(text, "string", scanned.place);
+    push_wrapped(text, scanned.wrapped);
     push_answer(text, &scanned.answer);
 }
 
 #[tactic(auto, unfolding(crate::specs::Json::item_members))]
 fn push_item(text: &mut Rest, item: &Item)
-    requires { array_vec_len text.old + 1104 ≤ 1106 }
+    requires { array_vec_len text.old + 1154 ≤ 1156 }
     ensures items { text.new.items ≡ text.old.items ++ next_members (item_members item.now) }
-    ensures len { array_vec_len text.new ≤ array_vec_len text.old + 1104 }
+    ensures len { array_vec_len text.new ≤ array_vec_len text.old + 1154 }
 {
     match item {
         Item::Outcome(outcome) => push_outcome(text, outcome),
@@ -292,7 +305,7 @@ fn push_item(text: &mut Rest, item: &Item)
 
 /// Not read for this reason.
 fn push_not_read(text: &mut Rest, reason: &str)
-    requires room { array_vec_len text.old + 6 * length reason.now + 750 ≤ 1106 }
+    requires room { array_vec_len text.old + 6 * length reason.now + 750 ≤ 1156 }
     ensures items { text.new.items ≡ text.old.items ++ next_members (not_read_members reason.now) }
     ensures len { array_vec_len text.new ≤ array_vec_len text.old + 6 * length reason.now + 750 }
 {
@@ -303,7 +316,7 @@ fn push_not_read(text: &mut Rest, reason: &str)
 
 /// A refusal with no offset.
 fn push_plain_refusal(text: &mut Rest, topic: Topic)
-    requires { array_vec_len text.old + 906 ≤ 1106 }
+    requires { array_vec_len text.old + 906 ≤ 1156 }
     ensures items { text.new.items ≡ text.old.items ++ next_members (plain_refusal topic) }
     ensures len { array_vec_len text.new ≤ array_vec_len text.old + 906 }
 {
@@ -314,7 +327,7 @@ fn push_plain_refusal(text: &mut Rest, topic: Topic)
 /// Why an input is refused, or that it couldn't be read.
 #[tactic(auto, unfolding(crate::specs::Json::fault_members))]
 fn push_fault(text: &mut Rest, fault: &RunFault)
-    requires { array_vec_len text.old + 906 ≤ 1106 }
+    requires { array_vec_len text.old + 906 ≤ 1156 }
     ensures items { text.new.items ≡ text.old.items ++ next_members (fault_members fault.now) }
     ensures len { array_vec_len text.new ≤ array_vec_len text.old + 906 }
 {
@@ -330,7 +343,7 @@ fn push_fault(text: &mut Rest, fault: &RunFault)
 
 /// Writes an object of the file with this label and of what follows it, on a line of its own.
 fn put_object<K: Sink>(label: Option<&str>, rest: &mut Rest, out: &mut K) -> Result<(), DeviceFault>
-    requires { array_vec_len rest.old + 2 ≤ 1106 }
+    requires { array_vec_len rest.old + 2 ≤ 1156 }
     ensures { Writes result (K.state out.old) (K.state out.new)
         (object_line (option_copied label.entry) rest.old.items) }
 {

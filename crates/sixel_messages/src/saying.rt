@@ -39,10 +39,14 @@ fn is_of_empty(fault: &RunFault) -> bool
     }
 }
 
-/// How to convert an input of this format, if it was refused within the magic number; otherwise nothing.
+/// What is said of an input without bytes.
+const EMPTY: &str = "sixel: the input is empty\n";
+
+/// How to convert an input of this format, if it was refused within the magic number. For a scan without a string: that
+/// the input is empty, if it is. Otherwise nothing.
 fn format_advice(format: Option<Format>, fault: &RunFault) -> &'static str
     ensures text { result.now ≡ format_advice format fault.now }
-    ensures short { length result.now ≤ 116 }
+    ensures short { length result.now ≤ 125 }
 {
     match (format, fault) {
         (
@@ -61,6 +65,7 @@ fn format_advice(format: Option<Format>, fault: &RunFault) -> &'static str
                 },
             ),
         ) if *place <= 1 => sixel_advice(format),
+        (Some(Format::Empty), RunFault::NoString) => EMPTY,
         _ => "",
     }
 }
@@ -68,10 +73,10 @@ fn format_advice(format: Option<Format>, fault: &RunFault) -> &'static str
 /// What follows the line of a fault: that the input is empty, or how to convert it.
 fn advice(format: Option<Format>, fault: &RunFault) -> &'static str
     ensures text { result.now ≡ advice_on format fault.now }
-    ensures short { length result.now ≤ 116 }
+    ensures short { length result.now ≤ 125 }
 {
     if is_of_empty(fault) {
-        "sixel: the input is empty\n"
+        EMPTY
     } else {
         format_advice(format, fault)
     }

@@ -33,6 +33,7 @@ use Rattle.sixel_report.specs.declared.task.Task.TheVariants as task
 use Rattle.sixel_report.specs.declared.task.Task.TheVariants.{Check}
 use Rattle.sixel_report.specs.Exits.{IsPut, exit_for_answer}
 use Rattle.sixel_messages.specs.Formats.{IsFormat}
+use Rattle.sixel_messages.specs.declared.formats.Format.TheVariants.{Empty}
 use Rattle.sixel_program.specs.Files.{AreChecked, FileEnd, FilesEnd, IsChecked, IsFileEnd, AreCut, IsFileOpening}
 use Rattle.sixel_program.specs.Files.{IsFinished, IsRead, causes_among, complaints_of, failed_among, exit_of_end}
 use Rattle.sixel_program.specs.Files.{files_exit, files_text, is_dash, labels_for, labels_of, said_of, text_of_end}
@@ -287,7 +288,12 @@ module _ (t : Task) (q : Lines) {O : Type 0} (folder : FolderView O) (ends : Lis
 -- no format is that of no bytes
 pub no_format : (told : Option (List ℕ)) → IsFormat told None
 no_format None = tt
-no_format (Some bytes) = ([], (bytes, refl), refl)
+no_format (Some bytes) = inl ([], (bytes, refl), refl)
+
+-- an input without bytes has the format that says so
+pub empty_format : (told : Option (List ℕ)) → IfSome told (λ bytes. bytes ≡ []) → IsFormat told (Some Empty)
+empty_format None none = tt
+empty_format (Some bytes) none = inr (none, refl)
 
 pub memory_kept : (t : Task) (told has : Option (List ℕ)) → Keeps told has → TakesMemory t has → TakesMemory t told
 memory_kept task.List told has same takes = absurd takes

@@ -1,13 +1,13 @@
 -- What an input has left that gives its prefix again.
 use Rattle.std.proofs.Common.{◌≡◌, ◌∙◌, ◌≤◌, ◌<◌, ◌+◌, ◌++◌, ℕ, List, Option, Some, None, ap, append_assoc, arith, drop}
-use Rattle.std.proofs.Common.{[], ◌∷◌, false, length, min, subst, sym, take, true}
+use Rattle.std.proofs.Common.{[], ◌∷◌, IfSome, false, inl, length, min, subst, sym, take, true}
 use Rattle.std.specs.Prelude.{◌==◌}
 use Rattle.std.specs.Io.KnownBytes.{Consumes, IsAtEnd, Keeps, prepend_known}
 use Rattle.sixel_messages.specs.declared.formats.Format.{Format}
 use Rattle.sixel_program.specs.declared.peeked.After.{After}
 use Rattle.sixel_program.specs.declared.peeked.After.TheVariants.{Rest, Failure, End}
 use Rattle.sixel_messages.specs.Formats.{IsFormat, format_of}
-use Rattle.sixel_program.specs.Peeked.{failures_of_source}
+use Rattle.sixel_program.specs.Peeked.{after_prefix, failures_of_source}
 use Rattle.std.proofs.Math.Seq.{drop-drop, take-append_seam}
 use Rattle.std.proofs.lemmas.List.{length-take-le, take-append-drop}
 
@@ -50,7 +50,16 @@ pub format_told : (told rest : Option (List ℕ)) (waits seen : List ℕ) (forma
 format_told None rest waits seen format same are is = tt
 format_told (Some bytes) None waits seen format same are is = absurd same
 format_told (Some bytes) (Some more) waits seen format same are is =
-    (waits, (more, sym same), is ∙ ap format_of are)
+    inl (waits, (more, sym same), is ∙ ap format_of are)
+
+-- an input that waits with nothing, and has then come to its end, had no bytes
+pub none_told : (told left : Option (List ℕ)) (after : After) (waits : List ℕ) → after ≡ End → waits ≡ []
+    → Keeps told (prepend_known waits (after_prefix after left)) → IfSome told (λ bytes. bytes ≡ [])
+none_told None left after waits ended none same = tt
+none_told (Some bytes) left after waits ended none same =
+    let at_end : Keeps (Some bytes) (prepend_known waits (Some [])) =
+    subst (λ (a : After). Keeps (Some bytes) (prepend_known waits (after_prefix a left))) ended same in
+    sym (subst (λ (w : List ℕ). Keeps (Some bytes) (prepend_known w (Some []))) none at_end)
 
 -- if the input has had a failure, so has its source
 pub source_failed : (after : After) (failures of_source : ℕ) → of_source ≡ failures_of_source after failures

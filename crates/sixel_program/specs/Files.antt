@@ -34,7 +34,7 @@ use Rattle.sixel_report.specs.Texts.{Text, fault_line, items_text}
 use Rattle.sixel_report.specs.declared.wanted_lines.Lines.{Lines}
 use Rattle.sixel_report.specs.declared.wanted_lines.Lines.TheVariants.{Plain}
 use Rattle.sixel_program.specs.Counts.{count_of, has_failed}
-use Rattle.sixel_report.specs.Lines.{all_of, is_quiet}
+use Rattle.sixel_report.specs.Lines.{all_of, is_json, is_quiet}
 use Rattle.sixel_messages.specs.declared.shown.Shown.{Shown}
 use Rattle.sixel_messages.specs.Puts.{ArePut}
 use Rattle.sixel_messages.specs.Reports.{name_of, written_for, refusal_text, said_of_file}
@@ -242,11 +242,15 @@ failed_among ends = count_by (λ e. has_failed e.answer) ends
 abbrev pub wrapped_among : List FileEnd → Bool
 wrapped_among ends = list_any (λ e. has_wrapped e.answer) ends
 
+-- whether notes are written. In JSON the object of a string says that it is wrapped
+abbrev pub has_notes : Lines → Shown → Bool
+has_notes lines shown = shown.notes && not (is_json lines)
+
 -- the last messages, after so many inputs of which so many failed: the hints on what was found wrong, the note on
 -- wrapped strings, and the line that counts the inputs
 abbrev pub closing : Task → Lines → Shown → List Cause → Bool → ℕ → ℕ → List Text
 closing t lines shown causes wrapped failed all =
-    hints_of t (hinted lines shown causes) ++ wrapped_line shown.notes wrapped
+    hints_of t (hinted lines shown causes) ++ wrapped_line (has_notes lines shown) wrapped
     ∷ count_of t lines shown.is_terminal failed all ∷ []
 
 abbrev pub labels_of : List FileEnd → List (Option Text)

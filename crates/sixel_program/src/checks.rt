@@ -7,7 +7,7 @@ ghost use Rattle.std.specs.String.{string_bytes};
 ghost use Rattle.sixel_io.specs.Devices.{CountsFailure, change};
 ghost use Rattle.sixel_report.specs.Exits.{IsPut};
 ghost use Rattle.sixel_program.specs.Files.{FilesEnd, IsChecked, IsFinished, IsNamedEnd, is_dash, labels_for};
-ghost use Rattle.sixel_program.specs.Files.{reads_input, worse};
+ghost use Rattle.sixel_program.specs.Files.{has_notes, reads_input, worse};
 ghost use Rattle.sixel_messages.specs.Reports.{name_of, written_for};
 ghost use Rattle.sixel_report.specs.Lines.{is_quiet};
 ghost use Rattle.sixel_messages.specs.Formats.{IsFormat};
@@ -25,7 +25,7 @@ use sixel_messages::{
     say_unopened,
 };
 use sixel_report::{
-    Exit, Lines, Plain, RunFault, Status, Task, code_of, exit_of, is_quiet, write_fault,
+    Exit, Lines, Plain, RunFault, Status, Task, code_of, exit_of, is_json, is_quiet, write_fault,
 };
 use sixel_run::write_lines;
 use std::alloc::Global;
@@ -37,18 +37,23 @@ fn scans(task: &Task) -> bool
     matches!(task, Task::Scan { .. })
 }
 
-/// The format of the input of a task, told by its first bytes. A scan has no use for it, and doesn't look: a string may
-/// end in these bytes, and its line is written before more are read.
+/// The format of the input of a task, told by its first bytes. A scan only asks whether there is one: a string may end
+/// in these bytes, and its line is written before more are read.
 fn format_for<S: Source>(task: &Task, input: &mut Peeked<S>) -> Option<Format>
     ensures told { Keeps (⟦<Peeked<S> as Source>⟧.state input.old).remaining
         (⟦<Peeked<S> as Source>⟧.state input.new).remaining }
     ensures failures { (⟦<Peeked<S> as Source>⟧.state input.new).failures
         ≡ (⟦<Peeked<S> as Source>⟧.state input.old).failures }
     ensures format { IsFormat (⟦<Peeked<S> as Source>⟧.state input.old).remaining result }
-    ensures unread { scans task.now ≡ true → input.new ≡ input.old }
 {
-    let is_scan = scans(task);
-    if is_scan { None } else { input.format() }
+    if !scans(task) {
+        return input.format();
+    }
+    if input.is_empty() {
+        Some(Format::Empty)
+    } else {
+        None
+    }
 }
 
 /// Writes what is found in the input with this label, or without one; nothing if the task is quiet.
@@ -200,6 +205,13 @@ struct Found {
     all: usize,
 }
 
+/// Whether notes are written. In JSON the object of a string says that it is wrapped.
+fn has_notes(lines: Lines, shown: Shown) -> bool
+    ensures { result ≡ has_notes lines shown }
+{
+    shown.notes && !is_json(lines)
+}
+
 /// Ends a check, a survey or a scan that found this: flushes the output, and writes the last messages.
 fn finish<K: Sink, E: Sink>(
     task: &Task,
@@ -215,7 +227,7 @@ fn finish<K: Sink, E: Sink>(
     match flush_verdicts(lines, output) {
         Ok(()) => {
             put_hints(task, lines, shown, found.causes.as_slice(), errors);
-            put_wrapped(shown.notes, found.wrapped, errors);
+            put_wrapped(has_notes(lines, shown), found.wrapped, errors);
             put_count(
                 task,
                 lines,

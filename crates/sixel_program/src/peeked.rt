@@ -1,6 +1,6 @@
 //! Inputs whose first bytes can be looked at before they are read.
 
-ghost use Rattle.std.specs.Prelude.{◌≡◌, ◌<◌, ◌≤◌, ◌+◌, ◌++◌, [], ℕ, IfOk, List, drop, length};
+ghost use Rattle.std.specs.Prelude.{◌≡◌, ◌<◌, ◌≤◌, ◌+◌, ◌++◌, [], ℕ, IfOk, IfSome, List, drop, length, true};
 ghost use Rattle.std.specs.Io.KnownBytes.{Consumes, Keeps, ReadConsumes};
 ghost use Rattle.sixel_io.specs.Devices.{CountsFailure};
 ghost use Rattle.sixel_messages.specs.Formats.{IsFormat};
@@ -66,6 +66,36 @@ impl<S: Source> Peeked<S> {
     {
         self.look();
         format_of(self.waiting())
+    }
+
+    /// Whether the input has no bytes. It reads once if nothing has been read yet, so it waits no longer than the task
+    /// itself would.
+    pub fn is_empty(&mut self) -> bool
+        ensures told { Keeps (⟦<Peeked<S> as Source>⟧.state self.old).remaining
+            (⟦<Peeked<S> as Source>⟧.state self.new).remaining }
+        ensures failures { (⟦<Peeked<S> as Source>⟧.state self.new).failures
+            ≡ (⟦<Peeked<S> as Source>⟧.state self.old).failures }
+        ensures empty { result ≡ true → IfSome (⟦<Peeked<S> as Source>⟧.state self.old).remaining (λ bytes. bytes ≡ []) }
+    {
+        self.look_once();
+        matches!(self.after, After::End) && self.waiting().is_empty()
+    }
+
+    /// Reads once, if nothing has been read yet.
+    fn look_once(&mut self)
+        ensures told { Keeps (⟦<Peeked<S> as Source>⟧.state self.old).remaining
+            (⟦<Peeked<S> as Source>⟧.state self.new).remaining }
+        ensures failures { self.new.failures ≡ self.old.failures }
+    {
+        match self.after {
+            After::Rest if self.prefix.is_empty() => {
+                let mut prefix = ArrayVec::new();
+                self.after = read_more(&mut self.rest, &mut prefix);
+                self.prefix = prefix;
+                self.given = 0;
+            }
+            _ => {}
+        }
     }
 
     /// Reads the first bytes, if nothing has been read yet.

@@ -31,7 +31,8 @@ AllHave members = AllByRecursion (λ (member : Member). IsValue member.1) member
 printable : (t : Token) → IsValue t → IsPrintable t
 printable t (inl nothing) = subst IsPrintable (sym nothing) tt
 printable t (inr (inl text)) = subst IsPrintable (sym text.1) tt
-printable t (inr (inr n)) = subst IsPrintable (sym n.2) (IsNumber-decimal n.0 n.1)
+printable t (inr (inr (inl n))) = subst IsPrintable (sym n.2) (IsNumber-decimal n.0 n.1)
+printable t (inr (inr (inr is))) = subst IsPrintable (sym is) tt
 
 all_printable : (ms : List Member) → AllHave ms → ArePrintable (flat_map tokens_of ms ++ end_object ∷ [])
 unfolding ArePrintable
@@ -56,7 +57,8 @@ reads_back ms front h is =
 one_token : (t : Token) → IsValue t → json_tokens (value_of t) ≡ t ∷ []
 one_token t (inl nothing) = subst (λ u. json_tokens (value_of u) ≡ u ∷ []) (sym nothing) refl
 one_token t (inr (inl text)) = subst (λ u. json_tokens (value_of u) ≡ u ∷ []) (sym text.1) refl
-one_token t (inr (inr n)) = subst (λ u. json_tokens (value_of u) ≡ u ∷ []) (sym n.2) refl
+one_token t (inr (inr (inl n))) = subst (λ u. json_tokens (value_of u) ≡ u ∷ []) (sym n.2) refl
+one_token t (inr (inr (inr is))) = subst (λ u. json_tokens (value_of u) ≡ u ∷ []) (sym is) refl
 
 members_tokened : (ms : List Member) → AllHave ms
     → members_tokens (members_of ms) ≡ flat_map tokens_of ms ++ end_object ∷ []
@@ -68,7 +70,8 @@ members_tokened (m ∷ ms) h =
 numbered : (t : Token) → IsValue t → HasNumbers (value_of t)
 numbered t (inl nothing) = subst (λ u. HasNumbers (value_of u)) (sym nothing) tt
 numbered t (inr (inl text)) = subst (λ u. HasNumbers (value_of u)) (sym text.1) tt
-numbered t (inr (inr n)) = subst (λ u. HasNumbers (value_of u)) (sym n.2) (IsNumber-decimal n.0 n.1)
+numbered t (inr (inr (inl n))) = subst (λ u. HasNumbers (value_of u)) (sym n.2) (IsNumber-decimal n.0 n.1)
+numbered t (inr (inr (inr is))) = subst (λ u. HasNumbers (value_of u)) (sym is) tt
 
 all_numbered : (ms : List Member) → AllHave ms → MembersHaveNumbers (members_of ms)
 all_numbered [] h = tt
@@ -77,7 +80,8 @@ all_numbered (m ∷ ms) h = (numbered m.1 h.0, all_numbered ms h.1)
 flat : (t : Token) → IsValue t → depth (value_of t) ≡ 0
 flat t (inl nothing) = subst (λ u. depth (value_of u) ≡ 0) (sym nothing) refl
 flat t (inr (inl text)) = subst (λ u. depth (value_of u) ≡ 0) (sym text.1) refl
-flat t (inr (inr n)) = subst (λ u. depth (value_of u) ≡ 0) (sym n.2) refl
+flat t (inr (inr (inl n))) = subst (λ u. depth (value_of u) ≡ 0) (sym n.2) refl
+flat t (inr (inr (inr is))) = subst (λ u. depth (value_of u) ≡ 0) (sym is) refl
 
 all_flat : (ms : List Member) → AllHave ms → members_depth (members_of ms) ≤ 0
 all_flat [] h = omega arith
@@ -141,8 +145,10 @@ digits_clean (x ∷ text) d = (ne_eqb x 10 (λ e. omega arith), digits_clean tex
 value_clean : (t : Token) → IsValue t → Clean (token_text t)
 value_clean t (inl nothing) = subst (λ u. Clean (token_text u)) (sym nothing) (refl, (refl, (refl, (refl, tt))))
 value_clean t (inr (inl text)) = subst (λ u. Clean (token_text u)) (sym text.1) (quoted_clean text.0)
-value_clean t (inr (inr n)) =
+value_clean t (inr (inr (inl n))) =
     subst (λ u. Clean (token_text u)) (sym n.2) (digits_clean (decimal n.0) (number_digits n.0))
+value_clean t (inr (inr (inr is))) =
+    subst (λ u. Clean (token_text u)) (sym is) (refl, (refl, (refl, (refl, tt))))
 
 comma_clean : (b : Bool) → Clean (cond b (44 ∷ []) [])
 comma_clean true = (refl, tt)

@@ -1,5 +1,5 @@
 -- Each member has a value that reads back.
-use Rattle.std.proofs.Common.{◌∷◌, ◌++◌, ◌<◌, ◌^◌, ℕ, [], List, Option, None, Some, inl, inr, refl}
+use Rattle.std.proofs.Common.{◌∷◌, ◌++◌, ◌<◌, ◌^◌, ℕ, [], Bool, false, true, List, Option, None, Some, inl, inr, refl}
 use Rattle.std.proofs.lemmas.List.Elements.{All-from_recursion}
 use Rattle.std.specs.List.{AllByRecursion}
 use Rattle.std.specs.Prelude.{decimal}
@@ -19,7 +19,7 @@ use Rattle.sixel_report.specs.declared.item.Item.TheVariants.{Unmodelled}
 use Rattle.sixel_messages.specs.declared.unopened.Unopened.{Unopened}
 use Rattle.sixel_program_laws.specs.Laws.{FitsAnswer, FitsFault, FitsItem, FitsOutcome, FitsPixel, HaveValues, IsValue}
 use Rattle.sixel_messages.specs.Json.{Member, answer_members, broken_at, fault_members, file_member, item_members}
-use Rattle.sixel_messages.specs.Json.{outcome_members, pixel_members, unread_members}
+use Rattle.sixel_messages.specs.Json.{outcome_members, pixel_members, unread_members, wrapped_members}
 
 abbrev Has : Member → Type 0
 Has member = IsValue member.1
@@ -31,7 +31,7 @@ a_text : (text : Text) → IsValue (string text)
 a_text text = inr (inl (text, refl))
 
 a_number : (n : ℕ) → n < 2 ^ 64 → IsValue (number (decimal n))
-a_number n small = inr (inr (n, small, refl))
+a_number n small = inr (inr (inl (n, small, refl)))
 
 both_have : (a b : List Member) → AllHave a → AllHave b → AllHave (a ++ b)
 both_have [] b h k = k
@@ -61,6 +61,10 @@ answer_has (Broken finding) fits =
     (a_text _, (a_text _, broken_has finding.rule finding.place finding.pixel fits.0 fits.1))
 answer_has (Refused fault) fits = (a_text _, (a_text _, (a_number fault.place fits, (a_text _, tt))))
 
+wrapped_has : (wrapped : Bool) → AllHave (wrapped_members wrapped)
+wrapped_has true = (inr (inr (inr refl)), tt)
+wrapped_has false = tt
+
 item_has : (item : Item) → FitsItem item → AllHave (item_members item)
 unfolding item_members
 item_has (Outcome o) fits = outcome_has o fits
@@ -69,7 +73,11 @@ item_has (Entry e) fits =
     (a_text _, (a_text _, (a_number e.count fits.0, broken_has e.rule e.place e.pixel fits.1 fits.2)))
 item_has (AskedEntry e) fits =
     (a_text _, (a_text _, (a_number e.count fits.0, (a_number e.place fits.1, (a_text _, tt)))))
-item_has (String s) fits = (a_number s.place fits.0, answer_has s.answer fits.1)
+item_has (String s) fits = (
+  a_number s.place fits.0,
+  both_have (wrapped_members s.wrapped) (answer_members s.answer) (wrapped_has s.wrapped)
+      (answer_has s.answer fits.1),
+)
 item_has (Same width height) fits = tt
 item_has (Group g) fits = tt
 item_has (Unmodelled named place) fits = tt

@@ -1,8 +1,8 @@
 -- What the laws say.
-use Rattle.std.specs.Prelude.{◌≡◌, ◌⊎◌, ◌<◌, ◌-◌, ◌^◌, ◌∷◌, ℕ, [], List, Option, ⊤, IfSome, All, decimal}
+use Rattle.std.specs.Prelude.{◌≡◌, ◌⊎◌, ◌<◌, ◌-◌, ◌^◌, ◌∷◌, ℕ, [], List, Option, ⊤, IfSome, All, decimal, true}
 use Rattle.json.specs.Json as json
 use Rattle.json.specs.Json.{Json, Members}
-use Rattle.json.specs.Token.{Token, null, number, string}
+use Rattle.json.specs.Token.{Token, boolean, null, number, string}
 use Rattle.sixel_judge.specs.declared.verdict.Finding.{Finding}
 use Rattle.sixel_judge.specs.declared.verdict.Outcome.{Outcome as AnOutcome}
 use Rattle.sixel_judge.specs.declared.verdict.Outcome.TheVariants as outcome
@@ -21,10 +21,11 @@ use Rattle.sixel_messages.specs.Json.{Member}
 
 -- ---- reading back
 
--- the value is nothing, a text, or the decimal digits of a number below 2 ^ 64
+-- the value is nothing, a text, the decimal digits of a number below 2 ^ 64, or `true`
 abbrev pub IsValue : Token → Type 0
 IsValue token =
     (token ≡ null) ⊎ ((text : Text) × (token ≡ string text)) ⊎ ((n : ℕ) × (n < 2 ^ 64) × (token ≡ number (decimal n)))
+    ⊎ (token ≡ boolean true)
 
 abbrev pub HaveValues : List Member → Type 0
 HaveValues members = All (λ member. IsValue member.1) members
@@ -33,6 +34,7 @@ HaveValues members = All (λ member. IsValue member.1) members
 abbrev pub value_of : Token → Json
 value_of (string s) = json.string s
 value_of (number s) = json.number s
+value_of (boolean b) = json.boolean b
 value_of _ = json.null
 
 -- and the members

@@ -34,7 +34,7 @@ ghost use Rattle.sixel_report.specs.declared.wanted_lines.Lines.TheVariants.{Jso
 ghost use Rattle.sixel_messages.specs.Json.{Member, fault_members, file_member, item_members, json_line, object};
 ghost use Rattle.sixel_messages.specs.Json.{unread_members};
 ghost use Rattle.sixel_messages.specs.Formats.{is_of_empty};
-ghost use Rattle.sixel_messages.specs.Names.{is_control, printed};
+ghost use Rattle.sixel_printing.specs.Printing.{printed};
 ghost use Rattle.sixel_report.specs.declared.item.Item.{Item};
 ghost use Rattle.sixel_run.specs.Outputs.{Gives};
 ghost use Rattle.sixel_report.specs.Texts.{IsLine, Text, item_line, items_text};
@@ -76,16 +76,9 @@ pub fn several_files_are_checked_one_by_one()
     ensures said { (texts : List Text) (sink : Change SinkState) → ArePut texts sink → IsSaid (concat texts) sink }
 {}
 
-/// A file name is printed without control characters, so it can't end a line. A name that has none is printed as it is.
-pub fn names_are_printed_without_controls()
-    ensures clean { (name : Text) → All (λ byte. byte < 256) name → All (λ byte. is_control byte ≡ false)
-        (printed name) }
-    ensures plain { (name : Text) → All (λ byte. is_control byte ≡ false) name → printed name ≡ name }
-{}
-
 /// An object of JSON is written as one line, whatever the file's name. What comes before the line feed reads back as the
-/// tokens of the object, and as the object itself. This holds if each value is nothing, a text or the decimal digits of
-/// a number below 2^64, as it is in the objects of an item, of a fault and of a file that can't be opened.
+/// tokens of the object, and as the object itself. This holds if each value is nothing, a text, the decimal digits of a
+/// number below 2^64, or true, as it is in the objects of an item, of a fault and of a file that can't be opened.
 pub fn json_lines_read_back()
     ensures line { (members : List Member) → HaveValues members → IsLine (json_line members) }
     ensures read { (members : List Member) (front : Text) → HaveValues members →

@@ -1,4 +1,4 @@
-//! Laws of the program: of several files, of lines of JSON, of empty inputs and of printed names.
+//! Laws of the program: of several files, of lines of JSON and of empty inputs.
 #![tactic(auto)]
 
 pub mod laws;

@@ -115,8 +115,8 @@ pub enum Task {
 /// What may surprise in a task that is done.
 #[derive(Clone, Copy, Debug, PartialEq, Eq)]
 pub enum Note {
-    /// All pixels of a mended picture have one colour.
-    OneColour,
+    /// As many painted pixels of a mended picture as this look like those that aren't painted.
+    Hidden { pixels: u32 },
     /// A string to show names a register that the profile of 16 doesn't have.
     HighRegister,
     /// A string of a stream stands in the pass-through of tmux or GNU Screen.

@@ -20,8 +20,10 @@ use Rattle.sixel_ppm.specs.PpmReading.{distinct, picture_of}
 use Rattle.sixel_encode.specs.Canon.{canon_text}
 use Rattle.sixel_mend.specs.declared.mending.MendFault.{MendFault}
 use Rattle.sixel_mend.specs.declared.mending.MendFault.TheVariants as mend
+use Rattle.sixel_mend.specs.declared.mending.Mended.{Mended}
 use Rattle.sixel_mend.specs.declared.mending.Mending.{Mending}
-use Rattle.sixel_mend.specs.Mended.{Mends, MendsEvents, mended, mended_colours}
+use Rattle.sixel_mend.specs.Mended.{Mends, MendsEvents, MendsNoting, mended, mended_colours}
+use Rattle.sixel_mend.specs.Painted.{hidden_pixels}
 use Rattle.sixel_mend.proofs.SizeLemmas.{one_size, some_size}
 use Rattle.sixel_report.specs.declared.fault.RunFault.{RunFault}
 use Rattle.sixel_report.specs.declared.fault.RunFault.TheVariants.{Grammar, Empty, TooLarge, TooManyColours}
@@ -37,23 +39,21 @@ use Rattle.sixel_report.specs.Texts.{Text}
 
 -- ---- at most one output
 
--- mending gives one answer
-mended_once : (registers : ℕ) (m : Mending) (events : List Event) (a b : Result PictureValue MendFault)
-    → MendsEvents registers m events a → MendsEvents registers m events b → a ≡ b
-mended_once registers m events a b p q =
-    let same = one_size m events p.0 p.1 q.0 q.1 p.2 q.2 in
-    p.3 ∙ ap₂ (mended registers m events) same.0 same.1 ∙ sym q.3
+-- what a run writes and answers for these events in this size
+abbrev output_in : ℕ → Mending → List Event → ℕ → ℕ → Text × Result Status RunFault
+output_in registers m events w h = mend_output (mended registers m events w h) (hidden_pixels m events w h)
 
--- the output of a document is that of what mending gives for it
-of_document : (registers : ℕ) (m : Mending) (bytes : List ℕ) (d : List Placed) (w : Result PictureValue MendFault)
-    → Document d bytes → MendsEvents registers m (events_of d) w
-    → (text : Text) (answer : Result Status RunFault) → MendGives registers m bytes text answer
-    → (text, answer) ≡ mend_output w
-of_document registers m bytes d w doc is text (Err (Grammar f)) g = absurd (fault_no_document bytes f g.1 (d, doc))
-of_document registers m bytes d w doc is text answer g =
+-- the output of a document is that of its events in their size
+of_document : (registers : ℕ) (m : Mending) (bytes : List ℕ) (d : List Placed) (w h : ℕ) → Document d bytes
+    → IsSize m (events_of d) w h → (text : Text) (answer : Result Status RunFault)
+    → MendGives registers m bytes text answer → (text, answer) ≡ output_in registers m (events_of d) w h
+of_document registers m bytes d w h doc is text (Err (Grammar f)) g = absurd (fault_no_document bytes f g.1 (d, doc))
+of_document registers m bytes d w h doc is text answer g =
     let same : g.0 ≡ d = document_once bytes g.0 d g.1 doc in
-    let there = subst (λ (l : List Placed). MendsEvents registers m (events_of l) g.2.0) same g.2.1 in
-    g.2.2 ∙ ap mend_output (mended_once registers m (events_of d) g.2.0 w there is)
+    let there = subst (λ (l : List Placed). IsSize m (events_of l) g.2.0 g.2.1) same g.2.2 in
+    let sides = one_size m (events_of d) g.2.0 g.2.1 w h there is in
+    g.2.3 ∙ ap (λ (l : List Placed). output_in registers m (events_of l) g.2.0 g.2.1) same
+    ∙ ap₂ (λ (x y : ℕ). output_in registers m (events_of d) x y) sides.0 sides.1
 
 -- the output of bytes that are no document
 of_fault : (registers : ℕ) (m : Mending) (bytes : List ℕ) (f : Fault) → IsFaultOf bytes f
@@ -62,12 +62,6 @@ of_fault : (registers : ℕ) (m : Mending) (bytes : List ℕ) (f : Fault) → Is
 of_fault registers m bytes f is text (Err (Grammar e)) g =
     (g.0, ap (λ (k : Fault). Err (Grammar k)) (fault_once bytes e f g.1 is))
 of_fault registers m bytes f is text answer g = absurd (fault_no_document bytes f is (g.0, g.1))
-
--- the answer of mending for the events of a document
-answer_for : (registers : ℕ) (m : Mending) (events : List Event)
-    → (w : Result PictureValue MendFault) × MendsEvents registers m events w
-answer_for registers m events =
-    let s = some_size m events in (mended registers m events s.0 s.1, (s.0, s.1, s.2, refl))
 
 same_parts : (first second : Text) (a b : Result Status RunFault) (output : Text × Result Status RunFault)
     → (first, a) ≡ output → (second, b) ≡ output → (first ≡ second) × (a ≡ b)
@@ -79,10 +73,10 @@ pub mend-once : (registers : ℕ) (m : Mending) (bytes : List ℕ) (first second
 mend-once registers m bytes first second a b g h =
     elim (judged bytes) [
       | inl d ↦
-          let w = answer_for registers m (events_of d.0) in
-          same_parts first second a b (mend_output w.0)
-          (of_document registers m bytes d.0 w.0 d.1 w.1 first a g)
-          (of_document registers m bytes d.0 w.0 d.1 w.1 second b h)
+          let s = some_size m (events_of d.0) in
+          same_parts first second a b (output_in registers m (events_of d.0) s.0 s.1)
+          (of_document registers m bytes d.0 s.0 s.1 d.1 s.2 first a g)
+          (of_document registers m bytes d.0 s.0 s.1 d.1 s.2 second b h)
       | inr f ↦
           let p = of_fault registers m bytes f.0 f.1 first a g in
           let q = of_fault registers m bytes f.0 f.1 second b h in
@@ -108,66 +102,93 @@ no_fault registers m events width height f =
     (nat_lt registers (length (distinct (mended_colours m events width height))))
     (picture_of registers width height (mended_colours m events width height)) f
 
-gives_for : (registers : ℕ) (m : Mending) (bytes : List ℕ) (d : List Placed) (w : Result PictureValue MendFault)
-    → Document d bytes → MendsEvents registers m (events_of d) w
+with_hidden : {a b : Result PictureValue MendFault} (hidden : ℕ) → a ≡ b → mend_output a hidden ≡ mend_output b hidden
+with_hidden hidden same = ap (λ (r : Result PictureValue MendFault). mend_output r hidden) same
+
+gives_for : (registers : ℕ) (m : Mending) (bytes : List ℕ) (d : List Placed) (w h : ℕ)
+    (r : Result PictureValue MendFault) → Document d bytes → IsSize m (events_of d) w h
+    → r ≡ mended registers m (events_of d) w h
     → (text : Text) × (answer : Result Status RunFault) × MendGives registers m bytes text answer
-gives_for registers m bytes d (Ok p) doc is = (canon_text p, Ok (mended_status p), (d, doc, (Ok p, is, refl)))
-gives_for registers m bytes d (Err mend.Empty) doc is = ([], Err Empty, (d, doc, (Err mend.Empty, is, refl)))
-gives_for registers m bytes d (Err mend.TooLarge) doc is = ([], Err TooLarge, (d, doc, (Err mend.TooLarge, is, refl)))
-gives_for registers m bytes d (Err mend.TooManyColours) doc is =
-    ([], Err TooManyColours, (d, doc, (Err mend.TooManyColours, is, refl)))
-gives_for registers m bytes d (Err mend.OutOfMemory) doc is =
-    ([], Err OutOfMemory, (d, doc, (Err mend.OutOfMemory, is, refl)))
-gives_for registers m bytes d (Err (mend.Grammar f)) doc is =
-    absurd (no_fault registers m (events_of d) is.0 is.1 f (sym is.3))
+gives_for registers m bytes d w h (Ok p) doc is same =
+    let hidden = hidden_pixels m (events_of d) w h in
+    (canon_text p, Ok (mended_status hidden), (d, doc, (w, h, is, with_hidden hidden same)))
+gives_for registers m bytes d w h (Err mend.Empty) doc is same =
+    ([], Err Empty, (d, doc, (w, h, is, with_hidden (hidden_pixels m (events_of d) w h) same)))
+gives_for registers m bytes d w h (Err mend.TooLarge) doc is same =
+    ([], Err TooLarge, (d, doc, (w, h, is, with_hidden (hidden_pixels m (events_of d) w h) same)))
+gives_for registers m bytes d w h (Err mend.TooManyColours) doc is same =
+    ([], Err TooManyColours, (d, doc, (w, h, is, with_hidden (hidden_pixels m (events_of d) w h) same)))
+gives_for registers m bytes d w h (Err mend.OutOfMemory) doc is same =
+    ([], Err OutOfMemory, (d, doc, (w, h, is, with_hidden (hidden_pixels m (events_of d) w h) same)))
+gives_for registers m bytes d w h (Err (mend.Grammar f)) doc is same =
+    absurd (no_fault registers m (events_of d) w h f (sym same))
 
 pub mend-gives : (registers : ℕ) (m : Mending) (bytes : List ℕ)
     → (text : Text) × (answer : Result Status RunFault) × MendGives registers m bytes text answer
 mend-gives registers m bytes =
     elim (judged bytes) [
       | inl d ↦
-          let w = answer_for registers m (events_of d.0) in
-          gives_for registers m bytes d.0 w.0 d.1 w.1
+          let s = some_size m (events_of d.0) in
+          gives_for registers m bytes d.0 s.0 s.1 (mended registers m (events_of d.0) s.0 s.1) d.1 s.2 refl
       | inr f ↦ ([], Err (Grammar f.0), (refl, f.1))
     ]
 
 -- ---- the text written
 
-written : (registers : ℕ) (m : Mending) (bytes : List ℕ) (p : PictureValue) → Mends registers m bytes (Ok p)
-    → MendGives registers m bytes (canon_text p) (Ok (mended_status p))
-written registers m bytes p g = (g.0, g.1, (Ok p, g.2, refl))
-
-pub mend_written : (registers : ℕ) (m : Mending) (a : Option (List ℕ)) (bytes : List ℕ) (p : PictureValue)
-    (had has : Option (List ℕ)) → IfSome a (λ told. told ≡ bytes) → Mends registers m bytes (Ok p)
-    → Appends had has (canon_text p)
-    → IfSome a (λ told. WroteBy (MendGives registers m told) WroteNothing (Ok (mended_status p)) had has)
-mend_written registers m None bytes p had has same g put = tt
-mend_written registers m (Some told) bytes p had has same g put =
-    subst (λ (l : List ℕ). WroteBy (MendGives registers m l) WroteNothing (Ok (mended_status p)) had has) (sym same)
-    (canon_text p, written registers m bytes p g, put)
-
--- a prefix of the text, if the sink failed
-cut_short : (registers : ℕ) (m : Mending) (bytes : List ℕ) (p : PictureValue) (had has : Option (List ℕ))
-    → Mends registers m bytes (Ok p) → (n : ℕ) × Appends had has (take n (canon_text p))
-    → WroteBy (MendGives registers m bytes) WroteNothing (Err Write) had has
-cut_short registers m bytes p had has g put = (
-  take put.0 (canon_text p),
-  put.1,
-  λ text answer h.
-      let same = (mend-once registers m bytes text (canon_text p) answer (Ok (mended_status p)) h (written registers m bytes p g)).0 in
-      (drop put.0 (canon_text p), same ∙ sym (take-append-drop put.0 (canon_text p))),
+written : (registers : ℕ) (m : Mending) (bytes : List ℕ) (w : Mended) → MendsNoting registers m bytes (Ok w)
+    → MendGives registers m bytes (canon_text w.picture) (Ok (mended_status w.hidden))
+written registers m bytes w g = (
+  g.0,
+  g.1,
+  (
+    g.2.0,
+    g.2.1,
+    g.2.2,
+    ap₂ (λ (r : Result PictureValue MendFault) (hidden : ℕ). mend_output r hidden) g.2.3 g.2.4,
+  ),
 )
 
-pub mend_unwritten : (registers : ℕ) (m : Mending) (a : Option (List ℕ)) (bytes : List ℕ) (p : PictureValue)
-    (had has : Option (List ℕ)) → IfSome a (λ told. told ≡ bytes) → Mends registers m bytes (Ok p)
-    → (n : ℕ) × Appends had has (take n (canon_text p))
+pub mend_written : (registers : ℕ) (m : Mending) (a : Option (List ℕ)) (bytes : List ℕ) (w : Mended)
+    (had has : Option (List ℕ)) → IfSome a (λ told. told ≡ bytes) → MendsNoting registers m bytes (Ok w)
+    → Appends had has (canon_text w.picture)
+    → IfSome a (λ told. WroteBy (MendGives registers m told) WroteNothing (Ok (mended_status w.hidden)) had has)
+mend_written registers m None bytes w had has same g put = tt
+mend_written registers m (Some told) bytes w had has same g put =
+    subst (λ (l : List ℕ). WroteBy (MendGives registers m l) WroteNothing (Ok (mended_status w.hidden)) had has)
+    (sym same)
+    (canon_text w.picture, written registers m bytes w g, put)
+
+-- a prefix of the text, if the sink failed
+cut_short : (registers : ℕ) (m : Mending) (bytes : List ℕ) (w : Mended) (had has : Option (List ℕ))
+    → MendsNoting registers m bytes (Ok w) → (n : ℕ) × Appends had has (take n (canon_text w.picture))
+    → WroteBy (MendGives registers m bytes) WroteNothing (Err Write) had has
+cut_short registers m bytes w had has g put = (
+  take put.0 (canon_text w.picture),
+  put.1,
+  λ text answer h.
+      let whole = canon_text w.picture in
+      let put_all = written registers m bytes w g in
+      let same = (mend-once registers m bytes text whole answer (Ok (mended_status w.hidden)) h put_all).0 in
+      (drop put.0 whole, same ∙ sym (take-append-drop put.0 whole)),
+)
+
+pub mend_unwritten : (registers : ℕ) (m : Mending) (a : Option (List ℕ)) (bytes : List ℕ) (w : Mended)
+    (had has : Option (List ℕ)) → IfSome a (λ told. told ≡ bytes) → MendsNoting registers m bytes (Ok w)
+    → (n : ℕ) × Appends had has (take n (canon_text w.picture))
     → IfSome a (λ told. WroteBy (MendGives registers m told) WroteNothing (Err Write) had has)
-mend_unwritten registers m None bytes p had has same g put = tt
-mend_unwritten registers m (Some told) bytes p had has same g put =
+mend_unwritten registers m None bytes w had has same g put = tt
+mend_unwritten registers m (Some told) bytes w had has same g put =
     subst (λ (l : List ℕ). WroteBy (MendGives registers m l) WroteNothing (Err Write) had has) (sym same)
-    (cut_short registers m bytes p had has g put)
+    (cut_short registers m bytes w had has g put)
 
 -- ---- a refusal
+
+-- the output of a document that isn't mended
+without_text : (registers : ℕ) (m : Mending) (events : List Event) (fault : MendFault)
+    → MendsEvents registers m events (Err fault)
+    → (w : ℕ) × (h : ℕ) × IsSize m events w h × (([], Err (of_mend fault)) ≡ output_in registers m events w h)
+without_text registers m events fault is =
+    (is.0, is.1, is.2, with_hidden (hidden_pixels m events is.0 is.1) is.3)
 
 unmended : (registers : ℕ) (m : Mending) (bytes : List ℕ) (fault : MendFault) (had : Option (List ℕ))
     → Mends registers m bytes (Err fault)
@@ -175,11 +196,11 @@ unmended : (registers : ℕ) (m : Mending) (bytes : List ℕ) (fault : MendFault
 unmended registers m bytes (mend.Grammar f) had g = ([], (refl, g), Appends-none had)
 unmended registers m bytes mend.OutOfMemory had g = Appends-none had
 unmended registers m bytes mend.Empty had g =
-    ([], (g.0, g.1, (Err mend.Empty, g.2, refl)), Appends-none had)
+    ([], (g.0, g.1, without_text registers m (events_of g.0) mend.Empty g.2), Appends-none had)
 unmended registers m bytes mend.TooLarge had g =
-    ([], (g.0, g.1, (Err mend.TooLarge, g.2, refl)), Appends-none had)
+    ([], (g.0, g.1, without_text registers m (events_of g.0) mend.TooLarge g.2), Appends-none had)
 unmended registers m bytes mend.TooManyColours had g =
-    ([], (g.0, g.1, (Err mend.TooManyColours, g.2, refl)), Appends-none had)
+    ([], (g.0, g.1, without_text registers m (events_of g.0) mend.TooManyColours g.2), Appends-none had)
 
 pub mend_refused : (registers : ℕ) (m : Mending) (a : Option (List ℕ)) (bytes : List ℕ) (fault : MendFault)
     (had : Option (List ℕ)) → IfSome a (λ told. told ≡ bytes) → Mends registers m bytes (Err fault)

@@ -1,7 +1,6 @@
 -- What a run writes and answers.
 use Rattle.std.specs.Prelude.{◌≡◌, ◌⊎◌, ◌==◌, ℕ, Bool, List, [], ◌≤◌, Option, IfSome, Result, Ok, Err, if◌then◌else◌}
 use Rattle.std.specs.Io.KnownBytes.{Appends}
-use Rattle.std.specs.List.{list_all}
 use Rattle.sixel_grammar.specs.declared.command.Placed.{Placed}
 use Rattle.sixel_grammar.specs.Document.{Document, IsDocument, events_of}
 use Rattle.sixel_grammar.specs.Faults.{IsFaultOf}
@@ -29,14 +28,16 @@ use Rattle.sixel_emulator_check.specs.declared.verdict.NamedVerdict.{NamedVerdic
 use Rattle.sixel_emulator_check.specs.declared.verdict.NamedVerdict.TheVariants as named
 use Rattle.sixel_mend.specs.declared.mending.MendFault.{MendFault}
 use Rattle.sixel_mend.specs.declared.mending.Mending.{Mending}
-use Rattle.sixel_mend.specs.Mended.{MendsEvents}
+use Rattle.sixel_mend.specs.Mended.{mended}
+use Rattle.sixel_mend.specs.Painted.{hidden_pixels}
+use Rattle.sixel_mend.specs.Sizes.{IsSize}
 use Rattle.sixel_scan.specs.declared.answer.Scanned.{Scanned}
 use Rattle.sixel_report.specs.Conversions.{of_mend, of_ppm}
 use Rattle.sixel_report.specs.declared.fault.RunFault.{RunFault}
 use Rattle.sixel_report.specs.declared.fault.RunFault.TheVariants.{Grammar, NotRgb}
 use Rattle.sixel_report.specs.declared.task.Status.{Status}
 use Rattle.sixel_report.specs.declared.task.Status.TheVariants as status
-use Rattle.sixel_report.specs.declared.task.Note.TheVariants.{OneColour}
+use Rattle.sixel_report.specs.declared.task.Note.TheVariants.{Hidden}
 use Rattle.sixel_report.specs.declared.task.Status.TheVariants.{Done, Noted, Surveyed}
 use Rattle.sixel_report.specs.declared.task.Task.{Task}
 use Rattle.sixel_report.specs.declared.task.Task.TheVariants.{List as Listing, Check, Survey, Render, Show, ShowBox}
@@ -145,18 +146,14 @@ EncodeGives registers bytes text answer = (text, answer) ≡ encode_output (ppm_
 
 -- ---- mended strings
 
--- whether all pixels of a mended picture have one colour: it has a register for each colour, and the first pixel has 0
-abbrev pub has_one_colour : PictureValue → Bool
-has_one_colour p = list_all (λ register. register == 0) p.registers
+-- the status of a mended picture that hides this many painted pixels
+abbrev pub mended_status : ℕ → Status
+mended_status hidden = if hidden == 0 then Done else Noted (Hidden hidden)
 
--- the status of this mended picture
-abbrev pub mended_status : PictureValue → Status
-mended_status p = if has_one_colour p then Noted OneColour else Done
-
--- for a mended picture its canonical text; else the fault, and no text
-abbrev pub mend_output : Result PictureValue MendFault → Text × Result Status RunFault
-mend_output (Ok picture) = (canon_text picture, Ok (mended_status picture))
-mend_output (Err fault) = ([], Err (of_mend fault))
+-- for a mended picture that hides so many pixels its canonical text; else the fault, and no text
+abbrev pub mend_output : Result PictureValue MendFault → ℕ → Text × Result Status RunFault
+mend_output (Ok picture) hidden = (canon_text picture, Ok (mended_status hidden))
+mend_output (Err fault) hidden = ([], Err (of_mend fault))
 
 -- for a document the mend_output of its mended picture, in the profile with this many registers, or of the first reason
 -- why there is none; for other bytes their fault, and no text
@@ -164,8 +161,9 @@ abbrev pub MendGives : ℕ → Mending → List ℕ → Text → Result Status R
 MendGives registers m bytes text (Err (Grammar fault)) = (text ≡ []) × IsFaultOf bytes fault
 MendGives registers m bytes text answer =
     (events : List Placed) × Document events bytes
-    × ((mended : Result PictureValue MendFault) × MendsEvents registers m (events_of events) mended
-    × ((text, answer) ≡ mend_output mended))
+    × ((width : ℕ) × (height : ℕ) × IsSize m (events_of events) width height
+    × ((text, answer) ≡ mend_output (mended registers m (events_of events) width height)
+    (hidden_pixels m (events_of events) width height)))
 
 -- ---- tasks
 

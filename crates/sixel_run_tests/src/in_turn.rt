@@ -9,7 +9,7 @@ use sixel_emulator_rules::Terminals;
 use sixel_grammar::{Fault, Reason};
 use sixel_model::{Colour, Profile};
 use sixel_ppm::PpmReason;
-use sixel_report::{Note, RuleSet, RunFault, Status, Task};
+use sixel_report::{RuleSet, RunFault, Status, Task};
 use std::alloc::Global;
 
 /// No named terminal.
@@ -185,7 +185,6 @@ const BOXED: [Case; 2] = [
 const MENDED: [Case; 2] = [
     Case {
         text: b"\x1bP0;1q\"1;1;1;1#0;2;0;0;0#0@\x1b\\",
-        answer: Ok(Status::Noted(Note::OneColour)),
         calls: [(1, 27, 29), (5, 7, 6), (64, 2, 1)],
         ..CHECKED
     },

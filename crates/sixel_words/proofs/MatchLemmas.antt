@@ -25,8 +25,9 @@ use Rattle.sixel_report.specs.declared.task.Task.TheVariants.{List as Listing, C
 use Rattle.sixel_report.specs.declared.task.Task.TheVariants.{ShowOn, Differ, DifferSheet, Mend, Encode, Scan}
 use Rattle.sixel_report.specs.declared.request.Request.{Request}
 use Rattle.sixel_model.specs.declared.colour.Parts.{Parts}
-use Rattle.sixel_words.specs.Words.{HasArea, HasColour, HasSide, IsSideText, IsTask, describes, files_of, is_given}
-use Rattle.sixel_words.specs.Words.{is_named, is_of_words, lines_of, terminal_name}
+use Rattle.sixel_words.specs.Words.{HasArea, HasColour, HasNamed, HasSide, IsSideText, IsTask, describes, files_of}
+use Rattle.sixel_words.specs.Words.{is_called, is_given, is_named, is_of_words, lines_of, terminal_name}
+use Rattle.sixel_words.proofs.ColourLemmas.{same_text}
 
 pub both_parts : {X Y : Type 0} (o : Option (X × Y)) (x : X) (y : Y) → option_map (λ p. p.0) o ≡ Some x
     → option_map (λ p. p.1) o ≡ Some y → o ≡ Some (x, y)
@@ -127,7 +128,7 @@ not_mend is = let first : 115 ≡ 109 = ap (λ (t : Text). slice_index t 0) is i
 pub not_shown : (rows : List Row) (t : Task)
     → ((area : Area) → HasArea rows area → first_of (codes "on") rows ≡ None
     → is_named (codes "background") rows ≡ false → ⊥)
-    → ((named : Named) (colour : Parts) (area : Area) → first_of (codes "on") rows ≡ Some (terminal_name named)
+    → ((named : Named) (colour : Parts) (area : Area) → HasNamed rows named
     → HasColour (codes "background") rows colour → HasArea rows area → describes rows ≡ false → ⊥)
     → IsTask (codes "show") rows t → ⊥
 not_shown rows Listing described named is = not_list is
@@ -164,6 +165,15 @@ pub on_without_colour : (rows : List Row) (t : Task) (name : Text) → first_of 
 on_without_colour rows t name on uncoloured =
     not_shown rows t (λ area has none plain. not_some _ name none on)
     (λ named colour area is coloured has free. uncoloured colour coloured)
+
+-- nor if its value isn't the name of a terminal
+pub without_name : (rows : List Row) (t : Task) (name : Text) → first_of (codes "on") rows ≡ Some name
+    → ((named : Named) → is_called (terminal_name named) name ≡ false) → IsTask (codes "show") rows t → ⊥
+without_name rows t name on unknown =
+    not_shown rows t (λ area has none plain. not_some _ name none on)
+    (λ named colour area is coloured has free. not_both _
+    (subst (λ (n : Text). is_called (terminal_name named) n ≡ true) (same_text _ is.0 name is.1 on) is.2)
+    (unknown named))
 
 -- ---- the task of mend
 

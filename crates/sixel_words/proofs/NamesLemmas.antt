@@ -1,20 +1,22 @@
 -- Terminals that `--on` of `check` and `survey` names.
-use Rattle.std.proofs.Common.{◌≡◌, ◌∙◌, Bool, List, None, Option, Some, codes, false, inl, inr, refl, subst, sym, true}
+use Rattle.std.proofs.Common.{◌≡◌, ◌∙◌, ◌∷◌, ◌||◌, [], Bool, List, None, Option, Some, ap, codes, false, map, refl, subst, sym}
+use Rattle.std.proofs.Common.{true}
+use Rattle.std.specs.Borrow.{Bor}
+use Rattle.std.specs.List.{list_all, list_any}
 use Rattle.std.specs.Prelude.{IfSome, IsNone, is_some}
 use Rattle.std.specs.Str.{bytes_eq}
 use Rattle.std.proofs.lemmas.Slice.Eq.{bytes_eq-Decides}
-use Rattle.clap.specs.Walk.{Row, Text, first_of}
+use Rattle.clap.specs.Walk.{Row, Text}
 use Rattle.sixel_emulator_rules.specs.declared.terminals.Terminals.{Terminals}
 use Rattle.sixel_named_terminals.specs.declared.named.Named.{Named}
 use Rattle.sixel_named_terminals.specs.declared.named.Named.TheVariants.{XTerm, MlTerm, Foot, Konsole}
 use Rattle.sixel_report.specs.declared.task.Task.{Task}
 use Rattle.sixel_report.specs.declared.task.Task.TheVariants.{List as Listing, Check, Differ, DifferSheet, Encode, Mend}
 use Rattle.sixel_report.specs.declared.task.Task.TheVariants.{Render, Scan, Show, ShowBox, ShowOn, Survey}
-use Rattle.sixel_words.specs.Words.{HasTerminals, IsTask, NamesTerminals, is_among, terminal_name, terminal_names}
-use Rattle.sixel_words.proofs.ColourLemmas.{same_text}
-use Rattle.sixel_words.proofs.MatchLemmas.{not_some}
+use Rattle.sixel_words.specs.Words.{HasTerminals, IsTask, NameTerminals, is_called, is_terminal, names_it}
+use Rattle.sixel_words.specs.Words.{names_terminals, on_values, terminal_name}
 
-not_both : (b : Bool) → b ≡ true → b ≡ false → ⊥
+pub not_both : (b : Bool) → b ≡ true → b ≡ false → ⊥
 not_both b e f = let bad : true ≡ false = sym e ∙ f in cc
 
 -- two texts that differ
@@ -23,44 +25,63 @@ apart a b differ is = not_both (bytes_eq a b) ((bytes_eq-Decides a b).1 is) diff
 
 -- ---- a name
 
-name_is_among : (named : Named) → is_among terminal_names (terminal_name named) ≡ true
-name_is_among XTerm = refl
-name_is_among MlTerm = refl
-name_is_among Foot = refl
-name_is_among Konsole = refl
+-- a text that isn't one of the four names is no other's
+pub no_name : (text : Text) → is_called (codes "xterm") text ≡ false → is_called (codes "mlterm") text ≡ false
+    → is_called (codes "foot") text ≡ false → is_called (codes "konsole") text ≡ false
+    → (named : Named) → is_called (terminal_name named) text ≡ false
+no_name text xterm mlterm foot konsole XTerm = xterm
+no_name text xterm mlterm foot konsole MlTerm = mlterm
+no_name text xterm mlterm foot konsole Foot = foot
+no_name text xterm mlterm foot konsole Konsole = konsole
 
-no_terminal : (part : Text) → ((named : Named) → terminal_name named ≡ part → ⊥) → is_among terminal_names part ≡ false
-no_terminal part none =
-    rw (
-      differs XTerm,
-      differs MlTerm,
-      differs Foot,
-      differs Konsole,
-    ) refl
-  where
-    go : (b : Bool) → (b ≡ true → ⊥) → b ≡ false
-    go true other = absurd (other refl)
-    go false other = refl
+or_right : (a b : Bool) → b ≡ true → (a || b) ≡ true
+or_right true b is = refl
+or_right false b is = is
 
-    differs : (named : Named) → bytes_eq part (terminal_name named) ≡ false
-    differs named = go (bytes_eq part (terminal_name named))
-        (λ is. none named (sym ((bytes_eq-Decides part (terminal_name named)).0 is)))
-
--- a text is a name if a terminal was found for it
-pub is_named_so : (part : Text) (found : Option Named) → IfSome found (λ named. terminal_name named ≡ part)
-    → (IsNone found → (named : Named) → terminal_name named ≡ part → ⊥)
-    → is_among terminal_names part ≡ is_some found
-is_named_so part None is none = no_terminal part (none refl)
-is_named_so part (Some named) is none = subst (λ (t : Text). is_among terminal_names t ≡ true) is (name_is_among named)
+-- a text is the name of a terminal if one was found for it
+pub is_terminal_so : (text : Text) (found : Option Named)
+    → IfSome found (λ named. is_called (terminal_name named) text ≡ true)
+    → (IsNone found → (named : Named) → is_called (terminal_name named) text ≡ false)
+    → is_terminal text ≡ is_some found
+is_terminal_so text None is none =
+    let no = none refl in rw (no XTerm, no MlTerm, no Foot, no Konsole) refl
+is_terminal_so text (Some XTerm) is none = rw is refl
+is_terminal_so text (Some MlTerm) is none =
+    or_right (is_called (codes "xterm") text) _ (rw is refl)
+is_terminal_so text (Some Foot) is none =
+    or_right (is_called (codes "xterm") text) _ (or_right (is_called (codes "mlterm") text) _ (rw is refl))
+is_terminal_so text (Some Konsole) is none =
+    or_right (is_called (codes "xterm") text) _ (or_right (is_called (codes "mlterm") text) _
+    (or_right (is_called (codes "foot") text) _ (rw is refl)))
 
 -- ---- names
 
--- the option with a value that names no terminals names none
-pub has_none : (rows : List Row) (text : Text) (t : Terminals) → first_of (codes "on") rows ≡ Some text
-    → ((t : Terminals) → NamesTerminals text t → ⊥) → HasTerminals rows t → ⊥
-has_none rows text t on none (inl is) = not_some _ text is.0 on
-has_none rows text t on none (inr is) =
-    none t (subst (λ (u : Text). NamesTerminals u t) (same_text _ is.0 text is.1 on) is.2)
+-- a test of texts, and of what points to them
+pub any_now : (test : Text → Bool) (values : List (Bor Text))
+    → list_any test (map (λ value. value.now) values) ≡ list_any (λ value. test value.now) values
+any_now test [] = refl
+any_now test (value ∷ values) = ap (λ (b : Bool). test value.now || b) (any_now test values)
+
+-- values that name these terminals
+pub name_these : (values : List Text) (xterm mlterm foot konsole : Bool) → list_all names_terminals values ≡ true
+    → list_any (names_it (codes "xterm")) values ≡ xterm → list_any (names_it (codes "mlterm")) values ≡ mlterm
+    → list_any (names_it (codes "foot")) values ≡ foot → list_any (names_it (codes "konsole")) values ≡ konsole
+    → NameTerminals values (record { xterm = xterm; mlterm = mlterm; foot = foot; konsole = konsole })
+name_these values xterm mlterm foot konsole all x m f k = (all, rw (x, m, f, k) refl)
+
+-- the values of the option are these
+pub has_these : (rows : List Row) (values : List Text) (t : Terminals) → on_values rows ≡ values
+    → NameTerminals values t → HasTerminals rows t
+has_these rows values t on name = subst (λ (vs : List Text). NameTerminals vs t) (sym on) name
+
+pub on_these : (rows : List Row) (values : List Text) (t : Terminals) → on_values rows ≡ values
+    → HasTerminals rows t → NameTerminals values t
+on_these rows values t on has = subst (λ (vs : List Text). NameTerminals vs t) on has
+
+-- values of which one names no terminals
+pub has_none : (rows : List Row) (values : List Text) (t : Terminals) → on_values rows ≡ values
+    → list_all names_terminals values ≡ false → HasTerminals rows t → ⊥
+has_none rows values t on other has = not_both _ has.0 (ap (list_all names_terminals) on ∙ other)
 
 -- ---- tasks
 

@@ -1,15 +1,28 @@
--- Explanations that are put one after another.
+-- Usage errors, and explanations that are put one after another.
 use Rattle.std.proofs.Common.{◌≡◌, ◌∙◌, ◌∷◌, ◌++◌, ℕ, [], List, Option, Some, ap, append-nil, append_assoc, ◌+◌, ◌<◌}
+use Rattle.std.proofs.Common.{codes}
 use Rattle.std.proofs.Common.{drop, get_or, length, refl, subst, sym, take, take-append-drop}
 use Rattle.std.proofs.Math.Seq.{take-length}
 use Rattle.std.proofs.lemmas.List.{take_more}
 use Rattle.std.specs.Prelude.{Err, Result}
 use Rattle.std.specs.Io.KnownBytes.{Appends}
+use Rattle.std.specs.Str.{chars}
 use Rattle.sixel_io.specs.Devices.{Puts}
 use Rattle.sixel_io.proofs.SinkLemmas.{puts-longer, puts-then}
 use Rattle.sixel_explain.specs.declared.explanations.Topic.{Topic}
 use Rattle.sixel_explain.specs.Explanations.{AreExplanations, AreFurther, IsExplanation, first_line}
-use Rattle.sixel_report.specs.Texts.{Text}
+use Rattle.sixel_report.specs.declared.fault.RunFault.TheVariants as run
+use Rattle.sixel_report.specs.Texts.{Text, fault_line}
+use Rattle.sixel_words.specs.Telling.{IsUsageText}
+
+-- ---- usage errors
+
+-- the line of a run without memory is a message, too
+pub memory_is_said : IsUsageText (fault_line run.OutOfMemory)
+unfolding chars lib.Utf8.encode
+memory_is_said = (codes "out of memory" ++ 10 ∷ [], refl)
+
+-- ---- explanations
 
 -- some text begins as the explanation of a topic does
 pub any_explanation : (t : Topic) → (text : Text) × IsExplanation (Some t) text

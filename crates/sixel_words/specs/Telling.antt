@@ -1,11 +1,11 @@
 -- How the program ends if its arguments name no task.
-use Rattle.std.specs.Prelude.{◌≡◌, ◌⊎◌, ℕ, true, take, codes}
-use Rattle.std.specs.Io.{StartsWith}
+use Rattle.std.specs.Prelude.{◌≡◌, ◌++◌, ◌⊎◌, ℕ, true, take, codes}
 use Rattle.std.specs.Io.KnownBytes.{Appends}
 use Rattle.sixel_io.specs.Devices.{Change, SinkState, one_more}
 use Rattle.sixel_report.specs.declared.fault.RunFault.TheVariants as run
 use Rattle.sixel_report.specs.Texts.{Text, fault_line}
 use Rattle.sixel_explain.specs.Explanations.{AreExplanations}
+use Rattle.sixel_printing.specs.Printing.{printed_lines}
 use Rattle.sixel_report.specs.declared.exit.Exit.{Exit}
 use Rattle.sixel_report.specs.declared.exit.Exit.TheVariants.{Done, Refused, Usage}
 use Rattle.sixel_report.specs.Exits.{IsPut}
@@ -20,9 +20,13 @@ IsLeft sink = sink.new ≡ sink.old
 abbrev pub IsShown : Change SinkState → Type 0
 IsShown sink = (text : Text) × IsPut text sink
 
--- a usage error was put: its text begins with `sixel: `, and the rest isn't specified here
+-- the text of a usage error: `sixel: `, and some text as it is printed, which isn't specified here
+abbrev pub IsUsageText : Text → Type 0
+IsUsageText text = (told : Text) × (text ≡ codes "sixel: " ++ printed_lines told)
+
+-- a usage error was put
 abbrev pub IsUsageSaid : Change SinkState → Type 0
-IsUsageSaid sink = (text : Text) × StartsWith text (codes "sixel: ") × IsPut text sink
+IsUsageSaid sink = (text : Text) × IsUsageText text × IsPut text sink
 
 -- the text was written to the output and flushed; or the output failed, a prefix of the text was written, and the
 -- errors got the line of a failed write

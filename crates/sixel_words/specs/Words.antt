@@ -3,7 +3,7 @@ use Rattle.std.specs.Prelude.{◌≡◌, ◌≢◌, ◌⊎◌, ◌≤◌, ℕ, B
 use Rattle.std.specs.Prelude.{◌==◌, ◌||◌, ⊤, find, length, map, if◌then◌else◌, unwrap_or}
 use Rattle.std.specs.List.{list_all, list_any, slice_split}
 use Rattle.std.specs.Option.{option_and_then, option_map_or}
-use Rattle.std.specs.Str.{bytes_eq}
+use Rattle.std.specs.Str.{bytes_eq, str_eq_ignore_ascii_case}
 use Rattle.std.specs.Str.Parse.{IsNumeral, digits_value, without_leading_plus}
 use Rattle.sixel_model.specs.declared.colour.Parts.{Parts}
 use Rattle.sixel_model.specs.declared.colour.Parts.TheVariants.{Rgb, Hls}
@@ -125,6 +125,19 @@ terminal_name Konsole = codes "konsole"
 abbrev pub terminal_names : List Text
 terminal_names = map terminal_name (XTerm ∷ MlTerm ∷ Foot ∷ Konsole ∷ [])
 
+-- the text is this name, in any case of letters
+abbrev pub is_called : Text → Text → Bool
+is_called name text = str_eq_ignore_ascii_case text name
+
+-- the text is the name of a terminal
+abbrev pub is_terminal : Text → Bool
+is_terminal text = list_any (λ name. is_called name text) terminal_names
+
+-- the value of `--on` is the name of this terminal
+abbrev pub HasNamed : List Row → Named → Type 0
+HasNamed rows named = (text : Text) × (first_of (codes "on") rows ≡ Some text)
+    × (is_called (terminal_name named) text ≡ true)
+
 abbrev pub no_terminals : Terminals
 no_terminals = record { xterm = false; mlterm = false; foot = false; konsole = false }
 
@@ -135,26 +148,34 @@ all_terminals = record { xterm = true; mlterm = true; foot = true; konsole = tru
 abbrev pub parts_of : Text → List Text
 parts_of text = slice_split (λ byte. byte == 44) text
 
--- the terminals whose names are among these
-abbrev pub terminals_among : List Text → Terminals
-terminals_among names = record {
-  xterm = is_among names (terminal_name XTerm);
-  mlterm = is_among names (terminal_name MlTerm);
-  foot = is_among names (terminal_name Foot);
-  konsole = is_among names (terminal_name Konsole);
+-- the text names terminals: it is `all`, or each of its parts is the name of one
+abbrev pub names_terminals : Text → Bool
+names_terminals text = is_called (codes "all") text || list_all is_terminal (parts_of text)
+
+-- the text names the terminal with this name
+abbrev pub names_it : Text → Text → Bool
+names_it name text = is_called (codes "all") text || list_any (is_called name) (parts_of text)
+
+-- the terminals that one of the texts names
+abbrev pub terminals_in : List Text → Terminals
+terminals_in texts = record {
+  xterm = list_any (names_it (terminal_name XTerm)) texts;
+  mlterm = list_any (names_it (terminal_name MlTerm)) texts;
+  foot = list_any (names_it (terminal_name Foot)) texts;
+  konsole = list_any (names_it (terminal_name Konsole)) texts;
 }
 
--- the text names these terminals: it is `all`; or each of its parts is the name of one, and these are they
-abbrev pub NamesTerminals : Text → Terminals → Type 0
-NamesTerminals text terminals =
-    ((text ≡ codes "all") × (terminals ≡ all_terminals))
-    ⊎ ((list_all (is_among terminal_names) (parts_of text) ≡ true) × (terminals ≡ terminals_among (parts_of text)))
+-- each of the texts names terminals, and they are these
+abbrev pub NameTerminals : List Text → Terminals → Type 0
+NameTerminals texts terminals = (list_all names_terminals texts ≡ true) × (terminals ≡ terminals_in texts)
 
--- the value of `--on` names these terminals; without the option there are none
+-- the values of `--on`, of all its uses
+abbrev pub on_values : List Row → List Text
+on_values rows = unwrap_or (all_of (codes "on") rows) []
+
+-- the values of `--on` name these terminals; without the option there are none
 abbrev pub HasTerminals : List Row → Terminals → Type 0
-HasTerminals rows terminals =
-    ((first_of (codes "on") rows ≡ None) × (terminals ≡ no_terminals))
-    ⊎ ((text : Text) × (first_of (codes "on") rows ≡ Some text) × NamesTerminals text terminals)
+HasTerminals rows = NameTerminals (on_values rows)
 
 -- a flag that describes the terminal of `show` is given
 abbrev pub describes : List Row → Bool
@@ -194,7 +215,7 @@ IsTask name rows (task.ShowBox profile showing fill selects) = (name ≡ codes "
     × (first_of (codes "on") rows ≡ None)
     × (is_named (codes "background") rows ≡ false)
 IsTask name rows (task.ShowOn named colour area) = (name ≡ codes "show")
-    × (first_of (codes "on") rows ≡ Some (terminal_name named))
+    × HasNamed rows named
     × HasColour (codes "background") rows colour
     × HasArea rows area
     × (describes rows ≡ false)

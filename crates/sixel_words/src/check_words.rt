@@ -1,21 +1,22 @@
 //! What the options of `check` and `survey` ask for.
 
-ghost use Rattle.std.specs.Prelude.{◌≡◌, IfSome, IsNone, codes};
-ghost use Rattle.std.specs.List.{list_all};
+ghost use Rattle.std.specs.Prelude.{◌≡◌, IfSome, IsNone, codes, map};
+ghost use Rattle.std.specs.List.{list_all, list_any};
 ghost use Rattle.clap.specs.Walk.{rows_of};
 ghost use Rattle.clap.specs.Matches.{found_of};
 ghost use Rattle.sixel_emulator_rules.specs.declared.terminals.Terminals.{Terminals as ATerminals};
 ghost use Rattle.sixel_report.specs.declared.task.Task.{Task as ATask};
 ghost use Rattle.sixel_report.specs.Outputs.{HasSides};
-ghost use Rattle.sixel_words.specs.Words.{HasTerminals, IsTask, NamesTerminals, is_among, parts_of, terminal_names};
+ghost use Rattle.sixel_words.specs.Words.{HasTerminals, IsTask, NameTerminals, is_called, is_terminal, names_it};
+ghost use Rattle.sixel_words.specs.Words.{names_terminals, parts_of};
 
 use crate::options::profile_of;
-use crate::show_words::terminal_named;
+use crate::show_words::{is_called, terminal_named};
 use clap::ArgMatches;
 use sixel_emulator_rules::Terminals;
 use sixel_report::Task;
 
-/// The task of `check` with these options; none if the value of `--on` names no terminals.
+/// The task of `check` with these options; none if a value of `--on` names no terminals.
 pub fn check_task(matches: &ArgMatches<'_>) -> Option<Task>
     ensures task { IfSome result (IsTask (codes "check") (rows_of (found_of matches.now))) }
     ensures sides { IfSome result HasSides }
@@ -46,48 +47,83 @@ fn terminals_of(matches: &ArgMatches<'_>) -> Option<Terminals>
     ensures some { IfSome result (HasTerminals (rows_of (found_of matches.now))) }
     ensures none { IsNone result → (t : ATerminals) → HasTerminals (rows_of (found_of matches.now)) t → ⊥ }
 {
-    match matches.get_str("on") {
-        Some(text) => terminals_named(text),
+    match matches.get_raw("on") {
+        Some(values) => terminals_named(values),
         None => Some(Terminals::none()),
     }
 }
 
-/// The terminals that a text names: `all`, or names with commas between them.
-fn terminals_named(text: &str) -> Option<Terminals>
-    ensures some { IfSome result (NamesTerminals text.now) }
-    ensures none { IsNone result → (t : ATerminals) → NamesTerminals text.now t → ⊥ }
+/// The terminals that these values name.
+fn terminals_named(values: &[&str]) -> Option<Terminals>
+    ensures some { IfSome result (NameTerminals (map (λ value. value.now) values.now)) }
+    ensures none { IsNone result → (t : ATerminals) → NameTerminals (map (λ value. value.now) values.now) t → ⊥ }
 {
-    if text == "all" {
-        return Some(Terminals::all());
-    }
-    if !has_only_names(text) {
+    if !all_name_terminals(values) {
         return None;
     }
     Some(Terminals {
-        xterm: has_part(text, "xterm"),
-        mlterm: has_part(text, "mlterm"),
-        foot: has_part(text, "foot"),
-        konsole: has_part(text, "konsole"),
+        xterm: is_named_in(values, "xterm"),
+        mlterm: is_named_in(values, "mlterm"),
+        foot: is_named_in(values, "foot"),
+        konsole: is_named_in(values, "konsole"),
     })
+}
+
+/// The first value of `--on` that names no terminals.
+pub fn unnamed_value<'a>(matches: &ArgMatches<'a>) -> Option<&'a str> {
+    for value in matches.get_raw("on")? {
+        if !names_terminals(value) {
+            return Some(*value);
+        }
+    }
+    None
+}
+
+/// Whether each value names terminals.
+fn all_name_terminals(values: &[&str]) -> bool
+    ensures { list_all names_terminals (map (λ value. value.now) values.now) ≡ result }
+{
+    values.iter().all(|value| names_terminals(value))
+}
+
+/// Whether a value names terminals: it is `all`, or has only names between its commas.
+fn names_terminals(value: &str) -> bool
+    ensures { names_terminals value.now ≡ result }
+{
+    is_called(value, "all") || has_only_names(value)
 }
 
 /// Whether each part of a text between its commas is the name of a terminal.
 fn has_only_names(text: &str) -> bool
-    ensures { list_all (is_among terminal_names) (parts_of text.now) ≡ result }
+    ensures { list_all is_terminal (parts_of text.now) ≡ result }
 {
-    text.split(',').all(|part| is_name(part))
+    text.split(',').all(|part| is_terminal(part))
 }
 
 /// Whether a terminal has this name.
-fn is_name(part: &str) -> bool
-    ensures { is_among terminal_names part.now ≡ result }
+fn is_terminal(part: &str) -> bool
+    ensures { is_terminal part.now ≡ result }
 {
     terminal_named(part).is_some()
 }
 
+/// Whether one of the values names this terminal.
+fn is_named_in(values: &[&str], name: &str) -> bool
+    ensures { list_any (names_it name.now) (map (λ value. value.now) values.now) ≡ result }
+{
+    values.iter().any(|value| names_it(value, name))
+}
+
+/// Whether a value names this terminal: it is `all`, or has the name between its commas.
+fn names_it(value: &str, name: &str) -> bool
+    ensures { names_it name.now value.now ≡ result }
+{
+    is_called(value, "all") || has_part(value, name)
+}
+
 /// Whether this is one of the parts of a text between its commas.
 fn has_part(text: &str, name: &str) -> bool
-    ensures { is_among (parts_of text.now) name.now ≡ result }
+    ensures { list_any (is_called name.now) (parts_of text.now) ≡ result }
 {
-    text.split(',').any(|part| name == part)
+    text.split(',').any(|part| is_called(part, name))
 }

@@ -1,13 +1,13 @@
 //! What the options of `show` ask for.
 
-ghost use Rattle.std.specs.Prelude.{◌≡◌, IfSome, IsNone, None, Some, codes, true};
+ghost use Rattle.std.specs.Prelude.{◌≡◌, IfSome, IsNone, None, Some, codes, false, true};
 ghost use Rattle.clap.specs.Walk.{first_of, rows_of};
 ghost use Rattle.clap.specs.Matches.{found_of};
 ghost use Rattle.sixel_named_terminals.specs.declared.named.Named.{Named as ANamed};
 ghost use Rattle.sixel_report.specs.declared.task.Area.{Area as AnArea};
 ghost use Rattle.sixel_report.specs.declared.task.Task.{Task as ATask};
 ghost use Rattle.sixel_report.specs.Outputs.{HasSides};
-ghost use Rattle.sixel_words.specs.Words.{HasArea, IsTask, describes, is_given, terminal_name};
+ghost use Rattle.sixel_words.specs.Words.{HasArea, IsTask, describes, is_called, is_given, terminal_name};
 
 use crate::options::{colour_in, flag_of, is_named, profile_of, side_of};
 use clap::ArgMatches;
@@ -79,18 +79,29 @@ fn on_task(matches: &ArgMatches<'_>, name: &str) -> Option<Task>
     })
 }
 
-/// The terminal with this name.
-pub(crate) fn terminal_named(name: &str) -> Option<Named>
-    ensures some { IfSome result (λ named. terminal_name named ≡ name.now) }
-    ensures none { IsNone result → (named : ANamed) → terminal_name named ≡ name.now → ⊥ }
+/// The terminal with this name, in any case of letters.
+pub(crate) fn terminal_named(text: &str) -> Option<Named>
+    ensures some { IfSome result (λ named. is_called (terminal_name named) text.now ≡ true) }
+    ensures none { IsNone result → (named : ANamed) → is_called (terminal_name named) text.now ≡ false }
 {
-    match name {
-        "xterm" => Some(Named::XTerm),
-        "mlterm" => Some(Named::MlTerm),
-        "foot" => Some(Named::Foot),
-        "konsole" => Some(Named::Konsole),
-        _ => None,
+    if is_called(text, "xterm") {
+        Some(Named::XTerm)
+    } else if is_called(text, "mlterm") {
+        Some(Named::MlTerm)
+    } else if is_called(text, "foot") {
+        Some(Named::Foot)
+    } else if is_called(text, "konsole") {
+        Some(Named::Konsole)
+    } else {
+        None
     }
+}
+
+/// Whether a text is this name, in any case of letters.
+pub(crate) fn is_called(text: &str, name: &str) -> bool
+    ensures { is_called name.now text.now ≡ result }
+{
+    text.eq_ignore_ascii_case(name)
 }
 
 /// Whether a flag describes a terminal.

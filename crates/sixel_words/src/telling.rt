@@ -1,17 +1,18 @@
 //! What the program does if its arguments name no task.
 
-ghost use Rattle.std.specs.Prelude.{◌≡◌, ◌∷◌, IfOk, OnOk, Some, codes, true};
-ghost use Rattle.std.specs.Io.{StartsWith};
+ghost use Rattle.std.specs.Prelude.{◌≡◌, ◌∷◌, ◌++◌, IfOk, OnOk, Some, codes, true};
 ghost use Rattle.std.specs.String.{string_bytes};
 ghost use Rattle.sixel_io.specs.Devices.{CountsFailure, Puts, change};
 ghost use Rattle.sixel_explain.specs.Explanations.{AreExplanations, AreFurther, IsExplanation};
 ghost use Rattle.sixel_report.specs.Texts.{Text};
-ghost use Rattle.sixel_words.specs.Telling.{ExplanationEnds, IsShown, IsUsageSaid, WordsEnd};
+ghost use Rattle.sixel_printing.specs.Printing.{printed_lines};
+ghost use Rattle.sixel_words.specs.Telling.{ExplanationEnds, IsShown, IsUsageSaid, IsUsageText, WordsEnd};
 
 use crate::words::WordsFault;
 use clap::Error;
 use sixel_explain::{Topic, explanation};
 use sixel_io::{DeviceFault, Sink, put_all};
+use sixel_printing::printed_lines;
 use sixel_report::{Exit, RunFault, write_fault};
 use std::alloc::{AllocError, Global};
 
@@ -77,11 +78,20 @@ fn say_usage<E: Sink>(alloc: Global, error: &Error, errors: &mut E)
 
 /// The text of a usage error. It begins with `sixel: `, like every other message, instead of clap's `error: `.
 fn usage_text(alloc: Global, error: &Error) -> Result<String, AllocError>
-    ensures { IfOk result (λ text. StartsWith (string_bytes text) (codes "sixel: ")) }
+    ensures { IfOk result (λ text. IsUsageText (string_bytes text)) }
 {
     let told = format!(in alloc; "{error}")?;
+    let told = told.as_str();
+    message(alloc, told.strip_prefix(ERROR).unwrap_or(told))
+}
+
+/// A message of several lines: `sixel: `, and the text as it is printed.
+fn message(alloc: Global, told: &str) -> Result<String, AllocError>
+    ensures { IfOk result (λ text. string_bytes text ≡ codes "sixel: " ++ printed_lines told.now) }
+{
+    let printed = printed_lines(alloc, told)?;
     let mut text = String::from_str(alloc, "sixel: ")?;
-    text.push_str(told.as_str().strip_prefix(ERROR).unwrap_or(told.as_str()))?;
+    text.push_str(printed.as_str())?;
     Ok(text)
 }
 

@@ -9,10 +9,11 @@ use Rattle.std.proofs.lemmas.List.Elements.{All-head, All-tail}
 use Rattle.clap.proofs.OnLiterals.{clap_on_literals}
 use Rattle.clap.specs.Simple.{App, Shape, built, entered, label_of, names_of, subcommand_of}
 use Rattle.clap.specs.Takes.{default_passes, is_valid, settle_passes, takes, turn_passes, walk_passes}
-use Rattle.clap.specs.Walk.{Row, Text, Walk, answers_to, finished, first_of, nothing_held, walk, walk_from, walked}
+use Rattle.clap.specs.Walk.{Row, Text, Walk, answers_to, finished, nothing_held, walk, walk_from, walked}
 use Rattle.sixel_model.specs.declared.profile.Profile.TheVariants.{Registers16, Registers256}
 use Rattle.sixel_report.specs.declared.task.Task.TheVariants.{Check}
-use Rattle.sixel_words.specs.Words.{IsRequestOf, files_of, is_among, is_given, lines_of, no_terminals, profile_of}
+use Rattle.sixel_words.specs.Words.{HasTerminals, IsRequestOf, files_of, is_among, is_given, lines_of, no_terminals}
+use Rattle.sixel_words.specs.Words.{profile_of}
 use Rattle.sixel_commands.specs.Commands.{check_app, sixel_app}
 use Rattle.sixel_words_laws.specs.Laws.{check_flags}
 use Rattle.sixel_report.specs.declared.wanted_lines.Lines.TheVariants.{Nothing, Plain}
@@ -262,18 +263,18 @@ quiet_after g (flag ∷ flags) are =
 -- what these flags ask for
 record AsksSo (g : Given) : Type 0 where
   pub profile : profile_of (rows_for g) ≡ (if had_wide g then Registers256 else Registers16)
-  pub terminals : first_of (codes "on") (rows_for g) ≡ None
+  pub terminals : HasTerminals (rows_for g) no_terminals
   pub lines : lines_of (rows_for g) ≡ (if had_quiet g then Nothing false else Plain false)
   pub explains : is_given (codes "explain") (rows_for g) ≡ false
   pub files : files_of (rows_for g) ≡ []
 
 asks_so : (g : Given) → AsksSo g
 unfolding walked
-asks_so none = record { profile = refl; terminals = refl; lines = refl; explains = refl; files = refl }
-asks_so wide = record { profile = refl; terminals = refl; lines = refl; explains = refl; files = refl }
-asks_so quiet = record { profile = refl; terminals = refl; lines = refl; explains = refl; files = refl }
-asks_so wide_quiet = record { profile = refl; terminals = refl; lines = refl; explains = refl; files = refl }
-asks_so quiet_wide = record { profile = refl; terminals = refl; lines = refl; explains = refl; files = refl }
+asks_so none = record { profile = refl; terminals = (refl, refl); lines = refl; explains = refl; files = refl }
+asks_so wide = record { profile = refl; terminals = (refl, refl); lines = refl; explains = refl; files = refl }
+asks_so quiet = record { profile = refl; terminals = (refl, refl); lines = refl; explains = refl; files = refl }
+asks_so wide_quiet = record { profile = refl; terminals = (refl, refl); lines = refl; explains = refl; files = refl }
+asks_so quiet_wide = record { profile = refl; terminals = (refl, refl); lines = refl; explains = refl; files = refl }
 
 pub flags_ask : (program : Text) (flags : List Text) → AreFlags flags
     → IsRequestOf (program ∷ codes "check" ∷ flags)
@@ -289,7 +290,7 @@ flags_ask program flags are =
       codes "check",
       rows_for g,
       found,
-      (refl, asks.profile ∙ wide, inl (asks.terminals, refl)),
+      (refl, asks.profile ∙ wide, asks.terminals),
       asks.lines ∙ ap (λ (b : Bool). if b then Nothing false else Plain false) (quiet_after none flags are),
       asks.explains,
       asks.files,

@@ -2,21 +2,14 @@
 use Rattle.std.proofs.Common.{◌≡◌, ◌∙◌, ◌⊎◌, Bool, List, None, Option, Some, ap, arith, codes, false, inl, inr, subst}
 use Rattle.std.proofs.Common.{sym, true}
 use Rattle.std.specs.Prelude.{length, nat_lt}
-use Rattle.std.specs.List.{list_all}
-use Rattle.std.specs.Str.{bytes_eq}
 use Rattle.std.proofs.lemmas.Bool.{ltb-true}
 use Rattle.clap.specs.Walk.{Row, Text, first_of}
-use Rattle.sixel_emulator_rules.specs.declared.terminals.Terminals.{Terminals}
-use Rattle.sixel_named_terminals.specs.declared.named.Named.{Named}
 use Rattle.sixel_report.specs.declared.task.Area.{Area}
 use Rattle.sixel_report.specs.declared.task.Area.TheVariants.{Box, Sides}
 use Rattle.sixel_report.specs.declared.task.Task.{Task}
-use Rattle.sixel_words.specs.Words.{HasArea, IsTask, NamesTerminals, describes, files_of, is_among, is_given, is_named}
-use Rattle.sixel_words.specs.Words.{parts_of, terminal_name, terminal_names}
-use Rattle.sixel_words.proofs.ColourLemmas.{same_text}
+use Rattle.sixel_words.specs.Words.{HasArea, IsTask, describes, files_of, is_given, is_named}
 use Rattle.sixel_words.proofs.DifferLemmas.{not_differed}
 use Rattle.sixel_words.proofs.MatchLemmas.{name_in, not_shown, not_some, rows_in}
-use Rattle.sixel_words.proofs.NamesLemmas.{apart}
 
 not_both : (b : Bool) → b ≡ true → b ≡ false → ⊥
 not_both b e f = let bad : true ≡ false = sym e ∙ f in cc
@@ -35,7 +28,7 @@ pub coloured_beside : (rows : List Row) (t : Task) → first_of (codes "on") row
     → is_named (codes "background") rows ≡ true → IsTask (codes "show") rows t → ⊥
 coloured_beside rows t off given =
     not_shown rows t (λ area has none plain. not_both _ given plain)
-    (λ named colour area on coloured has free. not_some _ (terminal_name named) off on)
+    (λ named colour area on coloured has free. not_some _ on.0 off on.1)
 
 -- nor with `--on` and a flag that describes a terminal
 pub described_beside : (rows : List Row) (t : Task) (name : Text) → first_of (codes "on") rows ≡ Some name
@@ -43,13 +36,6 @@ pub described_beside : (rows : List Row) (t : Task) (name : Text) → first_of (
 described_beside rows t name on given =
     not_shown rows t (λ area has none plain. not_some _ name none on)
     (λ named colour area is coloured has free. not_both _ given free)
-
--- nor if the value of `--on` isn't the name of a terminal
-pub without_name : (rows : List Row) (t : Task) (name : Text) → first_of (codes "on") rows ≡ Some name
-    → ((named : Named) → terminal_name named ≡ name → ⊥) → IsTask (codes "show") rows t → ⊥
-without_name rows t name on unknown =
-    not_shown rows t (λ area has none plain. not_some _ name none on)
-    (λ named colour area is coloured has free. unknown named (same_text _ (terminal_name named) name is on))
 
 -- ---- differ
 
@@ -59,14 +45,6 @@ pub sheet_of_several : (rows : List Row) (t : Task) → is_given (codes "sheet")
 sheet_of_several rows t given several =
     not_differed rows t (λ c has plain. not_both _ given plain)
     (λ c has sheet one. omega (arith, one, ltb-true 1 (length (files_of rows)) several))
-
--- ---- check and survey
-
--- a text that isn't `all`, and has a part that is no name, names no terminals
-pub names_none : (text : Text) (t : Terminals) → bytes_eq text (codes "all") ≡ false
-    → list_all (is_among terminal_names) (parts_of text) ≡ false → NamesTerminals text t → ⊥
-names_none text t other some (inl is) = apart text (codes "all") other is.0
-names_none text t other some (inr is) = not_both _ is.0 some
 
 -- ---- subcommands
 

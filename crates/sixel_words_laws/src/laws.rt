@@ -37,20 +37,25 @@ pub fn the_word_survey_gives_a_survey()
         (Survey Registers256 no_terminals) (Plain false) false (codes "a" ∷ codes "b" ∷ []) }
 {}
 
-/// `check --on` and `survey --on` name terminals whose rules count: a check of `xterm,foot,xterm` is for these two, and
-/// a survey of `all` for the four; of several values the last counts. There is no task if a part between commas is no
-/// name, for an empty value, and for `all` with another name.
+/// `check --on` and `survey --on` name terminals whose rules count, in any case of letters: a check of `xterm,Foot,xterm`
+/// is for these two, and a survey of `ALL` for the four. Several values name all that one of them names, so `--on xterm
+/// --on foot` is for both. There is no task if a part between commas is no name, for an empty value, for `all` with
+/// another name, and if only one of several values is wrong.
 pub fn the_option_on_names_terminals()
     ensures taken { (program : Text) →
-        takes sixel_app (program ∷ codes "check" ∷ codes "--on" ∷ codes "xterm,foot,xterm" ∷ []) ≡ true }
+        takes sixel_app (program ∷ codes "check" ∷ codes "--on" ∷ codes "xterm,Foot,xterm" ∷ []) ≡ true }
     ensures several { (program : Text) →
-        IsTaskOf (program ∷ codes "check" ∷ codes "--on" ∷ codes "xterm,foot,xterm" ∷ [])
+        IsTaskOf (program ∷ codes "check" ∷ codes "--on" ∷ codes "xterm,Foot,xterm" ∷ [])
         (Check Registers16 (record { xterm = true; mlterm = false; foot = true; konsole = false })) }
-    ensures every { (program : Text) → IsTaskOf (program ∷ codes "survey" ∷ codes "--on" ∷ codes "all" ∷ [])
+    ensures every { (program : Text) → IsTaskOf (program ∷ codes "survey" ∷ codes "--on" ∷ codes "ALL" ∷ [])
         (Survey Registers16 all_terminals) }
-    ensures last { (program : Text) →
-        IsTaskOf (program ∷ codes "check" ∷ codes "--on" ∷ codes "kitty" ∷ codes "--on" ∷ codes "konsole" ∷ [])
-        (Check Registers16 (record { xterm = false; mlterm = false; foot = false; konsole = true })) }
+    ensures both_taken { (program : Text) → takes sixel_app (program ∷ codes "check" ∷ codes "--on" ∷ codes "xterm"
+        ∷ codes "--on" ∷ codes "foot" ∷ []) ≡ true }
+    ensures both { (program : Text) →
+        IsTaskOf (program ∷ codes "check" ∷ codes "--on" ∷ codes "xterm" ∷ codes "--on" ∷ codes "foot" ∷ [])
+        (Check Registers16 (record { xterm = true; mlterm = false; foot = true; konsole = false })) }
+    ensures one_is_wrong { (program : Text) (task : Task) → IsTaskOf
+        (program ∷ codes "check" ∷ codes "--on" ∷ codes "kitty" ∷ codes "--on" ∷ codes "konsole" ∷ []) task → ⊥ }
     ensures no_other_name { (program : Text) (task : Task) →
         IsTaskOf (program ∷ codes "check" ∷ codes "--on" ∷ codes "xterm,kitty" ∷ []) task → ⊥ }
     ensures no_empty_name { (program : Text) (task : Task) →
@@ -113,8 +118,8 @@ pub fn the_words_show_box_give_a_box()
 {}
 
 /// `sixel show --on xterm --box` is accepted, and shows xterm's white screen, as large as the declared box. `--background`
-/// gives another colour, and without `--box` the screen has 800 by 480 pixels. There is no task with `--wide`, for a name
-/// in other letters, and with `--background` alone.
+/// gives another colour, and without `--box` the screen has 800 by 480 pixels. The name is taken in any case of letters.
+/// There is no task with `--wide`, for another name, for two names, and with `--background` alone.
 pub fn the_words_show_on_name_a_terminal()
     ensures taken { (program : Text) →
         takes sixel_app (program ∷ codes "show" ∷ codes "--on" ∷ codes "xterm" ∷ codes "--box" ∷ []) ≡ true }
@@ -123,10 +128,15 @@ pub fn the_words_show_on_name_a_terminal()
         (ShowOn XTerm (Rgb 100 100 100) Box) }
     ensures coloured { (program : Text) → IsTaskOf (program ∷ codes "show" ∷ codes "--background" ∷ codes "100,50,0"
         ∷ codes "--on" ∷ codes "konsole" ∷ []) (ShowOn Konsole (Rgb 100 50 0) (Sides 800 480)) }
+    ensures any_case { (program : Text) →
+        IsTaskOf (program ∷ codes "show" ∷ codes "--on" ∷ codes "XTerm" ∷ codes "--box" ∷ [])
+        (ShowOn XTerm (Rgb 100 100 100) Box) }
     ensures no_wide { (program : Text) (task : Task) →
         IsTaskOf (program ∷ codes "show" ∷ codes "--on" ∷ codes "foot" ∷ codes "--wide" ∷ []) task → ⊥ }
     ensures no_other_name { (program : Text) (task : Task) →
-        IsTaskOf (program ∷ codes "show" ∷ codes "--on" ∷ codes "XTerm" ∷ []) task → ⊥ }
+        IsTaskOf (program ∷ codes "show" ∷ codes "--on" ∷ codes "kitty" ∷ []) task → ⊥ }
+    ensures no_two_names { (program : Text) (task : Task) →
+        IsTaskOf (program ∷ codes "show" ∷ codes "--on" ∷ codes "xterm,foot" ∷ []) task → ⊥ }
     ensures no_background { (program : Text) (task : Task) →
         IsTaskOf (program ∷ codes "show" ∷ codes "--background" ∷ codes "100,50,0" ∷ []) task → ⊥ }
 {}

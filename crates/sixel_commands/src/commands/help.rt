@@ -4,7 +4,7 @@ pub const SIXEL: &str = "Exit status: 0 done or portable, 1 broken, 2 refused, 3
 
 Examples: sixel check plots/*.six
           sixel explain Uncovered
-          sixel mend plot.six > mended.six";
+          sixel mend --background 100,100,100 plot.six > mended.six";
 
 pub const LIST: &str = "Reads sixel text from FILE or, without one, from standard input. Writes to
 standard output one line for the start, for each command and for the end: its

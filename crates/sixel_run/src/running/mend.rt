@@ -9,11 +9,11 @@ ghost use Rattle.sixel_model.specs.Profiles.{count_of};
 ghost use Rattle.sixel_report.specs.declared.fault.RunFault.TheVariants.{Read};
 ghost use Rattle.sixel_report.specs.Outputs.{CountsWrites, WroteBy, WroteNothing, failures_by};
 ghost use Rattle.sixel_sheet.specs.Outputs.{HasPictureSize};
-ghost use Rattle.sixel_run.specs.Outputs.{MendGives, has_one_colour, mended_status};
+ghost use Rattle.sixel_run.specs.Outputs.{MendGives, mended_status};
 
 use sixel_io::{PIECE, Sink, Source};
 use sixel_mend::{Mending, mend_measured, size_of};
-use sixel_model::{Picture, Profile};
+use sixel_model::Profile;
 use sixel_report::{Note, RunFault, Status};
 use sixel_sheet::read_document;
 use std::alloc::Global;
@@ -46,32 +46,20 @@ pub fn mend<S: Source, K: Sink>(
         size_of(&measurer)?;
         return Err(RunFault::OutOfMemory);
     };
-    let picture = mend_measured(alloc, profile, mending, &measurer, &bytes)?;
-    match sixel_encode::encode(&picture, output) {
-        Ok(()) => Ok(status_of(&picture)),
+    let mended = mend_measured(alloc, profile, mending, &measurer, &bytes)?;
+    match sixel_encode::encode(&mended.picture, output) {
+        Ok(()) => Ok(status_of(mended.hidden)),
         Err(_) => Err(RunFault::Write),
     }
 }
 
-/// The status of this mended picture: done, perhaps with a note.
-fn status_of(picture: &Picture) -> Status
-    ensures { result ≡ mended_status picture.now }
+/// The status of a mended picture that hides this many painted pixels: done, perhaps with a note.
+fn status_of(hidden: u32) -> Status
+    ensures { result ≡ mended_status hidden }
 {
-    if has_one_colour(picture) {
-        Status::Noted(Note::OneColour)
-    } else {
+    if hidden == 0 {
         Status::Done
+    } else {
+        Status::Noted(Note::Hidden { pixels: hidden })
     }
-}
-
-/// Whether all pixels of a mended picture have one colour.
-fn has_one_colour(picture: &Picture) -> bool
-    ensures { result ≡ has_one_colour picture.now }
-{
-    for register in picture.registers() {
-        if *register != 0 {
-            return false;
-        }
-    }
-    true
 }

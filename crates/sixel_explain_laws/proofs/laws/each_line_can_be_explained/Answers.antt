@@ -27,7 +27,8 @@ use Rattle.sixel_messages.specs.declared.unopened.Unopened.{Unopened}
 use Rattle.sixel_messages.specs.declared.unopened.Unopened.TheVariants.{Failed, IsFolder, NotFound, NotText, Links}
 use Rattle.sixel_messages.specs.declared.unopened.Unopened.TheVariants.{LongName, NotFolder, PermissionDenied}
 use Rattle.sixel_messages.specs.Messages.{fault_said, labelled}
-use Rattle.sixel_messages.specs.Names.{printed, unopened_line}
+use Rattle.sixel_printing.specs.Printing.{printed}
+use Rattle.sixel_messages.specs.Names.{unopened_line}
 use Rattle.sixel_messages.specs.Unopened.{reason_text}
 use Rattle.sixel_explain_laws.proofs.laws.each_line_can_be_explained.Goals as goal
 

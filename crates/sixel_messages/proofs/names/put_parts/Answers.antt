@@ -15,7 +15,7 @@ returns-in_err-put_name g c =
     rw failed.1
     (writes-cut _ refl
     (writes-longer _
-    (writes-then _ refl c.in_ok-put_all.ensures (rw c.as_bytes.ensures.value at c.in_err-put_name.ensures))))
+    (writes-then _ refl c.in_ok-put_all.ensures c.in_err-put_name.ensures)))
 
 pub returns-in_err-put_all-2 : goal.returns-in_err-put_all-2
 returns-in_err-put_all-2 g c =
@@ -24,13 +24,13 @@ returns-in_err-put_all-2 g c =
     rw failed.1
     (writes-cut _ refl
     (writes-then _ refl
-    (writes-next c.in_ok-put_all.ensures (rw c.as_bytes.ensures.value at c.in_ok-put_name.ensures))
+    (writes-next c.in_ok-put_all.ensures c.in_ok-put_name.ensures)
     c.in_err-put_all-2.ensures))
 
 pub returns : goal.returns
 returns g c =
     writes-then c.put_all-3.result refl
     (writes-next
-    (writes-next c.in_ok-put_all.ensures (rw c.as_bytes.ensures.value at c.in_ok-put_name.ensures))
+    (writes-next c.in_ok-put_all.ensures c.in_ok-put_name.ensures)
     c.in_ok-put_all-2.ensures)
     c.put_all-3.ensures

@@ -13,5 +13,6 @@ returns-in-Ok g c =
       λ quiet. ap (g.K.Sink.state) (flushed.untouched quiet),
       put_then _ (_ ∷ _ ∷ []) _ (g.E.Sink.state c.put_hints.new.errors) _
           (rw c.as_slice.ensures at c.put_hints.ensures)
-          (two_put _ _ _ (g.E.Sink.state c.put_wrapped.new.errors) _ c.put_wrapped.ensures c.put_count.ensures),
+          (two_put _ _ _ (g.E.Sink.state c.put_wrapped.new.errors) _ (rw c.has_notes.ensures at c.put_wrapped.ensures)
+          c.put_count.ensures),
     )

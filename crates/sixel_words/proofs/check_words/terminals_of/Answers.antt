@@ -1,31 +1,37 @@
-use Rattle.std.proofs.Common.{◌≡◌, ◌∙◌, None, Some, codes, inl, inr, sym}
-use Rattle.clap.specs.Walk.{first_of, rows_of}
+use Rattle.std.proofs.Common.{◌≡◌, ◌∙◌, [], List, Option, ap, codes, map, refl, sym}
+use Rattle.std.specs.Prelude.{unwrap_or}
+use Rattle.clap.specs.Walk.{Text, rows_of}
 use Rattle.clap.specs.Matches.{found_of}
-use Rattle.clap.proofs.WalkLemmas.{first_value-rows}
-use Rattle.sixel_words.specs.Words.{HasTerminals, NamesTerminals}
+use Rattle.clap.proofs.WalkLemmas.{raw_values-rows}
+use Rattle.sixel_words.specs.Words.{HasTerminals, NameTerminals, on_values}
 use Rattle.sixel_words.proofs.ColourLemmas.{some_weaker}
-use Rattle.sixel_words.proofs.NamesLemmas.{has_none}
+use Rattle.sixel_words.proofs.NamesLemmas.{has_these, on_these}
 use Rattle.sixel_words.proofs.check_words.terminals_of.Goals as goal
 use Rattle.sixel_words.proofs.check_words.terminals_of.Goals.{In-None, In-Some}
 
--- the text of the option
-given : (c : In-Some) → first_of (codes "on") (rows_of (found_of c.args.matches.now)) ≡ Some c.in-Some.text.now
-given c = sym (first_value-rows (found_of c.args.matches.now) (codes "on")) ∙ sym c.in-Some.ensures
+abbrev listed : Option (List Text) → List Text
+listed o = unwrap_or o []
 
--- it isn't given
-absent : (c : In-None) → first_of (codes "on") (rows_of (found_of c.args.matches.now)) ≡ None
-absent c = sym (first_value-rows (found_of c.args.matches.now) (codes "on")) ∙ sym c.in-None.ensures
+given : (c : In-Some) → on_values (rows_of (found_of c.args.matches.now))
+    ≡ map (λ value. value.now) c.in-Some.values.now
+given c = ap listed (sym (raw_values-rows (found_of c.args.matches.now) (codes "on")) ∙ sym c.in-Some.ensures)
+
+absent : (c : In-None) → on_values (rows_of (found_of c.args.matches.now)) ≡ []
+absent c = ap listed (sym (raw_values-rows (found_of c.args.matches.now) (codes "on")) ∙ sym c.in-None.ensures)
 
 pub returns-in-Some-clause-some : goal.returns-in-Some-clause-some
 returns-in-Some-clause-some c =
-    let is = given (goal.at.returns-in-Some-clause-some c).In-Some in
-    some_weaker (NamesTerminals c.in-Some.text.now) (HasTerminals (rows_of (found_of c.args.matches.now)))
-    c.terminals_named.result (λ t names. inr (c.in-Some.text.now, is, names)) c.terminals_named.ensures.some
+    let rows = rows_of (found_of c.args.matches.now) in
+    let on = given (goal.at.returns-in-Some-clause-some c).In-Some in
+    some_weaker (NameTerminals (map (λ value. value.now) c.in-Some.values.now)) (HasTerminals rows)
+    c.terminals_named.result (λ t name. has_these rows _ t on name) c.terminals_named.ensures.some
 
 pub returns-in-Some-clause-none : goal.returns-in-Some-clause-none
 returns-in-Some-clause-none c = λ none t has.
-    has_none (rows_of (found_of c.args.matches.now)) c.in-Some.text.now t
-    (given (goal.at.returns-in-Some-clause-none c).In-Some) (c.terminals_named.ensures.none none) has
+    let on = given (goal.at.returns-in-Some-clause-none c).In-Some in
+    c.terminals_named.ensures.none none t (on_these (rows_of (found_of c.args.matches.now)) _ t on has)
 
 pub returns-in-None-clause-some : goal.returns-in-None-clause-some
-returns-in-None-clause-some c = inl (absent (goal.at.returns-in-None-clause-some c).In-None, c.none.ensures)
+returns-in-None-clause-some c =
+    has_these (rows_of (found_of c.args.matches.now)) [] _ (absent (goal.at.returns-in-None-clause-some c).In-None)
+    (refl, c.none.ensures)

@@ -1,4 +1,4 @@
-use Rattle.std.proofs.Common.{codes, inl, refl}
+use Rattle.std.proofs.Common.{codes, refl}
 use Rattle.clap.specs.Takes.{walk_passes}
 use Rattle.clap.specs.Walk.{walked}
 use Rattle.sixel_words_laws.proofs.laws.the_word_survey_gives_a_survey.Goals as goal
@@ -9,11 +9,11 @@ returns-clause-taken c = λ program. refl
 
 pub returns-clause-task : goal.returns-clause-task
 unfolding walked
-returns-clause-task c = λ program. (codes "survey", _, refl, (refl, refl, inl (refl, refl)))
+returns-clause-task c = λ program. (codes "survey", _, refl, (refl, refl, (refl, refl)))
 
 pub returns-clause-files : goal.returns-clause-files
 unfolding walked
-returns-clause-files c = λ program. (codes "survey", _, refl, (refl, refl, inl (refl, refl)), refl, refl, refl)
+returns-clause-files c = λ program. (codes "survey", _, refl, (refl, refl, (refl, refl)), refl, refl, refl)
 
 pub returns-clause-files_taken : goal.returns-clause-files_taken
 unfolding walked walk_passes

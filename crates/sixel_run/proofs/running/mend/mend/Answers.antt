@@ -1,4 +1,5 @@
 use Rattle.std.proofs.lemmas.Result.{err_from_is_err_and}
+use Rattle.sixel_model.specs.Profiles.{count_of}
 use Rattle.sixel_run.proofs.MendLemmas.{measured_grown, measured_refused, measured_sized, mend_grown, mend_refused}
 use Rattle.sixel_run.proofs.MendLemmas.{mend_unread, mend_unwritten, mend_written}
 use Rattle.sixel_run.proofs.running.mend.mend.Goals as goal
@@ -10,33 +11,36 @@ returns-in_err-kept-clause-wrote g c =
     (mend_unread _ c.args.mending.now (g.S.Source.state c.args.input.now).remaining c.in_err-kept.field-0.0 _
     c.in_err-kept.ensures.refused)
 
-pub returns-in_err-picture-clause-wrote : goal.returns-in_err-picture-clause-wrote
-returns-in_err-picture-clause-wrote g c =
-    let exit = c.from_residual-in_err-picture in
+pub returns-in_err-mended-clause-wrote : goal.returns-in_err-mended-clause-wrote
+returns-in_err-mended-clause-wrote g c =
+    let exit = c.from_residual-in_err-mended in
     let failed = err_from_is_err_and exit.result exit.ensures.1 in
     rw (failed.1, failed.2)
-    (mend_refused _ c.args.mending.now (g.S.Source.state c.args.input.now).remaining c.deref.result.now
-    c.in_err-picture.field-0.0 _ (rw c.deref.ensures.value (rw c.in-Some.is at c.in_ok-kept.ensures.read)) c.in_err-picture.ensures)
+    (mend_refused (count_of c.args.profile) c.args.mending.now (g.S.Source.state c.args.input.now).remaining c.deref.result.now
+    c.in_err-mended.field-0.0 _ (rw c.deref.ensures.value (rw c.in-Some.is at c.in_ok-kept.ensures.read)) c.in_err-mended.ensures)
 
 pub returns-in-Ok-clause-wrote : goal.returns-in-Ok-clause-wrote
 returns-in-Ok-clause-wrote g c =
-    rw c.status_of.ensures (mend_written _ c.args.mending.now (g.S.Source.state c.args.input.now).remaining c.deref.result.now
-    c.in_ok-picture.picture _ _ (rw c.deref.ensures.value (rw c.in-Some.is at c.in_ok-kept.ensures.read)) c.in_ok-picture.ensures
+    rw c.status_of.ensures (mend_written (count_of c.args.profile) c.args.mending.now
+    (g.S.Source.state c.args.input.now).remaining c.deref.result.now c.in_ok-mended.mended _ _
+    (rw c.deref.ensures.value (rw c.in-Some.is at c.in_ok-kept.ensures.read)) c.in_ok-mended.ensures
     c.in-Ok.ensures.written.taken)
 
 pub returns-clause-wrote : goal.returns-clause-wrote
 returns-clause-wrote g c =
-    mend_unwritten _ c.args.mending.now (g.S.Source.state c.args.input.now).remaining c.deref.result.now
-    c.in_ok-picture.picture _ _ (rw c.deref.ensures.value (rw c.in-Some.is at c.in_ok-kept.ensures.read)) c.in_ok-picture.ensures
+    mend_unwritten (count_of c.args.profile) c.args.mending.now (g.S.Source.state c.args.input.now).remaining
+    c.deref.result.now c.in_ok-mended.mended _ _
+    (rw c.deref.ensures.value (rw c.in-Some.is at c.in_ok-kept.ensures.read)) c.in_ok-mended.ensures
     c.in-Err.ensures.written.taken
 
-pub returns-in_err-picture-clause-memory : goal.returns-in_err-picture-clause-memory
-returns-in_err-picture-clause-memory g c = λ is.
-    let exit = c.from_residual-in_err-picture in
+pub returns-in_err-mended-clause-memory : goal.returns-in_err-mended-clause-memory
+returns-in_err-mended-clause-memory g c = λ is.
+    let exit = c.from_residual-in_err-mended in
     let failed = err_from_is_err_and exit.result exit.ensures.1 in
-    mend_grown _ c.args.mending.now (g.S.Source.state c.args.input.now).remaining c.deref.result.now
-    c.in_err-picture.field-0.0 (rw c.deref.ensures.value (rw c.in-Some.is at c.in_ok-kept.ensures.read))
-    c.in_err-picture.ensures (cc (failed.1, failed.2, is))
+    mend_grown (count_of c.args.profile) c.args.mending.now (g.S.Source.state c.args.input.now).remaining
+    c.deref.result.now
+    c.in_err-mended.field-0.0 (rw c.deref.ensures.value (rw c.in-Some.is at c.in_ok-kept.ensures.read))
+    c.in_err-mended.ensures (cc (failed.1, failed.2, is))
 
 pub returns-in_err-size_of-clause-wrote : goal.returns-in_err-size_of-clause-wrote
 returns-in_err-size_of-clause-wrote g c =

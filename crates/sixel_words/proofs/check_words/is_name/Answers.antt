@@ -1,8 +1,0 @@
-use Rattle.std.proofs.Common.{◌∙◌, sym}
-use Rattle.sixel_words.proofs.NamesLemmas.{is_named_so}
-use Rattle.sixel_words.proofs.check_words.is_name.Goals as goal
-
-pub returns : goal.returns
-returns c =
-    is_named_so c.args.part.now c.terminal_named.result c.terminal_named.ensures.some c.terminal_named.ensures.none
-    ∙ sym c.is_some.ensures
