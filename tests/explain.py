@@ -21,7 +21,7 @@ QUESTIONS = [
     # A name.
     ("EightBit", "EightBit"),
     ("RasterLate", "RasterLate"),
-    ("mixed", "Mixed"),
+    ("introducer", "Introducer"),
     ("uncovered", "Uncovered"),
     ("MAXVAL", "Maxval"),
     ("tooManyColours", "TooManyColours"),

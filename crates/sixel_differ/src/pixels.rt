@@ -1,12 +1,44 @@
 //! The first pixel in which two screens differ.
 
-ghost use Rattle.std.specs.Prelude.{◌≡◌, ◌≤◌, ◌<◌, ◌*◌, ◌/◌, ◌%◌, ◌^◌, ℕ, length};
+ghost use Rattle.std.specs.Prelude.{◌≡◌, ◌↔◌, ◌≤◌, ◌<◌, ◌*◌, ◌/◌, ◌%◌, ◌^◌, ℕ, IsTrue, length};
 ghost use Rattle.std.specs.Option.{MatchOption};
 ghost use Rattle.sixel_differ.specs.Pixels.{AreAlike, AreSameBelow, DifferFirstAt, IsFirstUnlike};
+ghost use Rattle.sixel_differ.specs.Pixels.{is_grey, seen_in, seen_of};
 
+use sixel_model::{Colour, Parts};
 use sixel_terminal::{Pixel, Screen, are_four_same};
 
-/// An index below which all pixels are the same in both. From it on, fewer than four are left, or one of the next four
+/// Whether a hue of this lightness and saturation is a grey. All four terminals show one grey for it, whatever the hue.
+fn is_grey(lightness: u8, saturation: u8) -> bool
+    ensures { result ≡ is_grey lightness saturation }
+{
+    saturation == 0 || lightness == 0 || lightness == 100
+}
+
+/// What is seen of a colour.
+fn seen(colour: Colour) -> Parts
+    ensures { result ≡ seen_of colour }
+{
+    match colour.parts() {
+        Parts::Hls(hue, lightness, saturation) => {
+            if is_grey(lightness, saturation) {
+                Parts::Hls(0, lightness, 0)
+            } else {
+                Parts::Hls(hue, lightness, saturation)
+            }
+        }
+        parts => parts,
+    }
+}
+
+/// Whether two pixels look the same.
+fn look_same(a: &Pixel, b: &Pixel) -> bool
+    ensures { IsTrue result ↔ (seen_in a.now ≡ seen_in b.now) }
+{
+    a.is_same(b) || seen(a.colour()) == seen(b.colour())
+}
+
+/// An index below which all pixels look the same in both. From it on, fewer than four are left, or one of the next four
 /// isn't the same.
 fn alike_below(a: &[Pixel], b: &[Pixel]) -> usize
     requires { length a.now ≡ length b.now }
@@ -20,7 +52,7 @@ fn alike_below(a: &[Pixel], b: &[Pixel]) -> usize
     at
 }
 
-/// The index of the first pixel that isn't the same in both, if there is one. Those below `start` are the same.
+/// The index of the first pixel that doesn't look the same in both, if there is one. Those below `start` do.
 fn first_from(a: &[Pixel], b: &[Pixel], start: usize) -> Option<usize>
     requires long { length a.now ≡ length b.now }
     requires within { start ≤ length a.now }
@@ -28,14 +60,14 @@ fn first_from(a: &[Pixel], b: &[Pixel], start: usize) -> Option<usize>
     ensures { MatchOption result (AreSameBelow a.now b.now (length a.now)) (IsFirstUnlike a.now b.now) }
 {
     for at in start..a.len() {
-        if !a[at].is_same(&b[at]) {
+        if !look_same(&a[at], &b[at]) {
             return Some(at);
         }
     }
     None
 }
 
-/// The index of the first pixel that isn't the same in both, if there is one.
+/// The index of the first pixel that doesn't look the same in both, if there is one.
 fn first_index(a: &[Pixel], b: &[Pixel]) -> Option<usize>
     requires { length a.now ≡ length b.now }
     ensures { MatchOption result (AreSameBelow a.now b.now (length a.now)) (IsFirstUnlike a.now b.now) }

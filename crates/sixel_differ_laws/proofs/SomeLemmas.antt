@@ -1,8 +1,9 @@
 -- Any screens have a comparison.
 use Rattle.std.proofs.Common.{◌≡◌, ◌≢◌, ◌<◌, ◌+◌, ◌*◌, ◌/◌, ◌%◌, ◌⊎◌, ℕ, zero, suc, List, []}
-use Rattle.std.proofs.Common.{◌∷◌, Some, length}
+use Rattle.std.proofs.Common.{◌∷◌, Option, Some, length}
 use Rattle.std.proofs.Common.{refl, sym, ap, subst, ◌∙◌, arith, inl, inr}
 use Rattle.std.specs.Prelude.{slice_get}
+use Rattle.std.specs.Option.{option_map}
 use Rattle.std.proofs.lemmas.Bool.{cases_eq, cases_lt}
 use Rattle.std.proofs.lemmas.Nat.{div-add-mod', mod_below, mul-add-lt, row_below_turned}
 use Rattle.std.proofs.lemmas.Option.{same_Some}
@@ -20,7 +21,7 @@ use Rattle.sixel_differ.specs.declared.view.Views.{Views}
 use Rattle.sixel_differ.specs.Comparisons.{IsComparison, IsLikeNone, IsUnlikeFirst, NoneShows, StandsAfter, StandsWith}
 use Rattle.sixel_differ.specs.Comparisons.{rank, standing_in}
 use Rattle.sixel_differ_laws.specs.Laws.{SomeComparison}
-use Rattle.sixel_differ.specs.Pixels.{AreAlike, DifferFirstAt, colour_at}
+use Rattle.sixel_differ.specs.Pixels.{AreAlike, DifferFirstAt, seen_at, seen_of}
 use Rattle.sixel_differ.specs.Views.{HasSides, HaveSides, IsUnmodelled, Shows, view_in}
 use Rattle.sixel_differ_laws.proofs.OnceLemmas.{none_shows, not_both, one_named, shown_once}
 use Rattle.sixel_differ.proofs.PixelLemmas.{index_below, some_width}
@@ -47,20 +48,26 @@ same_or_not (Hls a b c) (Hls d e f) =
 same_or_not (Rgb a b c) (Hls d e f) = inr (λ s. cc)
 same_or_not (Hls a b c) (Rgb d e f) = inr (λ s. cc)
 
+-- what is seen of the colour with this index
+abbrev seen_get : List Parts → ℕ → Option Parts
+seen_get colours k = option_map seen_of (slice_get colours k)
+
 abbrev SameBelow : List Parts → List Parts → ℕ → Type 0
-SameBelow xs ys n = (k : ℕ) → k < n → slice_get xs k ≡ slice_get ys k
+SameBelow xs ys n = (k : ℕ) → k < n → seen_get xs k ≡ seen_get ys k
 
 record FirstDifference (xs ys : List Parts) : Type 0 where
   pub at : ℕ
   pub within : at < length xs
-  pub unlike : slice_get xs at ≢ slice_get ys at
+  pub unlike : seen_get xs at ≢ seen_get ys at
   pub before : SameBelow xs ys at
 
-same_more : (x y : Parts) (xs ys : List Parts) (n : ℕ) → x ≡ y → SameBelow xs ys n → SameBelow (x ∷ xs) (y ∷ ys) (n + 1)
+same_more : (x y : Parts) (xs ys : List Parts) (n : ℕ) → seen_of x ≡ seen_of y → SameBelow xs ys n
+    → SameBelow (x ∷ xs) (y ∷ ys) (n + 1)
 same_more x y xs ys n e same zero lt = ap Some e
 same_more x y xs ys n e same (suc k) lt = same k (omega (arith, lt))
 
-later : (x y : Parts) (xs ys : List Parts) → x ≡ y → FirstDifference xs ys → FirstDifference (x ∷ xs) (y ∷ ys)
+later : (x y : Parts) (xs ys : List Parts) → seen_of x ≡ seen_of y → FirstDifference xs ys
+    → FirstDifference (x ∷ xs) (y ∷ ys)
 later x y xs ys e d = record {
   at = suc d.at;
   within = omega (arith, d.within);
@@ -68,11 +75,11 @@ later x y xs ys e d = record {
   before = λ k lt. same_more x y xs ys d.at e d.before k (omega (arith, lt));
 }
 
-at_once : (x y : Parts) (xs ys : List Parts) → x ≢ y → FirstDifference (x ∷ xs) (y ∷ ys)
+at_once : (x y : Parts) (xs ys : List Parts) → seen_of x ≢ seen_of y → FirstDifference (x ∷ xs) (y ∷ ys)
 at_once x y xs ys not = record {
   at = 0;
   within = omega arith;
-  unlike = λ e. not (same_Some x y e);
+  unlike = λ e. not (same_Some (seen_of x) (seen_of y) e);
   before = λ k lt. absurd (omega (arith, lt));
 }
 
@@ -82,7 +89,7 @@ first_difference [] [] long = inl (λ k lt. refl)
 first_difference [] (y ∷ ys) long = absurd (omega (arith, long))
 first_difference (x ∷ xs) [] long = absurd (omega (arith, long))
 first_difference (x ∷ xs) (y ∷ ys) long =
-    elim (same_or_not x y) [
+    elim (same_or_not (seen_of x) (seen_of y)) [
       | inr not ↦ inr (at_once x y xs ys not)
       | inl same ↦ elim (first_difference xs ys (omega (arith, long))) [
         | inl all ↦ inl (λ k lt. same_more x y xs ys (length xs) same all k (omega (arith, lt)))
@@ -93,16 +100,16 @@ first_difference (x ∷ xs) (y ∷ ys) long =
 -- ---- two screens
 
 at_pixel : (a b : Shown) (w h x y : ℕ) → HasSides a w h → HasSides b w h
-    → slice_get a.colours (y * w + x) ≡ slice_get b.colours (y * w + x) → colour_at a x y ≡ colour_at b x y
+    → seen_get a.colours (y * w + x) ≡ seen_get b.colours (y * w + x) → seen_at a x y ≡ seen_at b x y
 at_pixel a b w h x y p q e =
-    ap (λ (n : ℕ). slice_get a.colours (y * n + x)) p.width_is ∙ e
-    ∙ ap (λ (n : ℕ). slice_get b.colours (y * n + x)) (sym q.width_is)
+    ap (λ (n : ℕ). seen_get a.colours (y * n + x)) p.width_is ∙ e
+    ∙ ap (λ (n : ℕ). seen_get b.colours (y * n + x)) (sym q.width_is)
 
-at_index : (a b : Shown) (w h x y : ℕ) → HasSides a w h → HasSides b w h → colour_at a x y ≡ colour_at b x y
-    → slice_get a.colours (y * w + x) ≡ slice_get b.colours (y * w + x)
+at_index : (a b : Shown) (w h x y : ℕ) → HasSides a w h → HasSides b w h → seen_at a x y ≡ seen_at b x y
+    → seen_get a.colours (y * w + x) ≡ seen_get b.colours (y * w + x)
 at_index a b w h x y p q e =
-    ap (λ (n : ℕ). slice_get a.colours (y * n + x)) (sym p.width_is) ∙ e
-    ∙ ap (λ (n : ℕ). slice_get b.colours (y * n + x)) q.width_is
+    ap (λ (n : ℕ). seen_get a.colours (y * n + x)) (sym p.width_is) ∙ e
+    ∙ ap (λ (n : ℕ). seen_get b.colours (y * n + x)) q.width_is
 
 all_alike : (a b : Shown) (w h : ℕ) → HasSides a w h → HasSides b w h
     → SameBelow a.colours b.colours (length a.colours) → AreAlike a b
@@ -118,7 +125,7 @@ first_unlike a b w h p q d = record {
   row = subst (λ (n : ℕ). d.at / w < n) (sym p.height_is)
       (row_below_turned d.at w h w (omega (arith, within)) (omega arith)).1;
   differ = λ e. d.unlike
-      (subst (λ (k : ℕ). slice_get a.colours k ≡ slice_get b.colours k) (div-add-mod' d.at w)
+      (subst (λ (k : ℕ). seen_get a.colours k ≡ seen_get b.colours k) (div-add-mod' d.at w)
       (at_index a b w h (d.at % w) (d.at / w) p q e));
   before = λ u v across down first.
       at_pixel a b w h u v p q

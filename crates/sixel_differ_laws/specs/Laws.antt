@@ -10,15 +10,15 @@ use Rattle.sixel_differ.specs.declared.fault.DifferFault.TheVariants.{OutOfMemor
 use Rattle.sixel_differ.specs.declared.view.Views.{Views}
 use Rattle.sixel_differ.specs.Comparisons.{IsComparison, one_group}
 use Rattle.sixel_differ.specs.Faults.{IsDifferFault}
-use Rattle.sixel_differ.specs.Pixels.{colour_at}
+use Rattle.sixel_differ.specs.Pixels.{seen_at}
 use Rattle.sixel_differ.specs.Views.{AreViews, HaveSides, Shows}
 
--- all four models say all, and their screens have one colour at each pixel
+-- all four models say all, and one colour is seen at each pixel of their screens
 pub record AreAllAlike (v : Views) : Type 0 where
   pub screen : Named → Shown
   pub shows : (named : Named) → Shows v named (screen named)
   pub alike : (one other : Named) (x y : ℕ) → x < v.width → y < v.height
-      → colour_at (screen one) x y ≡ colour_at (screen other) x y
+      → seen_at (screen one) x y ≡ seen_at (screen other) x y
 
 -- the four are one group exactly where that is so
 abbrev pub OneGroupWhereAlike : Type 0

@@ -39,7 +39,7 @@ pub const ALL_NAMED_RULES: [NamedRule; NAMED_RULE_COUNT] = [
     NamedRule::Asked(AskedRule::Past),
     NamedRule::Asked(AskedRule::Hue),
     NamedRule::Asked(AskedRule::Far),
-    NamedRule::Asked(AskedRule::Mixed),
+    NamedRule::Asked(AskedRule::Introducer),
 ];
 
 impl NamedRule {

@@ -2,7 +2,7 @@
 use Rattle.std.proofs.Common.{◌≡◌, ℕ, ◌+◌, ◌*◌, ◌≤◌, ◌<◌, Bool, true, false, ◌&&◌, max, Option, Some, None, List}
 use Rattle.std.proofs.Common.{replicate, refl, sym, ap, ap₂, subst, ◌∙◌, arith}
 use Rattle.std.specs.Prelude.{IsSome, get_or, nat_lt, slice_get, unwrap_or, if◌then◌else◌}
-use Rattle.std.specs.Option.{option_map_or}
+use Rattle.std.specs.Option.{option_map, option_map_or}
 use Rattle.std.proofs.lemmas.Bool.{and_from, and_parts, cond-false, cond-true, lt-ltb, ltb-true}
 use Rattle.std.proofs.lemmas.List.{get_or-replicate}
 use Rattle.std.proofs.lemmas.Nat.{mul-add-lt}
@@ -40,7 +40,7 @@ use Rattle.sixel_differ.specs.declared.view.View.{View}
 use Rattle.sixel_differ.specs.declared.view.View.TheVariants.{Screen, Unmodelled as Ends}
 use Rattle.sixel_differ.specs.declared.view.Views.{Views}
 use Rattle.sixel_differ_laws.specs.Laws.{AreAllAlike}
-use Rattle.sixel_differ.specs.Pixels.{colour_at}
+use Rattle.sixel_differ.specs.Pixels.{colour_at, seen_of}
 use Rattle.sixel_differ.specs.Views.{AreViews, IsView, Shows as ShowsIn, view_in}
 use Rattle.sixel_differ_laws.proofs.GroupLemmas.{one_group_where_alike}
 use Rattle.sixel_differ_laws.proofs.OnceLemmas.{some_mending}
@@ -230,8 +230,8 @@ all_alike n background bytes v are shown = record {
   screen = λ named. (each_screen n background bytes v are named (shown named)).screen;
   shows = λ named. (each_screen n background bytes v are named (shown named)).shows;
   alike = λ one other x y right below.
-      each_pixel n background bytes v are one (shown one) x y right below
-      ∙ sym (each_pixel n background bytes v are other (shown other) x y right below);
+      ap (option_map seen_of) (each_pixel n background bytes v are one (shown one) x y right below
+      ∙ sym (each_pixel n background bytes v are other (shown other) x y right below));
 }
 
 of_views : (n : ℕ) (background : Parts) (bytes : List ℕ) (v : Views) (are : AreViews background bytes v) → n ≤ 256

@@ -18,7 +18,7 @@ use Rattle.sixel_model.proofs.StepLemmas.{band_push, column_push, raster_push}
 use Rattle.sixel_emulator.specs.Places.{most}
 use Rattle.sixel_emulator.proofs.PlainLemmas.{band_over, column_over, first_before, same_over}
 use Rattle.sixel_terminal.specs.Stretches.{sixels_of}
-use Rattle.sixel_emulator_rules.specs.Asked.{breaks_dropped, breaks_far, breaks_hue, breaks_large, breaks_mixed}
+use Rattle.sixel_emulator_rules.specs.Asked.{breaks_dropped, breaks_far, breaks_hue, breaks_large, breaks_introducer}
 use Rattle.sixel_emulator_rules.specs.Asked.{breaks_past, breaks_raster_late, breaks_rows, leaves_box, leaves_far}
 use Rattle.sixel_emulator_rules.specs.Asked.{is_asked, is_droppable}
 use Rattle.sixel_emulator_rules.specs.Asking.{BreaksNoneWithin}
@@ -31,7 +31,7 @@ use Rattle.sixel_emulator_rules.specs.declared.notes.Notes.{Notes}
 use Rattle.sixel_emulator_rules.specs.declared.rule.AskedRule.{AskedRule}
 use Rattle.sixel_emulator_rules.specs.declared.rule.AskedRule.TheVariants.{RasterLate, Dropped, Stale, Large, Rows}
 use Rattle.sixel_emulator_rules.specs.declared.rule.AskedRule.TheVariants.{Past, Hue}
-use Rattle.sixel_emulator_rules.specs.declared.rule.AskedRule.TheVariants.{Far, Mixed}
+use Rattle.sixel_emulator_rules.specs.declared.rule.AskedRule.TheVariants.{Far, Introducer}
 use Rattle.sixel_emulator_rules.specs.declared.terminals.Terminals.{Terminals}
 use Rattle.sixel_emulator_rules.proofs.AskingLemmas.{none_push}
 use Rattle.sixel_emulator_rules.proofs.CountsLemmas.{breaks_counts, fresh, known_below}
@@ -142,7 +142,7 @@ not_far {before} {k} bits (Some a) is calm t =
 
 pub none_counted : {t : Terminals} {before : List Event} {k : ℕ} (bits : ℕ) (rule : AskedRule)
     → AreCalm t before (suc k) → IsTrue (is_asked t rule) → ¬ CountsAsked rule before (Step (Sixel bits))
-unfolding breaks_raster_late breaks_dropped breaks_large breaks_rows breaks_past breaks_hue breaks_far breaks_mixed
+unfolding breaks_raster_late breaks_dropped breaks_large breaks_rows breaks_past breaks_hue breaks_far breaks_introducer
 none_counted bits RasterLate calm asked h = cc
 none_counted bits Dropped calm asked h = cc
 none_counted {before} bits Stale calm asked h =
@@ -152,7 +152,7 @@ none_counted bits Rows calm asked h = cc
 none_counted {before} bits Past calm asked h = not_past bits (raster_before before) refl calm h
 none_counted bits Hue calm asked h = cc
 none_counted {before} bits Far calm asked h = not_far bits (raster_before before) refl calm h
-none_counted bits Mixed calm asked h = cc
+none_counted bits Introducer calm asked h = cc
 
 known_still : (before : List Event) (bits : ℕ) → known (before ++ Step (Sixel bits) ∷ []) ≡ known before
 unfolding known

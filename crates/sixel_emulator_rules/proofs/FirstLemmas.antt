@@ -9,7 +9,7 @@ use Rattle.sixel_emulator_rules.specs.Counts.{in_order}
 use Rattle.sixel_emulator_rules.specs.declared.rule.AskedRule.{AskedRule}
 use Rattle.sixel_emulator_rules.specs.declared.rule.AskedRule.TheVariants.{RasterLate, Dropped, Stale, Large, Rows}
 use Rattle.sixel_emulator_rules.specs.declared.rule.AskedRule.TheVariants.{Past, Hue}
-use Rattle.sixel_emulator_rules.specs.declared.rule.AskedRule.TheVariants.{Far, Mixed}
+use Rattle.sixel_emulator_rules.specs.declared.rule.AskedRule.TheVariants.{Far, Introducer}
 
 -- the rule's place in the list
 pub there : (r : AskedRule) → slice_get in_order (number_of r - 14) ≡ Some r
@@ -21,7 +21,7 @@ there Rows = refl
 there Past = refl
 there Hue = refl
 there Far = refl
-there Mixed = refl
+there Introducer = refl
 
 pub same_number : (m r : AskedRule) → number_of m ≡ number_of r → m ≡ r
 same_number m r h =
@@ -45,7 +45,7 @@ at_least Rows = omega arith
 at_least Past = omega arith
 at_least Hue = omega arith
 at_least Far = omega arith
-at_least Mixed = omega arith
+at_least Introducer = omega arith
 
 at_most : (m : AskedRule) → number_of m < 23
 at_most RasterLate = omega arith
@@ -56,7 +56,7 @@ at_most Rows = omega arith
 at_most Past = omega arith
 at_most Hue = omega arith
 at_most Far = omega arith
-at_most Mixed = omega arith
+at_most Introducer = omega arith
 
 -- what is found passes
 found_by : (p : AskedRule → Bool) (x r : AskedRule) (o : Option AskedRule) (b : Bool) → p x ≡ b

@@ -10,7 +10,7 @@ use Rattle.sixel_grammar.specs.declared.command.Command.TheVariants.{Repeat, Sel
 use Rattle.sixel_grammar.specs.declared.command.Event.{Event}
 use Rattle.sixel_grammar.specs.declared.command.Event.TheVariants.{Step}
 use Rattle.sixel_model.specs.Events.{columns_of, is_painting}
-use Rattle.sixel_emulator_rules.specs.Asked.{breaks_hue, breaks_large, breaks_mixed, breaks_rows, is_asked}
+use Rattle.sixel_emulator_rules.specs.Asked.{breaks_hue, breaks_large, breaks_introducer, breaks_rows, is_asked}
 use Rattle.sixel_emulator_rules.specs.Counts.{asked_in, counts_in, first_in, fits_box_in, fits_in, in_order, is_calm_in}
 use Rattle.sixel_emulator_rules.specs.Counts.{is_near_in, leaves_far_in, leaves_in}
 use Rattle.sixel_emulator_rules.specs.Notes.{stale_in}
@@ -19,7 +19,7 @@ use Rattle.sixel_emulator_rules.specs.declared.notes.Notes.{Notes}
 use Rattle.sixel_emulator_rules.specs.declared.rule.AskedRule.{AskedRule}
 use Rattle.sixel_emulator_rules.specs.declared.rule.AskedRule.TheVariants.{RasterLate, Dropped, Stale, Large, Rows}
 use Rattle.sixel_emulator_rules.specs.declared.rule.AskedRule.TheVariants.{Past, Hue}
-use Rattle.sixel_emulator_rules.specs.declared.rule.AskedRule.TheVariants.{Far, Mixed}
+use Rattle.sixel_emulator_rules.specs.declared.rule.AskedRule.TheVariants.{Far, Introducer}
 use Rattle.sixel_emulator_rules.specs.declared.terminals.Terminals.{Terminals}
 
 find_none : {X : Type 0} (p : X → Bool) (xs : List X) → ((x : X) → p x ≡ false) → find p xs ≡ None
@@ -43,7 +43,7 @@ selects_stay n r None = refl
 selects_stay n r (Some d) = refl
 
 none_counts : (n : Notes) (r : ℕ) (rule : AskedRule) → counts_in n (Step (Select r)) rule ≡ false
-unfolding breaks_hue breaks_large breaks_mixed breaks_rows
+unfolding breaks_hue breaks_large breaks_introducer breaks_rows
 none_counts n r RasterLate = refl
 none_counts n r Dropped = refl
 none_counts n r Stale = refl
@@ -52,7 +52,7 @@ none_counts n r Rows = refl
 none_counts n r Past = selects_stay n r n.declared
 none_counts n r Hue = refl
 none_counts n r Far = refl
-none_counts n r Mixed = refl
+none_counts n r Introducer = refl
 
 pub quiet_select : (t : Terminals) (n : Notes) (r : ℕ) → first_in t n (Step (Select r)) ≡ None
 quiet_select t n r = none_first t n (Step (Select r)) (λ rule. and_false (is_asked t rule) _ (none_counts n r rule))
@@ -65,7 +65,7 @@ return_stays n None = refl
 return_stays n (Some d) = refl
 
 return_counts : (n : Notes) (rule : AskedRule) → n.droppable ≡ false → counts_in n (Step CarriageReturn) rule ≡ false
-unfolding breaks_hue breaks_large breaks_mixed breaks_rows
+unfolding breaks_hue breaks_large breaks_introducer breaks_rows
 return_counts n RasterLate kept = refl
 return_counts n Dropped kept = kept
 return_counts n Stale kept = refl
@@ -74,7 +74,7 @@ return_counts n Rows kept = refl
 return_counts n Past kept = return_stays n n.declared
 return_counts n Hue kept = refl
 return_counts n Far kept = refl
-return_counts n Mixed kept = refl
+return_counts n Introducer kept = refl
 
 pub quiet_return : (t : Terminals) (n : Notes) → n.droppable ≡ false → first_in t n (Step CarriageReturn) ≡ None
 quiet_return t n kept =
@@ -85,7 +85,7 @@ line_stays n None = refl
 line_stays n (Some d) = refl
 
 line_counts : (n : Notes) (rule : AskedRule) → n.droppable ≡ false → counts_in n (Step NextLine) rule ≡ false
-unfolding breaks_hue breaks_large breaks_mixed breaks_rows
+unfolding breaks_hue breaks_large breaks_introducer breaks_rows
 line_counts n RasterLate kept = refl
 line_counts n Dropped kept = kept
 line_counts n Stale kept = refl
@@ -94,7 +94,7 @@ line_counts n Rows kept = refl
 line_counts n Past kept = line_stays n n.declared
 line_counts n Hue kept = refl
 line_counts n Far kept = refl
-line_counts n Mixed kept = refl
+line_counts n Introducer kept = refl
 
 pub quiet_line : (t : Terminals) (n : Notes) → n.droppable ≡ false → first_in t n (Step NextLine) ≡ None
 quiet_line t n kept =
@@ -148,7 +148,7 @@ not_stale true paints true calm = cc
 
 repeat_counts : (t : Terminals) (n : Notes) (c b : ℕ) (rule : AskedRule) → is_calm_in t n c ≡ true
     → asked_in t n (Step (Repeat c b)) rule ≡ false
-unfolding breaks_hue breaks_large breaks_mixed breaks_rows
+unfolding breaks_hue breaks_large breaks_introducer breaks_rows
 repeat_counts t n c b RasterLate calm = and_false (is_asked t RasterLate) false refl
 repeat_counts t n c b Dropped calm = and_false (is_asked t Dropped) false refl
 repeat_counts t n c b Stale calm =
@@ -165,7 +165,7 @@ repeat_counts t n c b Far calm =
     let one = and_parts (is_near_in n c) (not (is_asked t Stale && stale_in n)) calm in
     let two = and_parts (fits_box_in n c) (nat_le (n.column + c) 32767) one.0 in
     and_false (is_asked t Far) _ (is_near n c b n.declared two.0 two.1)
-repeat_counts t n c b Mixed calm = and_false (is_asked t Mixed) false refl
+repeat_counts t n c b Introducer calm = and_false (is_asked t Introducer) false refl
 
 pub quiet_repeat : (t : Terminals) (n : Notes) (c b : ℕ) → is_calm_in t n c ≡ true
     → first_in t n (Step (Repeat c b)) ≡ None

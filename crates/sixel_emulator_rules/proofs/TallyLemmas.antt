@@ -32,7 +32,7 @@ use Rattle.sixel_emulator_rules.specs.declared.notes.Notes.{Notes}
 use Rattle.sixel_emulator_rules.specs.declared.rule.AskedRule.{AskedRule}
 use Rattle.sixel_emulator_rules.specs.declared.rule.AskedRule.TheVariants.{RasterLate, Dropped, Stale, Large, Rows}
 use Rattle.sixel_emulator_rules.specs.declared.rule.AskedRule.TheVariants.{Past, Hue}
-use Rattle.sixel_emulator_rules.specs.declared.rule.AskedRule.TheVariants.{Far, Mixed}
+use Rattle.sixel_emulator_rules.specs.declared.rule.AskedRule.TheVariants.{Far, Introducer}
 use Rattle.sixel_emulator_rules.specs.declared.tally.AskedEntry.{AskedEntry}
 use Rattle.sixel_emulator_rules.specs.declared.tallying.Tallying.{Tallying}
 use Rattle.sixel_emulator_rules.specs.declared.terminals.Terminals.{Terminals}
@@ -83,7 +83,7 @@ each_of t n place v a b c d e f g h i Rows = refl
 each_of t n place v a b c d e f g h i Past = refl
 each_of t n place v a b c d e f g h i Hue = refl
 each_of t n place v a b c d e f g h i Far = refl
-each_of t n place v a b c d e f g h i Mixed = refl
+each_of t n place v a b c d e f g h i Introducer = refl
 
 each_after : (t : Terminals) (n : Notes) (place : ℕ) (v : Event) (tallies : List (Option AskedEntry))
     → length tallies ≡ 9 → (rule : AskedRule)

@@ -11,14 +11,14 @@ use Rattle.sixel_model.specs.Events.{is_return, named_by, raster_of}
 use Rattle.sixel_model.specs.Geometry.{band, band_rows, column}
 use Rattle.sixel_model.specs.Positions.{HoldsAtPosition, HoldsNowhere, latest}
 use Rattle.sixel_model.specs.Rules.{raster_before}
-use Rattle.sixel_mlterm.specs.MlTerm.{mixes}
+use Rattle.sixel_mlterm.specs.MlTerm.{may_mix}
 use Rattle.sixel_named_terminals.specs.declared.named.Named.{Named}
 use Rattle.sixel_named_terminals.specs.declared.named.Named.TheVariants.{XTerm, MlTerm, Foot, Konsole}
 use Rattle.sixel_emulator_rules.specs.Stale.{IsStale}
 use Rattle.sixel_emulator_rules.specs.declared.rule.AskedRule.{AskedRule}
 use Rattle.sixel_emulator_rules.specs.declared.rule.AskedRule.TheVariants.{RasterLate, Dropped, Stale, Large, Rows}
 use Rattle.sixel_emulator_rules.specs.declared.rule.AskedRule.TheVariants.{Past, Hue}
-use Rattle.sixel_emulator_rules.specs.declared.rule.AskedRule.TheVariants.{Far, Mixed}
+use Rattle.sixel_emulator_rules.specs.declared.rule.AskedRule.TheVariants.{Far, Introducer}
 use Rattle.sixel_emulator_rules.specs.declared.terminals.Terminals.{Terminals}
 
 -- ---- where data commands stand
@@ -37,9 +37,9 @@ leaves_box a before e = is_data_command e && (ends_right a before e || is_below 
 
 -- ---- xterm
 
--- raster attributes with a side above 1,000
+-- raster attributes with a width above 1,000, or a height above 996: its last band reaches past row 1,000
 unfoldable pub breaks_large : Event → Bool
-breaks_large e = option_map_or (λ (a : Attributes). nat_lt 1000 a.width || nat_lt 1000 a.height) (raster_of e) false
+breaks_large e = option_map_or (λ (a : Attributes). nat_lt 1000 a.width || nat_lt 996 a.height) (raster_of e) false
 
 -- a definition in colour system 1
 unfoldable pub breaks_hue : Event → Bool
@@ -62,12 +62,12 @@ breaks_far before e =
     && (nat_lt 32767 (column 0 before + columns_of 0 e)
     || option_map_or (λ a. leaves_far a before e) (raster_before before) false)
 
--- an introducer with which mlterm mixes colours. It does too if a first parameter of 5 is written as 05
-unfoldable pub breaks_mixed : Event → Bool
-breaks_mixed (Start eight parameters) =
-    mixes (slice_index_or parameters.items 0 0) (slice_index_or parameters.items 1 0)
-    || slice_index_or parameters.items 0 0 == 5
-breaks_mixed _ = false
+-- an introducer with a first parameter above 9, of which xterm draws nothing, or by which mlterm may mix colours
+unfoldable pub breaks_introducer : Event → Bool
+breaks_introducer (Start eight parameters) =
+    nat_lt 9 (slice_index_or parameters.items 0 0)
+    || may_mix (slice_index_or parameters.items 0 0) (slice_index_or parameters.items 1 0)
+breaks_introducer _ = false
 
 -- ---- konsole
 
@@ -106,7 +106,7 @@ BreaksAsked Rows before e = IsTrue (breaks_rows e)
 BreaksAsked Past before e = IsTrue (breaks_past before e)
 BreaksAsked Hue before e = IsTrue (breaks_hue e)
 BreaksAsked Far before e = IsTrue (breaks_far before e)
-BreaksAsked Mixed before e = IsTrue (breaks_mixed e)
+BreaksAsked Introducer before e = IsTrue (breaks_introducer e)
 
 -- the number of each rule; those of portable pictures have the numbers 1 to 13
 abbrev pub number_of : AskedRule → ℕ
@@ -118,7 +118,7 @@ number_of Rows = 18
 number_of Past = 19
 number_of Hue = 20
 number_of Far = 21
-number_of Mixed = 22
+number_of Introducer = 22
 
 -- the terminal asks for the rule
 abbrev pub asks : Named → AskedRule → Bool
@@ -129,8 +129,9 @@ asks XTerm Large = true
 asks Konsole Rows = true
 asks Konsole Past = true
 asks XTerm Hue = true
+asks XTerm Introducer = true
 asks MlTerm Far = true
-asks MlTerm Mixed = true
+asks MlTerm Introducer = true
 asks _ _ = false
 
 -- a terminal of the set asks for the rule

@@ -5,14 +5,14 @@ use Rattle.std.specs.List.{find}
 use Rattle.std.specs.Option.{option_map_or}
 use Rattle.sixel_grammar.specs.declared.command.Event.{Event}
 use Rattle.sixel_model.specs.Events.{columns_of, is_data_command, is_painting, is_return, raster_of}
-use Rattle.sixel_emulator_rules.specs.Asked.{breaks_hue, breaks_large, breaks_mixed, breaks_rows, is_asked}
+use Rattle.sixel_emulator_rules.specs.Asked.{breaks_hue, breaks_large, breaks_introducer, breaks_rows, is_asked}
 use Rattle.sixel_emulator_rules.specs.Notes.{stale_in}
 use Rattle.sixel_emulator_rules.specs.declared.notes.Declared.{Declared}
 use Rattle.sixel_emulator_rules.specs.declared.notes.Notes.{Notes}
 use Rattle.sixel_emulator_rules.specs.declared.rule.AskedRule.{AskedRule}
 use Rattle.sixel_emulator_rules.specs.declared.rule.AskedRule.TheVariants.{RasterLate, Dropped, Stale, Large, Rows}
 use Rattle.sixel_emulator_rules.specs.declared.rule.AskedRule.TheVariants.{Past, Hue}
-use Rattle.sixel_emulator_rules.specs.declared.rule.AskedRule.TheVariants.{Far, Mixed}
+use Rattle.sixel_emulator_rules.specs.declared.rule.AskedRule.TheVariants.{Far, Introducer}
 use Rattle.sixel_emulator_rules.specs.declared.terminals.Terminals.{Terminals}
 
 -- ---- where a data command stands
@@ -61,7 +61,7 @@ counts_in n e Rows = breaks_rows e
 counts_in n e Past = past_in n e
 counts_in n e Hue = breaks_hue e
 counts_in n e Far = far_in n e
-counts_in n e Mixed = breaks_mixed e
+counts_in n e Introducer = breaks_introducer e
 
 -- a terminal of the set asks for the rule, and the event breaks it
 abbrev pub asked_in : Terminals → Notes → Event → AskedRule → Bool
@@ -69,7 +69,7 @@ asked_in t n e rule = is_asked t rule && counts_in n e rule
 
 -- the rules in order of number
 abbrev pub in_order : List AskedRule
-in_order = RasterLate ∷ Dropped ∷ Stale ∷ Large ∷ Rows ∷ Past ∷ Hue ∷ Far ∷ Mixed ∷ []
+in_order = RasterLate ∷ Dropped ∷ Stale ∷ Large ∷ Rows ∷ Past ∷ Hue ∷ Far ∷ Introducer ∷ []
 
 abbrev pub first_in : Terminals → Notes → Event → Option AskedRule
 first_in t n e = find (asked_in t n e) in_order

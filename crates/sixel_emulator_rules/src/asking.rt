@@ -90,8 +90,8 @@ impl Asking {
             Some(AskedRule::Hue)
         } else if self.breaks(AskedRule::Far, event) {
             Some(AskedRule::Far)
-        } else if self.breaks(AskedRule::Mixed, event) {
-            Some(AskedRule::Mixed)
+        } else if self.breaks(AskedRule::Introducer, event) {
+            Some(AskedRule::Introducer)
         } else {
             None
         }

@@ -13,7 +13,7 @@ pub enum AskedRule {
     Dropped,
     /// foot: painting in a register that had another colour when it was selected.
     Stale,
-    /// xterm: a declared width or height above 1,000.
+    /// xterm: a declared width above 1,000, or a height above 996.
     Large,
     /// konsole: a declared height that is no multiple of six.
     Rows,
@@ -23,8 +23,8 @@ pub enum AskedRule {
     Hue,
     /// mlterm: sixels, with a set bit or not, so far out that it may end or show colours of chance.
     Far,
-    /// mlterm: an introducer by which it mixes colours.
-    Mixed,
+    /// xterm and mlterm: an introducer with a first number above 9, or by which mlterm may mix colours.
+    Introducer,
 }
 
 impl AskedRule {
@@ -41,7 +41,7 @@ impl AskedRule {
             AskedRule::Past => 19,
             AskedRule::Hue => 20,
             AskedRule::Far => 21,
-            AskedRule::Mixed => 22,
+            AskedRule::Introducer => 22,
         }
     }
 
@@ -59,7 +59,7 @@ impl AskedRule {
             AskedRule::Past => "Past",
             AskedRule::Hue => "Hue",
             AskedRule::Far => "Far",
-            AskedRule::Mixed => "Mixed",
+            AskedRule::Introducer => "Introducer",
         }
     }
 }

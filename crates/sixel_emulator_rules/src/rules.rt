@@ -8,11 +8,14 @@ use crate::events::{columns_of, is_data_command, is_painting, is_raster, is_retu
 use crate::notes::{Declared, Notes};
 use crate::rule::AskedRule;
 use sixel_grammar::{Command, Event};
-use sixel_mlterm::mixes;
+use sixel_mlterm::may_mix;
 use sixel_model::BAND_ROWS;
 
-/// The greatest side of a box for xterm.
-const MOST_SIDE: u16 = 1000;
+/// The greatest width of a box for xterm.
+const MOST_WIDTH: u16 = 1000;
+
+/// Its greatest height: that of whole bands within 1,000 rows.
+const MOST_HEIGHT: u16 = 996;
 
 /// The last column for mlterm.
 const MOST_COLUMN: u64 = 32767;
@@ -20,8 +23,8 @@ const MOST_COLUMN: u64 = 32767;
 /// How far below the box a band may end for mlterm, in rows.
 const MARGIN: u64 = 512;
 
-/// The first parameter by which mlterm mixes colours, if it is written with a zero before it.
-const MIXED: u16 = 5;
+/// The greatest first parameter of an introducer for xterm.
+const MOST_FIRST: u16 = 9;
 
 /// The colour system of hue, lightness and saturation.
 const HLS: u16 = 1;
@@ -152,7 +155,7 @@ impl Notes {
             AskedRule::Past => self.breaks_past(event),
             AskedRule::Hue => breaks_hue(event),
             AskedRule::Far => self.breaks_far(event),
-            AskedRule::Mixed => breaks_mixed(event),
+            AskedRule::Introducer => breaks_introducer(event),
         }
     }
 
@@ -193,7 +196,7 @@ impl Notes {
     }
 }
 
-/// A declared width or height above 1,000.
+/// A declared width above 1,000, or a height above 996.
 #[tactic(auto, unfolding(crate::specs::Asked::breaks_large))]
 #[inline(always)]
 fn breaks_large(event: &Event) -> bool
@@ -201,7 +204,7 @@ fn breaks_large(event: &Event) -> bool
 {
     match event {
         Event::Step(Command::Raster { width, height, .. }) => {
-            *width > MOST_SIDE || *height > MOST_SIDE
+            *width > MOST_WIDTH || *height > MOST_HEIGHT
         }
         _ => false,
     }
@@ -231,16 +234,16 @@ fn breaks_hue(event: &Event) -> bool
     }
 }
 
-/// An introducer by which mlterm mixes colours.
-#[tactic(auto, unfolding(crate::specs::Asked::breaks_mixed))]
+/// An introducer of which xterm draws nothing, or by which mlterm may mix colours.
+#[tactic(auto, unfolding(crate::specs::Asked::breaks_introducer))]
 #[inline(always)]
-fn breaks_mixed(event: &Event) -> bool
-    ensures { result ≡ of.breaks_mixed event.now }
+fn breaks_introducer(event: &Event) -> bool
+    ensures { result ≡ of.breaks_introducer event.now }
 {
     match event {
         Event::Start { parameters, .. } => {
             let first = parameters.first().copied().unwrap_or(0);
-            mixes(first, parameters.get(1).copied().unwrap_or(0)) || first == MIXED
+            first > MOST_FIRST || may_mix(first, parameters.get(1).copied().unwrap_or(0))
         }
         _ => false,
     }

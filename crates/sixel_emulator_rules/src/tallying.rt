@@ -89,7 +89,7 @@ impl Tallying {
         self.count(AskedRule::Past, place, event);
         self.count(AskedRule::Hue, place, event);
         self.count(AskedRule::Far, place, event);
-        self.count(AskedRule::Mixed, place, event);
+        self.count(AskedRule::Introducer, place, event);
     }
 
     /// Takes the next event.

@@ -46,7 +46,8 @@ impl Terminals {
     {
         match rule {
             AskedRule::Large | AskedRule::Hue => self.xterm,
-            AskedRule::Far | AskedRule::Mixed => self.mlterm,
+            AskedRule::Far => self.mlterm,
+            AskedRule::Introducer => self.xterm || self.mlterm,
             AskedRule::Stale => self.foot,
             AskedRule::RasterLate | AskedRule::Dropped => self.konsole,
             AskedRule::Rows | AskedRule::Past => self.konsole,

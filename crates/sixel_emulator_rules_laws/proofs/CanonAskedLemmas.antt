@@ -20,11 +20,11 @@ use Rattle.sixel_encode.specs.Canon.{canon, canon_start, define_command}
 use Rattle.sixel_encode_laws.proofs.OpeningLemmas.{raster}
 use Rattle.sixel_encode.proofs.PartedLemmas.{Parted, parted}
 use Rattle.sixel_encode_laws.proofs.StandLemmas.{box_of}
-use Rattle.sixel_emulator_rules.specs.Asked.{breaks_dropped, breaks_far, breaks_hue, breaks_large, breaks_mixed}
+use Rattle.sixel_emulator_rules.specs.Asked.{breaks_dropped, breaks_far, breaks_hue, breaks_large, breaks_introducer}
 use Rattle.sixel_emulator_rules.specs.Asked.{breaks_past}
 use Rattle.sixel_emulator_rules.specs.Asked.{breaks_raster_late, breaks_rows, leaves_box, leaves_far}
 use Rattle.sixel_emulator_rules.specs.declared.rule.AskedRule.TheVariants.{RasterLate, Dropped, Large, Rows, Past, Hue}
-use Rattle.sixel_emulator_rules.specs.declared.rule.AskedRule.TheVariants.{Far, Mixed}
+use Rattle.sixel_emulator_rules.specs.declared.rule.AskedRule.TheVariants.{Far, Introducer}
 use Rattle.sixel_emulator_rules_laws.specs.Laws.{BreaksNoneOf, CanonSuitsFoot, CanonSuitsKonsole, CanonSuitsMlTerm}
 use Rattle.sixel_emulator_rules_laws.specs.Laws.{CanonSuitsXTerm}
 use Rattle.sixel_emulator_rules_laws.specs.Laws.{HasNoHue}
@@ -71,9 +71,9 @@ nowhere_of t p start box each bands end i at =
 -- ---- rules of one event
 
 -- no command of a band breaks them
-bands_mixed : HoldsOfBands (Fails breaks_mixed)
-unfolding breaks_mixed
-bands_mixed = record {
+bands_introducer : HoldsOfBands (Fails breaks_introducer)
+unfolding breaks_introducer
+bands_introducer = record {
   sixel = λ bits. refl;
   repeat = λ count bits. refl;
   select = λ register. refl;
@@ -112,10 +112,10 @@ bands_hue = record {
 }
 
 -- nor does a definition, of a colour that isn't by hue
-define_mixed : (r : ℕ) (c : Parts) → breaks_mixed (Step (define_command r c)) ≡ false
-unfolding breaks_mixed
-define_mixed r (Rgb x y z) = refl
-define_mixed r (Hls x y z) = refl
+define_introducer : (r : ℕ) (c : Parts) → breaks_introducer (Step (define_command r c)) ≡ false
+unfolding breaks_introducer
+define_introducer r (Rgb x y z) = refl
+define_introducer r (Hls x y z) = refl
 
 define_large : (r : ℕ) (c : Parts) → breaks_large (Step (define_command r c)) ≡ false
 unfolding breaks_large
@@ -133,15 +133,15 @@ unfolding breaks_hue
 define_hue p r (Rgb x y z) none is = refl
 define_hue p r (Hls x y z) none is = absurd (none r x y z is)
 
-mixed_nowhere : (p : PictureValue) → HoldsNowhere (λ before e. IsTrue (breaks_mixed e)) (listed p)
-unfolding breaks_mixed
-mixed_nowhere p = nowhere_of breaks_mixed p refl refl (λ r c is. define_mixed r c) bands_mixed refl
+introducer_nowhere : (p : PictureValue) → HoldsNowhere (λ before e. IsTrue (breaks_introducer e)) (listed p)
+unfolding breaks_introducer
+introducer_nowhere p = nowhere_of breaks_introducer p refl refl (λ r c is. define_introducer r c) bands_introducer refl
 
-large_nowhere : (p : PictureValue) → p.width ≤ 1000 → p.height ≤ 1000
+large_nowhere : (p : PictureValue) → p.width ≤ 1000 → p.height ≤ 996
     → HoldsNowhere (λ before e. IsTrue (breaks_large e)) (listed p)
 unfolding breaks_large
 large_nowhere p across down =
-    nowhere_of breaks_large p refl (or_from _ _ (le-ltb 1000 p.width across) (le-ltb 1000 p.height down))
+    nowhere_of breaks_large p refl (or_from _ _ (le-ltb 1000 p.width across) (le-ltb 996 p.height down))
     (λ r c is. define_large r c) bands_large refl
 
 hue_nowhere : (p : PictureValue) → HasNoHue p → HoldsNowhere (λ before e. IsTrue (breaks_hue e)) (listed p)
@@ -257,12 +257,13 @@ far_nowhere registers p picture i at =
 
 mlterm_none : (registers : ℕ) (p : PictureValue) → IsPicture registers p → BreaksNoneOf MlTerm (listed p)
 mlterm_none registers p picture Far asked = far_nowhere registers p picture
-mlterm_none registers p picture Mixed asked = mixed_nowhere p
+mlterm_none registers p picture Introducer asked = introducer_nowhere p
 mlterm_none registers p picture _ asked = absurd cc
 
-xterm_none : (p : PictureValue) → p.width ≤ 1000 → p.height ≤ 1000 → HasNoHue p → BreaksNoneOf XTerm (listed p)
+xterm_none : (p : PictureValue) → p.width ≤ 1000 → p.height ≤ 996 → HasNoHue p → BreaksNoneOf XTerm (listed p)
 xterm_none p across down none Large asked = large_nowhere p across down
 xterm_none p across down none Hue asked = hue_nowhere p none
+xterm_none p across down none Introducer asked = introducer_nowhere p
 xterm_none p across down none _ asked = absurd cc
 
 konsole_none : (registers : ℕ) (p : PictureValue) → IsPicture registers p → p.height % 6 ≡ 0

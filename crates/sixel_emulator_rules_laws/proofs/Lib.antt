@@ -21,7 +21,7 @@ pub mod MlTermFollowLemmas
 pub mod MlTermShownLemmas
 pub mod XTermReadLemmas
 pub mod XTermSidesLemmas
-pub mod XTermCutLemmas
+pub mod XTermRoomLemmas
 pub mod XTermFollowLemmas
 pub mod XTermStepLemmas
 pub mod XTermShownLemmas

@@ -27,13 +27,13 @@ use Rattle.sixel_named_terminals.specs.declared.named.Named.TheVariants.{MlTerm}
 use Rattle.sixel_emulator.specs.declared.reading.Reads.{Reads}
 use Rattle.sixel_emulator.specs.declared.reading.Reads.TheVariants.{Nothing, DrawsTwo, Unsaid}
 use Rattle.sixel_mlterm.specs.MlTerm.{Buffer, define_and_select, is_chance, is_lost, is_past_all, is_said_colour}
-use Rattle.sixel_mlterm.specs.MlTerm.{mixes, mlterm, mlterm_buffer, mlterm_data, mlterm_register, mlterm_selected}
+use Rattle.sixel_mlterm.specs.MlTerm.{may_mix, mlterm, mlterm_buffer, mlterm_data, mlterm_register, mlterm_selected}
 use Rattle.sixel_mlterm.specs.MlTerm.{rows_to, said_by, wanted_height}
 use Rattle.sixel_emulator.specs.Words.{nearest}
 use Rattle.sixel_judge.proofs.ColourLemmas.{IsSound, each_sound, made}
 use Rattle.sixel_judge.proofs.CoverLemmas.{box_at_data}
 use Rattle.sixel_judge.proofs.OptionLemmas.{some_value}
-use Rattle.sixel_emulator_rules.specs.Asked.{breaks_far, breaks_mixed}
+use Rattle.sixel_emulator_rules.specs.Asked.{breaks_far, breaks_introducer}
 use Rattle.sixel_emulator_rules_laws.proofs.AskedForms.{BreaksFor}
 use Rattle.sixel_emulator_rules_laws.proofs.KeptLemmas.{good_box, named_in_range, not_above}
 use Rattle.sixel_emulator_rules_laws.proofs.MlTermBufferLemmas.{IsBuffered, IsBufferedFor, IsNear, IsUnbuffered}
@@ -111,10 +111,22 @@ by_system q r s x y z true is gives =
     let no : false ≡ true = rw same at gives in cc
 by_system q r s x y z false is gives = said_of q r (nearest s x y z)
 
+-- its system isn't 9
+not_nine : (s x y z : ℕ) → gives_colour (made s x y z) ≡ true → (s == 9) ≡ false
+not_nine s x y z gives = by (s == 9) refl
+  where
+    by : (b : Bool) → (s == 9) ≡ b → b ≡ false
+    by true is =
+        let nine : s ≡ 9 = eqb-true s 9 is in
+        let no : false ≡ true = rw nine at gives in cc
+    by false is = refl
+
 -- a definition that gives a colour in range gives one that the model says
 said_true : (r : ℕ) (e : Event) → IsFalse (breaks_colour_value e) → IfSome (said_by r e) (λ v. v ≡ true)
 unfolding breaks_colour_value
-said_true r (Step (Define q s x y z)) h = by_system (mlterm_register q) r s x y z (s == 3) refl (not-false _ h)
+said_true r (Step (Define q s x y z)) h =
+    let gives : gives_colour (made s x y z) ≡ true = not-false _ h in
+    rw (not_nine s x y z gives) (by_system (mlterm_register q) r s x y z (s == 3) refl gives)
 said_true r _ h = tt
 
 all_said : (r : ℕ) (o : Option Bool) → r < 256 → IfSome o (λ v. v ≡ true) → unwrap_or o (nat_le r 255) ≡ true
@@ -212,8 +224,9 @@ define_read : (n : ℕ) (before : List Event) (r s x y z : ℕ) → n ≤ 256 �
     → IsRead (mlterm before (Step (Define r s x y z)) None) (Step (Define r s x y z) ∷ Step (Select r) ∷ [])
 unfolding breaks_colour_value breaks_register
 define_read n before r s x y z few k =
-    rw (register_same n r few k.register)
-    (define_by r s x y z (s == 1) (s == 2) refl refl (not-false _ k.colour_value))
+    let gives : gives_colour (made s x y z) ≡ true = not-false _ k.colour_value in
+    rw (register_same n r few k.register, not_nine s x y z gives)
+    (define_by r s x y z (s == 1) (s == 2) refl refl gives)
 
 select_read : (n : ℕ) (before : List Event) (r : ℕ) → n ≤ 256 → Keeps n before (Step (Select r))
     → IsRead (mlterm before (Step (Select r)) None) (Step (Select r) ∷ [])
@@ -227,12 +240,12 @@ start_read false h = record { goes_on = refl; drawn_is = refl }
 -- ---- all events
 
 by_kind : (n : ℕ) (before : List Event) (e : Event) → n ≤ 256 → BreaksNone n Uncovered before → Keeps n before e
-    → IsFalse (breaks_far before e) → IsFalse (breaks_mixed e) → IsBuffered before (raster_before before)
+    → IsFalse (breaks_far before e) → IsFalse (breaks_introducer e) → IsBuffered before (raster_before before)
     → IsRead (mlterm before e None) (mlterm_draws e)
-unfolding breaks_mixed
+unfolding breaks_introducer
 by_kind n before (Start eight parameters) few none k far mixed buffered =
-    start_read (mixes (slice_index_or parameters.items 0 0) (slice_index_or parameters.items 1 0))
-    (or_parts _ (slice_index_or parameters.items 0 0 == 5) mixed).0
+    start_read (may_mix (slice_index_or parameters.items 0 0) (slice_index_or parameters.items 1 0))
+    (or_parts (nat_lt 9 (slice_index_or parameters.items 0 0)) _ mixed).1
 by_kind n before (Step (Raster pan pad w h)) few none k far mixed buffered = raster_read n before pan pad w h k buffered
 by_kind n before (Step (Define r s x y z)) few none k far mixed buffered = define_read n before r s x y z few k
 by_kind n before (Step (Select r)) few none k far mixed buffered = select_read n before r few k
@@ -245,11 +258,11 @@ by_kind n before (Step NextLine) few none k far mixed buffered = record { goes_o
 by_kind n before (Finish eight) few none k far mixed buffered = record { goes_on = refl; drawn_is = refl }
 
 pub not_far : (before : List Event) (e : Event) → ¬ BreaksFor MlTerm before e → IsFalse (breaks_far before e)
-not_far before e unbroken = (or_parts (breaks_far before e) (breaks_mixed e) (is_false _ unbroken)).0
+not_far before e unbroken = (or_parts (breaks_far before e) (breaks_introducer e) (is_false _ unbroken)).0
 
 pub mlterm_reads : (n : ℕ) (before : List Event) (e : Event) → n ≤ 256 → BreaksNone n Uncovered before
     → Keeps n before e → ¬ BreaksFor MlTerm before e → IsBuffered before (raster_before before)
     → IsRead (mlterm before e None) (mlterm_draws e)
 mlterm_reads n before e few none k unbroken buffered =
-    let parts = or_parts (breaks_far before e) (breaks_mixed e) (is_false _ unbroken) in
+    let parts = or_parts (breaks_far before e) (breaks_introducer e) (is_false _ unbroken) in
     by_kind n before e few none k parts.0 parts.1 buffered

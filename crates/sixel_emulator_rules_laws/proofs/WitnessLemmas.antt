@@ -31,13 +31,13 @@ use Rattle.sixel_check_laws.proofs.OnePixel.{second_of}
 use Rattle.sixel_judge.proofs.SearchLemmas.{decide_true, first_point, in_row, least_below, least_here, least_more}
 use Rattle.sixel_judge.proofs.SearchLemmas.{row_decided}
 use Rattle.sixel_emulator_rules.specs.Asked.{BreaksAsked, asks, breaks_dropped, breaks_far, breaks_hue, breaks_large}
-use Rattle.sixel_emulator_rules.specs.Asked.{breaks_mixed, breaks_past, breaks_raster_late, breaks_rows}
+use Rattle.sixel_emulator_rules.specs.Asked.{breaks_introducer, breaks_past, breaks_raster_late, breaks_rows}
 use Rattle.sixel_emulator_rules.specs.Stale.{colour_at_select}
 use Rattle.sixel_emulator_rules_laws.specs.Witnesses.{EachRuleHasAWitness, asker_of, witness_of}
 use Rattle.sixel_emulator_rules.specs.declared.rule.AskedRule.{AskedRule}
 use Rattle.sixel_emulator_rules.specs.declared.rule.AskedRule.TheVariants.{RasterLate, Dropped, Stale, Large, Rows}
 use Rattle.sixel_emulator_rules.specs.declared.rule.AskedRule.TheVariants.{Past, Hue}
-use Rattle.sixel_emulator_rules.specs.declared.rule.AskedRule.TheVariants.{Far, Mixed}
+use Rattle.sixel_emulator_rules.specs.declared.rule.AskedRule.TheVariants.{Far, Introducer}
 
 -- ---- more registers
 
@@ -80,7 +80,7 @@ unbroken_16 Rows = second_of (broken_or_none 16 (witness_of Rows)) refl
 unbroken_16 Past = second_of (broken_or_none 16 (witness_of Past)) refl
 unbroken_16 Hue = second_of (broken_or_none 16 (witness_of Hue)) refl
 unbroken_16 Far = second_of (broken_or_none 16 (witness_of Far)) refl
-unbroken_16 Mixed = second_of (broken_or_none 16 (witness_of Mixed)) refl
+unbroken_16 Introducer = second_of (broken_or_none 16 (witness_of Introducer)) refl
 
 -- ---- the others
 
@@ -151,7 +151,7 @@ alone_past _ other asked = absurd cc
 
 alone_elsewhere : (rule m : AskedRule) → m ≢ rule → IsTrue (asks (asker_of rule) m)
     → HoldsNowhere (BreaksAsked m) (witness_of rule)
-unfolding breaks_large breaks_hue breaks_far breaks_mixed any_at any_below passes_at raster_before earliest band column
+unfolding breaks_large breaks_hue breaks_far breaks_introducer any_at any_below passes_at raster_before earliest band column
     since
 alone_elsewhere RasterLate m other asked = alone_late m other asked
 alone_elsewhere Dropped m other asked = alone_dropped m other asked
@@ -161,16 +161,18 @@ alone_elsewhere Stale Stale other asked = absurd (other refl)
 alone_elsewhere Stale _ other asked = absurd cc
 alone_elsewhere Large Large other asked = absurd (other refl)
 alone_elsewhere Large Hue other asked = nowhere (λ before e. breaks_hue e) (witness_of Large) refl
+alone_elsewhere Large Introducer other asked = nowhere (λ before e. breaks_introducer e) (witness_of Large) refl
 alone_elsewhere Large _ other asked = absurd cc
 alone_elsewhere Hue Hue other asked = absurd (other refl)
 alone_elsewhere Hue Large other asked = nowhere (λ before e. breaks_large e) (witness_of Hue) refl
+alone_elsewhere Hue Introducer other asked = nowhere (λ before e. breaks_introducer e) (witness_of Hue) refl
 alone_elsewhere Hue _ other asked = absurd cc
 alone_elsewhere Far Far other asked = absurd (other refl)
-alone_elsewhere Far Mixed other asked = nowhere (λ before e. breaks_mixed e) (witness_of Far) refl
+alone_elsewhere Far Introducer other asked = nowhere (λ before e. breaks_introducer e) (witness_of Far) refl
 alone_elsewhere Far _ other asked = absurd cc
-alone_elsewhere Mixed Mixed other asked = absurd (other refl)
-alone_elsewhere Mixed Far other asked = nowhere breaks_far (witness_of Mixed) refl
-alone_elsewhere Mixed _ other asked = absurd cc
+alone_elsewhere Introducer Introducer other asked = absurd (other refl)
+alone_elsewhere Introducer Far other asked = nowhere breaks_far (witness_of Introducer) refl
+alone_elsewhere Introducer _ other asked = absurd cc
 
 -- ---- the rule itself
 
@@ -183,10 +185,10 @@ position_of Rows = 1
 position_of Past = 5
 position_of Hue = 2
 position_of Far = 6
-position_of Mixed = 0
+position_of Introducer = 0
 
 broken_there : (rule : AskedRule) → HoldsAtPosition (BreaksAsked rule) (witness_of rule) (position_of rule)
-unfolding breaks_raster_late breaks_dropped breaks_large breaks_rows breaks_past breaks_hue breaks_far breaks_mixed
+unfolding breaks_raster_late breaks_dropped breaks_large breaks_rows breaks_past breaks_hue breaks_far breaks_introducer
     known colour_of definition_of colour_at_select last_at last_below at_position any_at any_below passes_at
     raster_before earliest latest band column since
 broken_there RasterLate = record { item = Step (Raster 1 1 1 6); here = refl; holds = refl }
@@ -201,7 +203,7 @@ broken_there Rows = record { item = Step (Raster 1 1 1 1); here = refl; holds = 
 broken_there Past = record { item = Step (Sixel 0); here = refl; holds = refl }
 broken_there Hue = record { item = Step (Define 0 1 30 50 100); here = refl; holds = refl }
 broken_there Far = record { item = Step (Repeat 2 0); here = refl; holds = refl }
-broken_there Mixed = record { item = Start false (record { items = 0 ∷ 5 ∷ [] }); here = refl; holds = refl }
+broken_there Introducer = record { item = Start false (record { items = 0 ∷ 5 ∷ [] }); here = refl; holds = refl }
 
 -- ---- all
 
@@ -214,7 +216,7 @@ asked_there Rows = refl
 asked_there Past = refl
 asked_there Hue = refl
 asked_there Far = refl
-asked_there Mixed = refl
+asked_there Introducer = refl
 
 whole_of : (rule : AskedRule) → AreWhole (witness_of rule)
 whole_of RasterLate = refl
@@ -225,7 +227,7 @@ whole_of Rows = refl
 whole_of Past = refl
 whole_of Hue = refl
 whole_of Far = refl
-whole_of Mixed = refl
+whole_of Introducer = refl
 
 pub each_rule_has_a_witness : EachRuleHasAWitness
 each_rule_has_a_witness rule = record {

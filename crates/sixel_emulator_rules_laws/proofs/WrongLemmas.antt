@@ -24,7 +24,7 @@ use Rattle.sixel_konsole.specs.Konsole.{any_followed, counting, first_below, fir
 use Rattle.sixel_konsole.specs.Konsole.{greatest_below}
 use Rattle.sixel_konsole.specs.Konsole.{has_begun, has_late, is_stuck, konsole_drawing, konsole_model, konsole_opening}
 use Rattle.sixel_mlterm.specs.MlTerm.{is_said_colour, mlterm_model}
-use Rattle.sixel_xterm.specs.XTerm.{xterm_model}
+use Rattle.sixel_xterm.specs.XTerm.{xterm_model, xterm_pen}
 use Rattle.sixel_named_terminals.specs.Named.{model_of, terminal_on}
 use Rattle.sixel_emulator.specs.Readings.{IsReading, IsSaid, Model, StopsNowhereBelow, is_stop, read_at}
 use Rattle.sixel_emulator.specs.Readings.IsUnsaid.{Behaviour}
@@ -37,7 +37,7 @@ use Rattle.sixel_judge.specs.Portable.{IsInBoxOn, Shows}
 use Rattle.sixel_emulator_rules.specs.declared.rule.AskedRule.{AskedRule}
 use Rattle.sixel_emulator_rules.specs.declared.rule.AskedRule.TheVariants.{RasterLate, Dropped, Stale, Large, Rows}
 use Rattle.sixel_emulator_rules.specs.declared.rule.AskedRule.TheVariants.{Past, Hue}
-use Rattle.sixel_emulator_rules.specs.declared.rule.AskedRule.TheVariants.{Far, Mixed}
+use Rattle.sixel_emulator_rules.specs.declared.rule.AskedRule.TheVariants.{Far, Introducer}
 use Rattle.sixel_emulator_rules_laws.specs.Witnesses.{witness_of}
 use Rattle.sixel_emulator_rules_laws.proofs.WitnessLemmas.{none_below}
 use Rattle.sixel_emulator_rules_laws.specs.Laws.{EachWitnessIsShownWrong, IsShownOn, IsShownRight}
@@ -58,9 +58,9 @@ far_unsaid : IsSaid mlterm_model (witness_of Far) → ⊥
 unfolding any_below is_said_colour latest column band since after_each after_first
 far_unsaid said = never_said mlterm_model (witness_of Far) 6 (lit< tt) refl refl said
 
-mixed_unsaid : IsSaid mlterm_model (witness_of Mixed) → ⊥
+introducer_unsaid : IsSaid mlterm_model (witness_of Introducer) → ⊥
 unfolding any_below
-mixed_unsaid said = never_said mlterm_model (witness_of Mixed) 0 (lit< tt) refl refl said
+introducer_unsaid said = never_said mlterm_model (witness_of Introducer) 0 (lit< tt) refl refl said
 
 -- ---- what is shown
 
@@ -105,7 +105,7 @@ hue_drawing : List Event
 hue_drawing = Step (Define 0 1 0 50 100) ∷ Step (Select 0) ∷ Step (Raster 1 1 1 1) ∷ Step (Sixel 1) ∷ []
 
 hue_read : IsReading xterm_model (witness_of Hue) hue_drawing
-unfolding any_below greatest column band since latest hue_drawing
+unfolding any_below greatest band latest hue_drawing xterm_pen after_each after_first
 hue_read = record {
   end = 6;
   within = lit≤ tt;
@@ -129,7 +129,7 @@ hue_wrong registers le right =
 
 -- xterm draws nothing
 large_read : IsReading xterm_model (witness_of Large) []
-unfolding any_below
+unfolding any_below xterm_pen after_each after_first
 large_read = record {
   end = 1;
   within = lit≤ tt;
@@ -276,5 +276,5 @@ each_witness_is_shown_wrong Rows registers le right = rows_wrong registers right
 each_witness_is_shown_wrong Past registers le right = past_wrong registers right
 each_witness_is_shown_wrong Hue registers le right = hue_wrong registers le right
 each_witness_is_shown_wrong Far registers le right = unsaid_wrong MlTerm registers (witness_of Far) far_unsaid right
-each_witness_is_shown_wrong Mixed registers le right =
-    unsaid_wrong MlTerm registers (witness_of Mixed) mixed_unsaid right
+each_witness_is_shown_wrong Introducer registers le right =
+    unsaid_wrong MlTerm registers (witness_of Introducer) introducer_unsaid right

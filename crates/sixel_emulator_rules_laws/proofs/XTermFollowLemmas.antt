@@ -1,19 +1,18 @@
 -- xterm's plain terminal paints each covered pixel in the register in which the events paint it.
 use Rattle.std.proofs.Common.{◌≡◌, ℕ, ◌+◌, ◌%◌, Bool, true, false, cond, Option, Some, None, List, []}
-use Rattle.std.proofs.Common.{◌∷◌, ◌++◌, min, refl, sym, ap, subst, ◌∙◌, arith}
+use Rattle.std.proofs.Common.{◌∷◌, ◌++◌, refl, sym, ap, subst, ◌∙◌}
 use Rattle.std.specs.Prelude.{IsSome, if◌then◌else◌}
 use Rattle.std.specs.Bool.{then_some}
 use Rattle.std.specs.List.{list_any}
 use Rattle.std.specs.Option.{option_map_or, option_or}
 use Rattle.std.proofs.lemmas.Bool.{or_parts}
-use Rattle.sixel_grammar.specs.declared.command.Command.{Command}
 use Rattle.sixel_grammar.specs.declared.command.Command.TheVariants.{Raster, Select, Define}
 use Rattle.sixel_grammar.specs.declared.command.Event.{Event}
 use Rattle.sixel_grammar.specs.declared.command.Event.TheVariants.{Step}
 use Rattle.sixel_model.specs.declared.colour.Parts.{Parts}
 use Rattle.sixel_model.specs.Events.{Attributes, columns_of, is_data_command, is_in_box, is_next_line, is_return}
 use Rattle.sixel_model.specs.Events.{raster_of, select_of}
-use Rattle.sixel_model.specs.Geometry.{band, column, falls}
+use Rattle.sixel_model.specs.Geometry.{band, column, falls, touches}
 use Rattle.sixel_model.specs.Positions.{last_at, last_below, latest}
 use Rattle.sixel_model.specs.Rules.{raster_before}
 use Rattle.sixel_model.proofs.PositionLemmas.{last_at_push, latest_push}
@@ -27,7 +26,6 @@ use Rattle.sixel_emulator_rules_laws.proofs.FallLemmas.{falls_nowhere}
 use Rattle.sixel_emulator_rules_laws.proofs.FollowLemmas.{IsQuiet, data_column, data_line, quiet_column, quiet_line}
 use Rattle.sixel_emulator_rules_laws.proofs.PlainLemmas.{paint_of}
 use Rattle.sixel_emulator_rules_laws.proofs.StaleLemmas.{by_pushes}
-use Rattle.sixel_emulator_rules_laws.proofs.XTermCutLemmas.{AreAlike, IsPart}
 use Rattle.sixel_emulator_rules_laws.proofs.XTermSidesLemmas.{IsSidedBy}
 
 -- ---- the last painting
@@ -52,7 +50,7 @@ IsInside (Some a) x y = is_in_box a x y ≡ true
 -- the drawing selects and defines what the events do, and paints what they cover as they do
 pub record IsAlong (background : Parts) (w h : ℕ) (before drawing : List Event) : Type 0 where
   pub line : band drawing ≡ band before
-  pub left : AreAlike (column 0 drawing) (column 0 before)
+  pub left : column 0 drawing ≡ column 0 before
   pub selects : latest select_of drawing ≡ latest select_of before
   pub defines : (r : ℕ) → latest (defined_on (xterm_display background w h) r) drawing
       ≡ latest (defined_on (xterm_display background w h) r) before
@@ -114,16 +112,12 @@ along_quiet {background} {w} {h} {before} {drawing} e q idle f =
     let t = xterm_display background w h in
     record {
       line = f.line ∙ sym (quiet_line before e q);
-      left = f.left ∙ ap (λ (n : ℕ). min n 1000) (sym (quiet_column before e q));
+      left = f.left ∙ sym (quiet_column before e q);
       selects = f.selects ∙ sym (latest_still select_of before e idle.selects);
       defines = λ r. f.defines r ∙ sym (latest_still (defined_on t r) before e (idle.defines r));
       paints = λ x y r is. f.paints x y r (sym (data_still t before e x y q.no_data) ∙ is);
       boxed = λ x y some. inside_later before e x y (f.boxed x y some);
     }
-
-alike_self : (b : Bool) (m l c : ℕ) → AreAlike m l → AreAlike (cond b 0 (m + c)) (cond b 0 (l + c))
-alike_self true m l c h = refl
-alike_self false m l c h = omega (arith, h)
 
 -- one that draws itself
 pub along_self : {background : Parts} {w h : ℕ} {before drawing : List Event} (e : Event) → is_data_command e ≡ false
@@ -134,9 +128,8 @@ along_self {background} {w} {h} {before} {drawing} e none bare f =
     record {
       line = band_push drawing e
           ∙ (ap (λ (m : ℕ). m + cond (is_next_line e) 1 0) f.line ∙ sym (band_push before e));
-      left = ap (λ (n : ℕ). min n 1000) (column_push 0 drawing e)
-          ∙ (alike_self (is_return e) (column 0 drawing) (column 0 before) (columns_of 0 e) f.left
-          ∙ ap (λ (n : ℕ). min n 1000) (sym (column_push 0 before e)));
+      left = column_push 0 drawing e
+          ∙ (ap (λ (n : ℕ). cond (is_return e) 0 (n + columns_of 0 e)) f.left ∙ sym (column_push 0 before e));
       selects = latest_push select_of drawing e
           ∙ (ap (option_or (select_of e)) f.selects ∙ sym (latest_push select_of before e));
       defines = λ r. latest_push (defined_on t r) drawing e
@@ -184,7 +177,7 @@ along_box {background} {w} {h} {before} {drawing} a box sides none f =
     let q : IsQuiet e = record { no_data = refl; no_return = refl } in
     record {
       line = quiet_line drawing e q ∙ f.line;
-      left = ap (λ (n : ℕ). min n 1000) (quiet_column drawing e q) ∙ f.left;
+      left = quiet_column drawing e q ∙ f.left;
       selects = latest_still select_of drawing e refl ∙ f.selects;
       defines = λ r. latest_still (defined_on t r) drawing e refl ∙ f.defines r;
       paints = λ x y r is. let no : None ≡ Some r = sym (none_painted t x y before none) ∙ is in cc;
@@ -221,33 +214,37 @@ unfolding selected_on
 selected_same background w h before drawing f =
     ap (λ (o : Option ℕ). option_map_or (λ q. q % registers_of (xterm_display background w h)) o 3) f.selects
 
-paint_push : (background : Parts) (w h : ℕ) (before drawing : List Event) (e : Event) (d : Command) (x y : ℕ)
-    → IsPart before drawing e d
-    → last_paint (xterm_display background w h) (drawing ++ Step d ∷ []) x y
+falls_same : (before drawing : List Event) (e : Event) (x y : ℕ) → band drawing ≡ band before
+    → column 0 drawing ≡ column 0 before → falls drawing e x y ≡ falls before e x y
+unfolding falls touches
+falls_same before drawing e x y line left = rw (line, left) refl
+
+paint_push : {background : Parts} {w h : ℕ} {before drawing : List Event} (e : Event) (x y : ℕ)
+    → is_data_command e ≡ true → IsAlong background w h before drawing
+    → last_paint (xterm_display background w h) (drawing ++ e ∷ []) x y
     ≡ option_or (if falls before e x y then Some (selected_on (xterm_display background w h) drawing) else None)
     (last_paint (xterm_display background w h) drawing x y)
-paint_push background w h before drawing e d x y p =
-    last_at_push (paint_of (xterm_display background w h) x y) drawing (Step d)
-    ∙ rw (p.falls_is x y, no_raster (Step d) p.is_data) refl
+paint_push {background} {w} {h} {before} {drawing} e x y is_data f =
+    last_at_push (paint_of (xterm_display background w h) x y) drawing e
+    ∙ rw (falls_same before drawing e x y f.line f.left, no_raster e is_data) refl
 
-pub along_data : {background : Parts} {w h : ℕ} {before drawing : List Event} (e : Event) (d : Command)
-    → is_data_command e ≡ true → IsPart before drawing e d
+-- one that draws itself
+pub along_data : {background : Parts} {w h : ℕ} {before drawing : List Event} (e : Event) → is_data_command e ≡ true
     → ((x y : ℕ) → falls before e x y ≡ true → IsInside (raster_before before) x y)
-    → IsAlong background w h before drawing → IsAlong background w h (before ++ e ∷ []) (drawing ++ Step d ∷ [])
-along_data {background} {w} {h} {before} {drawing} e d is_data p inside f =
+    → IsAlong background w h before drawing → IsAlong background w h (before ++ e ∷ []) (drawing ++ e ∷ [])
+along_data {background} {w} {h} {before} {drawing} e is_data inside f =
     let t = xterm_display background w h in
     let own : IsIdle background w h e = data_idle background w h e is_data in
-    let part : IsIdle background w h (Step d) = data_idle background w h (Step d) p.is_data in
     record {
-      line = data_line drawing (Step d) p.is_data ∙ (f.line ∙ sym (data_line before e is_data));
-      left = ap (λ (n : ℕ). min n 1000) (data_column drawing (Step d) p.is_data)
-          ∙ (p.columns_are ∙ ap (λ (n : ℕ). min n 1000) (sym (data_column before e is_data)));
-      selects = latest_still select_of drawing (Step d) part.selects
+      line = data_line drawing e is_data ∙ (f.line ∙ sym (data_line before e is_data));
+      left = data_column drawing e is_data
+          ∙ (ap (λ (n : ℕ). n + columns_of 0 e) f.left ∙ sym (data_column before e is_data));
+      selects = latest_still select_of drawing e own.selects
           ∙ (f.selects ∙ sym (latest_still select_of before e own.selects));
-      defines = λ r. latest_still (defined_on t r) drawing (Step d) (part.defines r)
+      defines = λ r. latest_still (defined_on t r) drawing e (own.defines r)
           ∙ (f.defines r ∙ sym (latest_still (defined_on t r) before e (own.defines r)));
       paints = λ x y r is.
-          paint_push background w h before drawing e d x y p
+          paint_push e x y is_data f
           ∙ data_paint (falls before e x y) (selected_on t before) (selected_on t drawing) (last_data t before x y)
           (last_paint t drawing x y) r (selected_same background w h before drawing f) (f.paints x y r)
           (sym (last_at_push (data_of t x y) before e) ∙ is);
@@ -255,5 +252,5 @@ along_data {background} {w} {h} {before} {drawing} e d is_data p inside f =
           inside_later before e x y
           (data_some (falls before e x y) (selected_on t drawing) (last_paint t drawing x y)
           (IsInside (raster_before before) x y) (inside x y) (f.boxed x y)
-          (subst (λ (o : Option ℕ). IsSome o) (paint_push background w h before drawing e d x y p) some));
+          (subst (λ (o : Option ℕ). IsSome o) (paint_push e x y is_data f) some));
     }

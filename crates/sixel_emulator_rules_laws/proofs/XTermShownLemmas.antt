@@ -5,7 +5,6 @@ use Rattle.std.specs.Prelude.{is_some, slice_index_or, unwrap_or, IsSome, if◌t
 use Rattle.std.specs.Option.{option_map, option_or}
 use Rattle.std.proofs.lemmas.Bool.{and_from, lt-ltb, or_parts}
 use Rattle.std.proofs.lemmas.List.FromFn.{length-map-range_with_len}
-use Rattle.sixel_grammar.specs.declared.command.Command.TheVariants.{Sixel}
 use Rattle.sixel_grammar.specs.declared.command.Event.{Event}
 use Rattle.sixel_grammar.specs.declared.command.Event.TheVariants.{Start, Step, Finish}
 use Rattle.sixel_grammar.specs.Document.{AreWhole}
@@ -31,11 +30,11 @@ use Rattle.sixel_xterm.specs.XTerm.{xterm, xterm_model}
 use Rattle.sixel_judge.specs.Portable.{Shows}
 use Rattle.sixel_judge.proofs.CoverLemmas.{all_covered, box_there}
 use Rattle.sixel_judge.proofs.OptionLemmas.{some_value}
-use Rattle.sixel_emulator_rules.specs.Asked.{breaks_hue, breaks_large}
+use Rattle.sixel_emulator_rules.specs.Asked.{breaks_hue, breaks_introducer, breaks_large}
 use Rattle.sixel_emulator_rules_laws.proofs.AskedForms.{BreaksFor, BreaksNoneFor, none_for}
 use Rattle.sixel_emulator_rules_laws.specs.Laws.{ShowsPortable}
 use Rattle.sixel_emulator_rules_laws.proofs.InkLemmas.{painted_inked}
-use Rattle.sixel_emulator_rules_laws.proofs.AskedLemmas.{by_events, fresh_at}
+use Rattle.sixel_emulator_rules_laws.proofs.AskedLemmas.{by_events, fresh_at, taken_events}
 use Rattle.sixel_emulator_rules_laws.proofs.PlainLemmas.{IsBare, last_inked, last_map, paint_of}
 use Rattle.sixel_emulator_rules_laws.proofs.PlainShownLemmas.{IsLike, shows_like}
 use Rattle.sixel_emulator_rules_laws.proofs.ReadingLemmas.{IsClear, IsRead, SaysControls, by_none, by_push}
@@ -44,7 +43,8 @@ use Rattle.sixel_emulator_rules_laws.proofs.ReadingLemmas.{drawing_by}
 use Rattle.sixel_emulator_rules_laws.proofs.StaleLemmas.{by_pushes}
 use Rattle.sixel_emulator_rules_laws.proofs.XTermFollowLemmas.{IsAlong, IsInside, along_none, data_of, last_data}
 use Rattle.sixel_emulator_rules_laws.proofs.XTermFollowLemmas.{last_paint}
-use Rattle.sixel_emulator_rules_laws.proofs.XTermReadLemmas.{xterm_draws, xterm_reads}
+use Rattle.sixel_emulator_rules_laws.proofs.XTermReadLemmas.{xterm_draws, xterm_read}
+use Rattle.sixel_emulator_rules_laws.proofs.XTermRoomLemmas.{IsRoomy, roomy_none, roomy_push}
 use Rattle.sixel_emulator_rules_laws.proofs.XTermSidesLemmas.{IsSided, sided_none, sided_push}
 use Rattle.sixel_emulator_rules_laws.proofs.XTermStepLemmas.{along_push}
 
@@ -52,10 +52,22 @@ use Rattle.sixel_emulator_rules_laws.proofs.XTermStepLemmas.{along_push}
 
 -- the reading doesn't depend on the event after
 alone : (before : List Event) (e : Event) (next : Option Event) → xterm before e next ≡ xterm before e None
-alone before (Start eight parameters) next = refl
-alone before (Finish eight) next = refl
-alone before (Step (Sixel bits)) next = refl
-alone before (Step _) next = refl
+alone before e next = refl
+
+-- the box, and room for what comes
+record IsGoing (before : List Event) : Type 0 where
+  pub sided : IsSided before (raster_before before)
+  pub roomy : IsRoomy before
+
+going : (n : ℕ) (events : List Event) → BreaksNone n Uncovered events → BreaksNoneFor XTerm events → IsGoing events
+going n events none fresh =
+    by_events XTerm n IsGoing (record { sided = sided_none; roomy = roomy_none })
+    (λ before e unbroken k new g.
+    let parts = or_parts (breaks_large e) (breaks_hue e || breaks_introducer e) (is_false _ new) in
+    record {
+      sided = sided_push n before e k parts.0 g.sided;
+      roomy = roomy_push n before e k g.sided g.roomy;
+    }) events none fresh
 
 clear : (n : ℕ) (events : List Event) → n ≤ 256 → BreaksNone n Uncovered events → BreaksNoneFor XTerm events
     → IsClear xterm_model events
@@ -63,8 +75,10 @@ clear n events few none fresh = record {
   opens = refl;
   alone = alone;
   on = λ i e here.
-      (xterm_reads n (take i events) e few (keeps_at n events none i e here)
-      (fresh_at XTerm events i e fresh here)).goes_on;
+      let before = taken_events XTerm n events i none fresh in
+      let g : IsGoing (take i events) = going n (take i events) before.0 before.1 in
+      (xterm_read n (take i events) e few (keeps_at n events none i e here) (fresh_at XTerm events i e fresh here) g.sided
+      g.roomy).goes_on;
 }
 
 seven_bits : (e : Event) → is_eight_bit e ≡ false → is_unsaid_control xterm_model e ≡ false
@@ -81,15 +95,17 @@ says_controls n events none i e here = seven_bits e (seven_bits_at n events none
 
 record IsFollowed (background : Parts) (w h : ℕ) (before : List Event) : Type 0 where
   pub sided : IsSided before (raster_before before)
+  pub roomy : IsRoomy before
   pub along : IsAlong background w h before (drawing_by xterm before)
 
 followed_push : (background : Parts) (w h n : ℕ) (before : List Event) (e : Event) → n ≤ 256 → Keeps n before e
     → ¬ BreaksFor XTerm before e → IsFollowed background w h before → IsFollowed background w h (before ++ e ∷ [])
 followed_push background w h n before e few k new f =
-    let r : IsRead (xterm before e None) (xterm_draws before e) = xterm_reads n before e few k new in
-    let parts = or_parts (breaks_large e) (breaks_hue e) (is_false _ new) in
+    let r : IsRead (xterm before e None) (xterm_draws before e) = xterm_read n before e few k new f.sided f.roomy in
+    let parts = or_parts (breaks_large e) (breaks_hue e || breaks_introducer e) (is_false _ new) in
     record {
       sided = sided_push n before e k parts.0 f.sided;
+      roomy = roomy_push n before e k f.sided f.roomy;
       along = subst (IsAlong background w h (before ++ e ∷ []))
           (sym (by_push xterm before e ∙ ap (λ (es : List Event). drawing_by xterm before ++ es) r.drawn_is))
           (along_push e k f.sided f.along);
@@ -101,6 +117,7 @@ followed background w h n events few none fresh =
     by_events XTerm n (IsFollowed background w h)
     (record {
       sided = sided_none;
+      roomy = roomy_none;
       along = subst (IsAlong background w h []) (sym (by_none xterm)) (along_none background w h);
     }) (λ before e unbroken k new f. followed_push background w h n before e few k new f) events none fresh
 

@@ -1,4 +1,4 @@
--- The box that xterm fills is that of the first raster attributes, if no rule is broken, and no side is above 1,000.
+-- The box that xterm fills is that of the first raster attributes, if no rule is broken, and no width is above 1,000, and no height above 996.
 use Rattle.std.proofs.Common.{◌≡◌, ℕ, ◌≤◌, true, false, ◌&&◌, ◌||◌, Option, Some, None, List, [], ◌∷◌, ◌++◌}
 use Rattle.std.proofs.Common.{refl, sym, subst, ◌∙◌, arith}
 use Rattle.std.specs.Prelude.{is_some, nat_lt, IsFalse}
@@ -26,7 +26,7 @@ pub record IsSidedBy (a : Attributes) (before : List Event) : Type 0 where
   pub width : greatest width_of before ≡ a.width
   pub height : greatest height_of before ≡ a.height
   pub across : a.width ≤ 1000
-  pub down : a.height ≤ 1000
+  pub down : a.height ≤ 996
 
 abbrev pub IsSided : List Event → Option Attributes → Type 0
 IsSided before None = IsUnsided before
@@ -52,9 +52,9 @@ unsided_still before e none u = record {
   low = greatest_push height_of before e ∙ rw (u.low, none) refl;
 }
 
-at_most : (side : ℕ) → nat_lt 1000 side ≡ false → side ≤ 1000
-at_most side small = elim (cases_lt 1000 side) [
-  | inl above ↦ (let no : nat_lt 1000 side ≡ true = lt-ltb 1000 side above in cc)
+pub at_most : (most side : ℕ) → nat_lt most side ≡ false → side ≤ most
+at_most most side small = elim (cases_lt most side) [
+  | inl above ↦ (let no : nat_lt most side ≡ true = lt-ltb most side above in cc)
   | inr le ↦ le
 ]
 
@@ -62,13 +62,13 @@ sided_first : (before : List Event) (e : Event) (a : Attributes) → raster_of e
     → IsUnsided before → IsSidedBy a (before ++ e ∷ [])
 unfolding breaks_large
 sided_first before e a is small u =
-    let sides : (nat_lt 1000 a.width || nat_lt 1000 a.height) ≡ false = rw is at small in
-    let parts = or_parts (nat_lt 1000 a.width) (nat_lt 1000 a.height) sides in
+    let sides : (nat_lt 1000 a.width || nat_lt 996 a.height) ≡ false = rw is at small in
+    let parts = or_parts (nat_lt 1000 a.width) (nat_lt 996 a.height) sides in
     record {
       width = greatest_push width_of before e ∙ rw (u.narrow, is) (omega arith);
       height = greatest_push height_of before e ∙ rw (u.low, is) (omega arith);
-      across = at_most a.width parts.0;
-      down = at_most a.height parts.1;
+      across = at_most 1000 a.width parts.0;
+      down = at_most 996 a.height parts.1;
     }
 
 unsided_step : (before : List Event) (e : Event) (o : Option Attributes) → raster_of e ≡ o → IsFalse (breaks_large e)

@@ -1,9 +1,8 @@
 -- One more event on xterm.
-use Rattle.std.proofs.Common.{◌≡◌, ℕ, ◌<◌, ◌≤◌, ◌==◌, Bool, true, false, not, Option, Some, List, []}
-use Rattle.std.proofs.Common.{◌∷◌, ◌++◌, refl, sym, subst, append_assoc, append-nil, arith}
-use Rattle.std.specs.Prelude.{nat_lt}
+use Rattle.std.proofs.Common.{◌≡◌, ℕ, ◌==◌, Bool, true, false, not, Option, Some, List, []}
+use Rattle.std.proofs.Common.{◌∷◌, ◌++◌, refl, sym, subst, append_assoc, append-nil}
 use Rattle.std.specs.List.{list_any}
-use Rattle.std.proofs.lemmas.Bool.{and_parts, ltb-true, not-true}
+use Rattle.std.proofs.lemmas.Bool.{and_parts, not-true}
 use Rattle.sixel_grammar.specs.declared.command.Command.{Command}
 use Rattle.sixel_grammar.specs.declared.command.Command.TheVariants.{Sixel, Repeat, Raster, Select, Define}
 use Rattle.sixel_grammar.specs.declared.command.Command.TheVariants.{CarriageReturn, NextLine}
@@ -15,13 +14,10 @@ use Rattle.sixel_model.specs.Geometry.{falls}
 use Rattle.sixel_model.specs.Rules.{raster_before}
 use Rattle.sixel_model.proofs.RuleLemmas.{Keeps}
 use Rattle.sixel_emulator.specs.Words.{second_parameter}
-use Rattle.sixel_xterm.specs.XTerm.{fills_xterm, xterm_box, xterm_painting}
+use Rattle.sixel_xterm.specs.XTerm.{fills_xterm, xterm_box}
 use Rattle.sixel_judge.proofs.CoverLemmas.{box_at_data}
 use Rattle.sixel_judge.proofs.OptionLemmas.{some_value}
-use Rattle.sixel_emulator_rules_laws.proofs.FallLemmas.{IsCell, repeat_cell, sixel_cell}
-use Rattle.sixel_emulator_rules_laws.proofs.KeptLemmas.{count_some}
 use Rattle.sixel_emulator_rules_laws.proofs.SizeLemmas.{inside}
-use Rattle.sixel_emulator_rules_laws.proofs.XTermCutLemmas.{IsOnAll, IsPart, painting_part}
 use Rattle.sixel_emulator_rules_laws.proofs.XTermFollowLemmas.{IsAlong, IsInside, along_box, along_data, along_quiet}
 use Rattle.sixel_emulator_rules_laws.proofs.XTermFollowLemmas.{along_self}
 use Rattle.sixel_emulator_rules_laws.proofs.XTermReadLemmas.{data_draws, xterm_draws}
@@ -47,48 +43,34 @@ placed_in n before e k is_data s =
       },
     )
 
-on_all : (a : Attributes) (before : List Event) (x y : ℕ) → IsSidedBy a before → is_in_box a x y ≡ true → IsOnAll x y
-on_all a before x y s inside =
-    let parts = and_parts (nat_lt x a.width) (nat_lt y a.height) inside in
-    let right : x < a.width = ltb-true x a.width parts.0 in
-    let low : y < a.height = ltb-true y a.height parts.1 in
-    let across : a.width ≤ 1000 = s.across in
-    let down : a.height ≤ 1000 = s.down in
-    (omega (arith, right, across), omega (arith, low, down))
-
 is_inside : (o : Option Attributes) (a : Attributes) (x y : ℕ) → o ≡ Some a → is_in_box a x y ≡ true → IsInside o x y
 is_inside o a x y is inside = subst (λ (p : Option Attributes). IsInside p x y) (sym is) inside
 
 painting_push : {background : Parts} {w h : ℕ} {before drawing : List Event} (a : Attributes) (c : Command)
-    (count bits : ℕ) → IsCell count bits c → IsPlacedIn a before (Step c) → IsAlong background w h before drawing
-    → IsAlong background w h (before ++ Step c ∷ []) (drawing ++ Step (xterm_painting before c count bits) ∷ [])
-painting_push {background} {w} {h} {before} {drawing} a c count bits cell p f =
-    let part : IsPart before drawing (Step c) (xterm_painting before c count bits) =
-    painting_part before drawing c count bits cell f.line f.left
-    (λ x y fell. on_all a before x y p.sides (p.falls_in x y fell)) in
-    along_data (Step c) (xterm_painting before c count bits) cell.is_data part
-    (λ x y fell. is_inside (raster_before before) a x y p.box (p.falls_in x y fell)) f
+    → is_data_command (Step c) ≡ true → IsPlacedIn a before (Step c) → IsAlong background w h before drawing
+    → IsAlong background w h (before ++ Step c ∷ []) (drawing ++ Step c ∷ [])
+painting_push {before = before} a c is_data p f =
+    along_data (Step c) is_data (λ x y fell. is_inside (raster_before before) a x y p.box (p.falls_in x y fell)) f
 
-data_by : {background : Parts} {w h : ℕ} {before drawing : List Event} (a : Attributes) (c : Command)
-    (count bits : ℕ) (fills : Bool) → fills_xterm before ≡ fills → IsCell count bits c → IsPlacedIn a before (Step c)
+data_by : {background : Parts} {w h : ℕ} {before drawing : List Event} (a : Attributes) (c : Command) (fills : Bool)
+    → fills_xterm before ≡ fills → is_data_command (Step c) ≡ true → IsPlacedIn a before (Step c)
     → IsAlong background w h before drawing
-    → IsAlong background w h (before ++ Step c ∷ []) (drawing ++ data_draws before c count bits)
-data_by {background} {w} {h} {before} {drawing} a c count bits true is cell p f =
+    → IsAlong background w h (before ++ Step c ∷ []) (drawing ++ data_draws before c)
+data_by {background} {w} {h} {before} {drawing} a c true is is_data p f =
     let none : list_any is_data_command before ≡ false =
     not-true _ (and_parts (not (list_any is_data_command before)) (not (second_parameter before == 1)) is).0 in
     rw is
     (subst (IsAlong background w h (before ++ Step c ∷ []))
-    (append_assoc drawing (Step (xterm_box before) ∷ []) (Step (xterm_painting before c count bits) ∷ []))
-    (painting_push a c count bits cell p (along_box a p.box p.sides none f)))
-data_by a c count bits false is cell p f = rw is (painting_push a c count bits cell p f)
+    (append_assoc drawing (Step (xterm_box before) ∷ []) (Step c ∷ []))
+    (painting_push a c is_data p (along_box a p.box p.sides none f)))
+data_by a c false is is_data p f = rw is (painting_push a c is_data p f)
 
-data_push : {background : Parts} {w h n : ℕ} {before drawing : List Event} (c : Command) (count bits : ℕ)
-    → Keeps n before (Step c) → IsSided before (raster_before before) → IsCell count bits c
-    → IsAlong background w h before drawing
-    → IsAlong background w h (before ++ Step c ∷ []) (drawing ++ data_draws before c count bits)
-data_push {background} {w} {h} {n} {before} {drawing} c count bits k s cell f =
-    let a = placed_in n before (Step c) k cell.is_data s in
-    data_by a.0 c count bits (fills_xterm before) refl cell a.1 f
+data_push : {background : Parts} {w h n : ℕ} {before drawing : List Event} (c : Command) → Keeps n before (Step c)
+    → IsSided before (raster_before before) → is_data_command (Step c) ≡ true → IsAlong background w h before drawing
+    → IsAlong background w h (before ++ Step c ∷ []) (drawing ++ data_draws before c)
+data_push {background} {w} {h} {n} {before} {drawing} c k s is_data f =
+    let a = placed_in n before (Step c) k is_data s in
+    data_by a.0 c (fills_xterm before) refl is_data a.1 f
 
 -- ---- all events
 
@@ -103,9 +85,8 @@ along_push {background} {w} {h} {n} {before} {drawing} (Step (Raster pan pad wid
     rw append-nil
     (along_quiet (Step (Raster pan pad width height)) (record { no_data = refl; no_return = refl })
     (record { selects = refl; defines = λ r. refl }) f)
-along_push {n = n} {before} (Step (Sixel bits)) k s f = data_push {n = n} (Sixel bits) 1 bits k s (sixel_cell bits) f
-along_push {n = n} {before} (Step (Repeat count bits)) k s f =
-    data_push {n = n} (Repeat count bits) count bits k s (repeat_cell count bits (count_some n count bits before k)) f
+along_push {n = n} {before} (Step (Sixel bits)) k s f = data_push {n = n} (Sixel bits) k s refl f
+along_push {n = n} {before} (Step (Repeat count bits)) k s f = data_push {n = n} (Repeat count bits) k s refl f
 along_push (Step (Define r t x y z)) k s f = along_self (Step (Define r t x y z)) refl refl f
 along_push (Step (Select r)) k s f = along_self (Step (Select r)) refl refl f
 along_push (Step CarriageReturn) k s f = along_self (Step CarriageReturn) refl refl f

@@ -91,10 +91,10 @@ CanonSuitsMlTerm registers = (p : PictureValue) → IsPicture registers p → Br
 abbrev pub CanonSuitsFoot : ℕ → Type 0
 CanonSuitsFoot registers = (p : PictureValue) → IsPicture registers p → BreaksNoneOf Foot (canon p)
 
--- none that xterm asks for, if no side of the picture is above 1,000 and no colour is by hue
+-- none that xterm asks for, if its width is at most 1,000, its height at most 996, and no colour is by hue
 abbrev pub CanonSuitsXTerm : ℕ → Type 0
 CanonSuitsXTerm registers =
-    (p : PictureValue) → IsPicture registers p → p.width ≤ 1000 → p.height ≤ 1000 → HasNoHue p
+    (p : PictureValue) → IsPicture registers p → p.width ≤ 1000 → p.height ≤ 996 → HasNoHue p
     → BreaksNoneOf XTerm (canon p)
 
 -- none that konsole asks for, if the height of the picture is a multiple of six

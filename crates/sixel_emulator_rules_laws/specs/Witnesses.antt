@@ -13,7 +13,7 @@ use Rattle.sixel_emulator_rules.specs.Asked.{BreaksAsked, asks}
 use Rattle.sixel_emulator_rules.specs.declared.rule.AskedRule.{AskedRule}
 use Rattle.sixel_emulator_rules.specs.declared.rule.AskedRule.TheVariants.{RasterLate, Dropped, Stale, Large, Rows}
 use Rattle.sixel_emulator_rules.specs.declared.rule.AskedRule.TheVariants.{Past, Hue}
-use Rattle.sixel_emulator_rules.specs.declared.rule.AskedRule.TheVariants.{Far, Mixed}
+use Rattle.sixel_emulator_rules.specs.declared.rule.AskedRule.TheVariants.{Far, Introducer}
 
 -- the terminal asks for the rule, and the document breaks it; it breaks no rule of portable pictures, and none of the
 -- others that the terminal asks for
@@ -55,11 +55,11 @@ witness_of Hue =
 witness_of Far =
     introducer ∷ Step (Raster 1 1 1 1) ∷ black ∷ select ∷ Step (Sixel 1) ∷ Step NextLine ∷ Step (Repeat 2 0)
     ∷ Finish false ∷ []
-witness_of Mixed =
+witness_of Introducer =
     Start false (record { items = 0 ∷ 5 ∷ [] }) ∷ Step (Raster 1 1 1 1) ∷ black ∷ select ∷ Step (Sixel 1)
     ∷ Finish false ∷ []
 
--- the only terminal that asks for it
+-- a terminal that asks for it, and shows the list otherwise
 abbrev pub asker_of : AskedRule → Named
 asker_of RasterLate = Konsole
 asker_of Dropped = Konsole
@@ -69,7 +69,7 @@ asker_of Rows = Konsole
 asker_of Past = Konsole
 asker_of Hue = XTerm
 asker_of Far = MlTerm
-asker_of Mixed = MlTerm
+asker_of Introducer = MlTerm
 
 -- ---- the law
 

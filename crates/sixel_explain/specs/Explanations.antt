@@ -11,7 +11,7 @@ use Rattle.sixel_emulator_rules.specs.Counts.{in_order}
 use Rattle.sixel_emulator_rules.specs.Names.{name_of}
 use Rattle.sixel_emulator_rules.specs.declared.rule.AskedRule.TheVariants.{RasterLate, Dropped, Stale, Large, Rows}
 use Rattle.sixel_emulator_rules.specs.declared.rule.AskedRule.TheVariants.{Past, Hue}
-use Rattle.sixel_emulator_rules.specs.declared.rule.AskedRule.TheVariants.{Far, Mixed}
+use Rattle.sixel_emulator_rules.specs.declared.rule.AskedRule.TheVariants.{Far, Introducer}
 use Rattle.sixel_grammar.specs.declared.fault.Reason.TheVariants.{NotSixel, BadByte, NumberTooLarge, FieldCount}
 use Rattle.sixel_grammar.specs.declared.fault.Reason.TheVariants.{BadRepeat, BadTerminator, Truncated, TooLong}
 use Rattle.sixel_grammar.specs.declared.fault.Reason.TheVariants.{Trailing}
@@ -105,12 +105,12 @@ summary (Rule EightBit) = codes "the byte 90 as the introducer, or 9C as the ter
 summary (Asked RasterLate) = codes "raster attributes after a selection or a definition"
 summary (Asked Dropped) = codes "a return right after a selection, definition or raster attributes"
 summary (Asked Stale) = codes "painting in a colour that came after the selection"
-summary (Asked Large) = codes "a width or height above 1,000"
+summary (Asked Large) = codes "a width above 1,000 or a height above 996"
 summary (Asked Rows) = codes "a height that is no multiple of six"
 summary (Asked Past) = codes "blanks right of the box or below it"
 summary (Asked Hue) = codes "a colour of hue, lightness and saturation"
-summary (Asked Far) = codes "sixels far outside the box, with or without a set bit"
-summary (Asked Mixed) = codes "an introducer whose second number is 5"
+summary (Asked Far) = codes "sixels right of the box, far below it or past column 32,767"
+summary (Asked Introducer) = codes "an introducer by which xterm draws nothing or mlterm may mix colours"
 summary (Grammar NotSixel) = codes "input that doesn't start like a sixel string"
 summary (Grammar BadByte) = codes "unexpected byte"
 summary (Grammar NumberTooLarge) = codes "a number above 65,535"

@@ -24,7 +24,7 @@ pub fn asked_rule_named(name: &str) -> Option<AskedRule>
         "past" => Some(AskedRule::Past),
         "hue" => Some(AskedRule::Hue),
         "far" => Some(AskedRule::Far),
-        "mixed" => Some(AskedRule::Mixed),
+        "introducer" => Some(AskedRule::Introducer),
         _ => None,
     }
 }
@@ -43,7 +43,7 @@ pub fn of_asked_rule(rule: AskedRule) -> &'static str
         AskedRule::Past => PAST,
         AskedRule::Hue => HUE,
         AskedRule::Far => FAR,
-        AskedRule::Mixed => MIXED,
+        AskedRule::Introducer => INTRODUCER,
     }
 }
 
@@ -75,11 +75,11 @@ sixels after the selection, as sixel mend does.
 
 const STALE: &str = "Stale: painting in a colour that came after the selection
 
-Broken on foot by a command that paints in a known register, if the last
-definition of the register gives another colour than it had when a register was
-last selected, or if it had none then. foot paints in the colour that the
-register had when it was selected. This string shows black pixels instead of red
-ones.
+Broken on foot by a command that paints in a known register whose colour has
+changed since a register was last selected: by a first definition, or by one
+with another colour. foot paints in the colour that the register had when it was
+selected. This string shows black pixels instead of red ones. sixel survey
+counts only registers up to 255: a greater one breaks Register.
 
 String: ESC P q \"1;1;1;6#1#1;2;100;0;0~ ESC \\
 Output of check --on foot: broken Stale 25
@@ -88,10 +88,11 @@ Fix: define before you select, as sixel mend does; or select again after a
 definition.
 ";
 
-const LARGE: &str = "Large: a width or height above 1,000
+const LARGE: &str = "Large: a width above 1,000 or a height above 996
 
-Broken on xterm by raster attributes with a width or height above 1,000. xterm
-draws nothing of the picture.
+Broken on xterm by raster attributes with a width above 1,000 or a height above
+996. Of a picture with a side above 1,000 xterm draws nothing. Of one of 997 to
+1,000 rows it draws only the first column of the last band.
 
 String: ESC P q \"1;1;1001;1#0;2;0;0;0#0!1001@ ESC \\
 Output of check --on xterm: broken Large 3
@@ -139,7 +140,7 @@ Output of check --on xterm: broken Hue 11
 Fix: write red, green and blue, in system 2. sixel mend keeps hues.
 ";
 
-const FAR: &str = "Far: sixels far outside the box, with or without a set bit
+const FAR: &str = "Far: sixels right of the box, far below it or past column 32,767
 
 Broken on mlterm by a sixel or a repeat, with or without a set bit, that ends
 past column 32,767 or right of the box, or whose band ends more than 512 rows
@@ -152,15 +153,17 @@ Output of check --on mlterm: broken Far 24
 Fix: leave out blanks past the box, as sixel mend does.
 ";
 
-const MIXED: &str = "Mixed: an introducer whose second number is 5
+const INTRODUCER: &str =
+    "Introducer: an introducer by which xterm draws nothing or mlterm may mix colours
 
-Broken on mlterm by an introducer whose second number begins with the digit 5,
-if the first is below 10; else by one whose first number has 5 as its second
-digit; and by a first number of 5, which may be written 05. mlterm mixes colours
-then: a pixel painted first in register 1 and then in 2 is in register 3.
+Broken on xterm and mlterm by an introducer whose first number is 5 or above 9,
+or whose second number begins with the digit 5. If the first number is above 9,
+xterm draws nothing. mlterm looks for a 5 behind the first digit, and zeros may
+stand before a number: if it finds one, it mixes colours. A pixel painted first
+in register 1 and then in 2 is in register 3 then.
 
-String: ESC P 0;5q\"1;1;1;6#0;2;0;0;0#0~ ESC \\
-Output of check --on mlterm: broken Mixed 0
+String: ESC P 10;1q\"1;1;1;6#0;2;0;0;0#0~ ESC \\
+Output of check --on xterm: broken Introducer 0
 
-Fix: write 1 as the second number, as sixel mend does, or leave it out.
+Fix: begin with ESC P q or ESC P 0;1q, as sixel mend does.
 ";

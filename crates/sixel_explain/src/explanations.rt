@@ -171,12 +171,12 @@ EightBit: the byte 90 as the introducer, or 9C as the terminator
 RasterLate: raster attributes after a selection or a definition
 Dropped: a return right after a selection, definition or raster attributes
 Stale: painting in a colour that came after the selection
-Large: a width or height above 1,000
+Large: a width above 1,000 or a height above 996
 Rows: a height that is no multiple of six
 Past: blanks right of the box or below it
 Hue: a colour of hue, lightness and saturation
-Far: sixels far outside the box, with or without a set bit
-Mixed: an introducer whose second number is 5
+Far: sixels right of the box, far below it or past column 32,767
+Introducer: an introducer by which xterm draws nothing or mlterm may mix colours
 NotSixel: input that doesn't start like a sixel string
 BadByte: unexpected byte
 NumberTooLarge: a number above 65,535

@@ -214,7 +214,7 @@ const NAMES: [&str; 46] = [
     "Past",
     "Hue",
     "Far",
-    "Mixed",
+    "Introducer",
     "NotSixel",
     "BadByte",
     "NumberTooLarge",

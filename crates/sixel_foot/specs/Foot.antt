@@ -63,10 +63,15 @@ pub record Size : Type 0 where
 abbrev pub foot_start : Size
 foot_start = record { width = 0; height = band_rows }
 
--- raster attributes count if their width is no less than the height of the picture, and their height no less than its
--- width, and not 0: this is how foot compares
+-- the largest side of raster attributes that count
+abbrev pub foot_side : ℕ
+foot_side = 10000
+
+-- raster attributes count if no side is above the largest, their width is no less than the height of the picture, and
+-- their height no less than its width, and not 0: this is how foot compares
 abbrev pub counts_on_foot : Size → ℕ → ℕ → Bool
-counts_on_foot s width height = nat_le s.height width && nat_le (max 1 s.width) height
+counts_on_foot s width height =
+    nat_le (max width height) foot_side && (nat_le s.height width && nat_le (max 1 s.width) height)
 
 -- the size with one more event: that of raster attributes that count; as wide as the data; and once a new line leaves
 -- the picture, as high as the bands

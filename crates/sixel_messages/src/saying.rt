@@ -39,7 +39,7 @@ fn is_of_empty(fault: &RunFault) -> bool
     }
 }
 
-/// What is said of an input without bytes.
+/// The line on an input without bytes.
 const EMPTY: &str = "sixel: the input is empty\n";
 
 /// How to convert an input of this format, if it was refused within the magic number. For a scan without a string: that

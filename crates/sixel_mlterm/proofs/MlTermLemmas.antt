@@ -27,7 +27,7 @@ use Rattle.sixel_mlterm.specs.declared.mlterm.MlTerm.{MlTerm}
 use Rattle.sixel_mlterm.specs.declared.mlterm.buffer.Buffer.{Buffer as Stored}
 use Rattle.sixel_mlterm.specs.MlTerm.{Buffer, buffer_with, copies_past, end_of, given_by, is_past_all}
 use Rattle.sixel_mlterm.specs.MlTerm.{is_said_colour, is_unsaid_data, mlterm, mlterm_buffer, mlterm_data}
-use Rattle.sixel_mlterm.specs.MlTerm.{mlterm_register}
+use Rattle.sixel_mlterm.specs.MlTerm.{mlterm_colour, mlterm_register}
 use Rattle.sixel_mlterm.specs.MlTerm.{mlterm_selected, no_buffer, raster_sides, rows_to, said_by}
 use Rattle.sixel_mlterm.specs.MlTerm.{data_sides, has_more, is_chance, is_lost, is_outside, reaching, resized}
 use Rattle.sixel_mlterm.specs.MlTerm.{with_data, with_line}
@@ -35,7 +35,7 @@ use Rattle.sixel_mlterm.specs.MlTermSeen.{HasSeenMlTerm, buffer_of, free_columns
 use Rattle.sixel_mlterm.specs.MlTermSeen.{next_selected, said_in}
 use Rattle.sixel_emulator.specs.declared.reading.Reads.TheVariants.{Draws, Unsaid}
 use Rattle.sixel_emulator.specs.Places.{IsPlaceAfter, most}
-use Rattle.sixel_emulator.specs.Words.{after_each, after_first, nearest}
+use Rattle.sixel_emulator.specs.Words.{after_each, after_first}
 use Rattle.sixel_emulator.proofs.WordLemmas.{each_push}
 
 -- ---- before any event
@@ -101,7 +101,7 @@ sampled_below number false None = tt
 sampled_below number false (Some c) = register_below number
 
 given_below : (e : Event) → IfSome (given_by e) (λ g. g.0 < 1024)
-given_below (Step (Define number system x y z)) = sampled_below number (system == 3) (nearest system x y z)
+given_below (Step (Define number system x y z)) = sampled_below number (system == 3) (mlterm_colour system x y z)
 given_below _ = tt
 
 -- ---- the buffer

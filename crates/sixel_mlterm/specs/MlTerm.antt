@@ -28,13 +28,17 @@ mlterm_register number = if nat_lt number 1024 then number else 0
 abbrev pub mlterm_selected : List Event → ℕ
 mlterm_selected before = option_map_or mlterm_register (latest named_by before) 0
 
+-- the colour of a definition. System 9 is red, green and blue in percent, as system 2
+abbrev pub mlterm_colour : ℕ → ℕ → ℕ → ℕ → Option Parts
+mlterm_colour system x y z = nearest (if system == 9 then 2 else system) x y z
+
 -- the register to which the event gives a colour, and whether the model says which: a definition in colour system 3 gives
 -- samples, and no percentages
 abbrev pub given_by : Event → Option (ℕ × Bool)
 given_by (Step (Define number system x y z)) =
     if system == 3
     then Some (mlterm_register number, false)
-    else option_map (λ (colour : Parts). (mlterm_register number, true)) (nearest system x y z)
+    else option_map (λ (colour : Parts). (mlterm_register number, true)) (mlterm_colour system x y z)
 given_by _ = None
 
 -- whether the model says the colour that the event gives the register, if it gives it one
@@ -203,13 +207,15 @@ abbrev pub first_two : ℕ → ℕ
 first_two n =
     if nat_lt n 100 then n else if nat_lt n 1000 then n / 10 else if nat_lt n 10000 then n / 100 else n / 1000
 
--- an introducer with these first parameters mixes colours: the first of one digit, and the second begins with 5; or the
--- second digit of the first is 5
-abbrev pub mixes : ℕ → ℕ → Bool
-mixes first second = if nat_le first 9 then begins_with_five second else first_two first % 10 == 5
+-- mlterm mixes colours if the digit after the first one of the introducer's numbers, or after the `;` behind that, is 5.
+-- Zeros may stand before a number, so by these first parameters it may: the first is of one digit, and the second begins
+-- with 5; or the second digit of the first is 5; or the first begins with 5, as in 05
+abbrev pub may_mix : ℕ → ℕ → Bool
+may_mix first second =
+    begins_with_five first || (if nat_le first 9 then begins_with_five second else first_two first % 10 == 5)
 
 abbrev pub mlterm_introducer : ℕ → ℕ → Reads
-mlterm_introducer first second = if mixes first second then Unsaid else Nothing
+mlterm_introducer first second = if may_mix first second then Unsaid else Nothing
 
 -- ---- the rule
 
@@ -219,7 +225,7 @@ define_and_select register None = Draws (Select register)
 define_and_select register (Some colour) = DrawsTwo (defining register colour) (Select register)
 
 -- What mlterm makes of an event. Unsaid are:
--- - an introducer by which it mixes colours;
+-- - an introducer by which it may mix colours;
 -- - raster attributes of zeros only: if their numbers are missing, they swallow a byte;
 -- - raster attributes at which pixels are copied past a block of memory;
 -- - the data commands above
@@ -232,7 +238,7 @@ mlterm before (Step (Raster pan pad width height)) next =
     then Unsaid
     else Nothing
 mlterm before (Step (Define register system x y z)) next =
-    define_and_select (mlterm_register register) (nearest system x y z)
+    define_and_select (mlterm_register register) (mlterm_colour system x y z)
 mlterm before (Step (Select register)) next = Draws (Select (mlterm_register register))
 mlterm before (Step (Sixel bits)) next = mlterm_data before (Sixel bits)
 mlterm before (Step (Repeat count bits)) next = mlterm_data before (Repeat count bits)

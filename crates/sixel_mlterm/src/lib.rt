@@ -6,5 +6,5 @@ mod mlterm;
 mod settings;
 
 pub use begun::as_mlterm;
-pub use mlterm::{MlTerm, mixes};
+pub use mlterm::{MlTerm, may_mix};
 pub use settings::mlterm_terminal;

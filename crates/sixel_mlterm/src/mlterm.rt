@@ -43,6 +43,13 @@ fn register_of(number: u16) -> u16
     if number < 1024 { number } else { 0 }
 }
 
+/// The colour of a definition.
+fn colour_of(system: u16, x: u16, y: u16, z: u16) -> Option<Colour>
+    ensures { result ≡ rule.mlterm_colour system x y z }
+{
+    nearest(if system == 9 { 2 } else { system }, x, y, z)
+}
+
 /// The register to which the event gives a colour, and whether the model says which.
 fn given_by(event: &Event) -> Option<(u16, bool)>
     ensures value { result ≡ rule.given_by event.now }
@@ -64,7 +71,7 @@ fn given_by(event: &Event) -> Option<(u16, bool)>
                 y,
                 z,
             },
-        ) if nearest(*system, *x, *y, *z).is_some() => Some((register_of(*register), true)),
+        ) if colour_of(*system, *x, *y, *z).is_some() => Some((register_of(*register), true)),
         _ => None,
     }
 }
@@ -92,11 +99,13 @@ fn first_two(number: u16) -> u16
     }
 }
 
-/// Whether an introducer with these first parameters mixes colours.
-pub fn mixes(first: u16, second: u16) -> bool
-    ensures { result ≡ rule.mixes first second }
+/// Whether an introducer with these first parameters may mix colours.
+pub fn may_mix(first: u16, second: u16) -> bool
+    ensures { result ≡ rule.may_mix first second }
 {
-    if first <= 9 {
+    if begins_with_five(first) {
+        true
+    } else if first <= 9 {
         begins_with_five(second)
     } else {
         first_two(first) % 10 == 5
@@ -227,7 +236,7 @@ impl MlTerm {
                 x,
                 y,
                 z,
-            } => define_and_select(register_of(register), nearest(system, x, y, z)),
+            } => define_and_select(register_of(register), colour_of(system, x, y, z)),
             Command::CarriageReturn | Command::NextLine => Reads::Draws(command),
         }
     }
@@ -394,7 +403,7 @@ impl Reading for MlTerm {
 fn read_introducer(first: u16, second: u16) -> Reads
     ensures { result ≡ rule.mlterm_introducer first second }
 {
-    if mixes(first, second) {
+    if may_mix(first, second) {
         Reads::Unsaid
     } else {
         Reads::Nothing

@@ -1,11 +1,12 @@
 -- Strings that were shown on the real terminals, between ESC P and ESC \, and what the rules make of each; and laws
 -- about any string.
 use Rattle.std.specs.Prelude.{◌≡◌, ℕ, ◌+◌, ◌*◌, ◌++◌, false, List, [], ◌∷◌, Option, Some, None, is_some}
-use Rattle.std.specs.Prelude.{◌⊎◌, length}
+use Rattle.std.specs.Prelude.{◌⊎◌, length, replicate}
 use Rattle.std.specs.List.{list_any}
-use Rattle.sixel_grammar.specs.declared.command.Command.TheVariants.{Sixel, Repeat, Raster, Select, Define, NextLine}
+use Rattle.sixel_grammar.specs.declared.command.Command.TheVariants.{CarriageReturn, Sixel, Repeat, Raster, Select}
+use Rattle.sixel_grammar.specs.declared.command.Command.TheVariants.{Define, NextLine}
 use Rattle.sixel_grammar.specs.declared.command.Event.{Event}
-use Rattle.sixel_grammar.specs.declared.command.Event.TheVariants.{Step, Finish}
+use Rattle.sixel_grammar.specs.declared.command.Event.TheVariants.{Start, Step, Finish}
 use Rattle.sixel_emulator.specs.declared.reading.Reads.{Reads}
 use Rattle.sixel_emulator.specs.declared.reading.Reads.TheVariants.{Nothing, Draws, DrawsTwo, Stops, Unsaid}
 use Rattle.sixel_emulator.specs.declared.course.Course.TheVariants.{Goes, Stopped, Ended}
@@ -50,7 +51,52 @@ abbrev pub FarColumnsAreLost : Type 0
 FarColumnsAreLost =
     ReadsAs xterm (Step (Select 1) ∷ []) (Step (Repeat 65535 63)) (DrawsTwo (Raster 1 1 0 0) (Repeat 1000 63))
 
+-- 10;1q"1;1;6;6#1!6~ draws nothing
+abbrev pub HighIntroducerStops : Type 0
+HighIntroducerStops = ReadsAs xterm [] (Start false (record { items = 10 ∷ 1 ∷ [] })) Stops
+
+-- 0q"1001;1;12;12#1~ is filled and painted
+abbrev pub LongRatioIsTaken : Type 0
+LongRatioIsTaken =
+    ReadsAs xterm (Start false (record { items = 0 ∷ [] }) ∷ []) (Step (Raster 1001 1 12 12)) Nothing
+
+-- 0;1q#1!1023@#2!50A: the second repeat begins at the left margin
+abbrev pub FarRepeatReturns : Type 0
+FarRepeatReturns =
+    ReadsAs xterm
+    (Start false (record { items = 0 ∷ 1 ∷ [] }) ∷ Step (Select 1) ∷ Step (Repeat 1023 1) ∷ Step (Select 2) ∷ [])
+    (Step (Repeat 50 2)) (DrawsTwo CarriageReturn (Repeat 50 2))
+
+-- 0;1q#1!1001?~-!8~ draws nothing
+abbrev pub FarSixelStops : Type 0
+FarSixelStops =
+    ReadsAs xterm
+    (Start false (record { items = 0 ∷ 1 ∷ [] }) ∷ Step (Select 1) ∷ Step (Repeat 1001 0) ∷ Step (Sixel 63) ∷ [])
+    (Step NextLine) Stops
+
+-- 166 bands of blanks, 996 rows: the next band reaches past row 1,000
+abbrev pub above_the_last_band : List Event
+above_the_last_band = Start false (record { items = 0 ∷ 1 ∷ [] }) ∷ Step (Select 1) ∷ replicate 166 (Step NextLine)
+
+-- there ~~ paints one column, of four rows, and ends the string
+abbrev pub LastBandEndsAtASixel : Type 0
+LastBandEndsAtASixel =
+    ReadsAs xterm above_the_last_band (Step (Sixel 63)) (Draws (Repeat 1 15))
+    × ReadsAs xterm (above_the_last_band ++ Step (Sixel 63) ∷ []) (Step (Sixel 63)) Stops
+
+-- there !3~#2!2~ paints one column twice
+abbrev pub LastBandReturnsAtARepeat : Type 0
+LastBandReturnsAtARepeat =
+    ReadsAs xterm above_the_last_band (Step (Repeat 3 63)) (Draws (Repeat 1 15))
+    × ReadsAs xterm (above_the_last_band ++ Step (Repeat 3 63) ∷ Step (Select 2) ∷ []) (Step (Repeat 2 63))
+    (DrawsTwo CarriageReturn (Repeat 1 15))
+
 -- ---- foot
+
+-- q"1;1;10001;3#1!6~ has six rows
+abbrev pub GreatSideDoesNotCount : Type 0
+GreatSideDoesNotCount =
+    ReadsAs foot (Step (Raster 1 1 10001 3) ∷ Step (Select 1) ∷ []) (Step (Repeat 6 63)) (Draws (Repeat 6 63))
 
 -- q"1;1;5;3~ has six rows
 abbrev pub NarrowBoxDoesNotCount : Type 0
@@ -89,6 +135,15 @@ abbrev pub SamplesAreUnsaid : Type 0
 SamplesAreUnsaid =
     ReadsAs mlterm (Step (Define 1 3 100 0 0) ∷ Step (Select 2) ∷ []) (Step (Sixel 63)) (Draws (Sixel 63))
     × ReadsAs mlterm (Step (Define 1 3 100 0 0) ∷ []) (Step (Sixel 63)) Unsaid
+
+-- q#5;9;24;0;20#5!6~ is of 24, 0 and 20 percent
+abbrev pub SystemNineIsPercent : Type 0
+SystemNineIsPercent =
+    ReadsAs mlterm [] (Step (Define 5 9 24 0 20)) (DrawsTwo (Define 5 2 24 0 20) (Select 5))
+
+-- 051;1q mixes, and 51;1q doesn't
+abbrev pub FiveMayMix : Type 0
+FiveMayMix = ReadsAs mlterm [] (Start false (record { items = 51 ∷ 1 ∷ [] })) Unsaid
 
 -- q"1;1;8;6-!31@: the repeat is right of the buffer in a band below it, which is read past its block of memory
 abbrev pub CornerIsUnsaid : Type 0

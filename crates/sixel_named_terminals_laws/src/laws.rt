@@ -5,13 +5,15 @@ ghost use Rattle.sixel_named_terminals_laws.specs.Laws.{CornerIsUnsaid};
 ghost use Rattle.sixel_named_terminals_laws.specs.Laws.{DataPastTheWidthIsCut, DroppedRasterOpensNothing};
 ghost use Rattle.sixel_named_terminals_laws.specs.Laws.{DroppedSelectOpens};
 ghost use Rattle.sixel_named_terminals_laws.specs.Laws.{EndsAtAnEvent, EndsAtOnePosition, FarBlankIsUnsaid};
-ghost use Rattle.sixel_named_terminals_laws.specs.Laws.{FarColumnsAreLost};
+ghost use Rattle.sixel_named_terminals_laws.specs.Laws.{FarColumnsAreLost, FarRepeatReturns, FarSixelStops, FiveMayMix};
+ghost use Rattle.sixel_named_terminals_laws.specs.Laws.{GreatSideDoesNotCount, HighIntroducerStops, LongRatioIsTaken};
 ghost use Rattle.sixel_named_terminals_laws.specs.Laws.{GoesToTheEnd, GreatestSidesFill, KonsoleIsRead, LargeSideStops};
+ghost use Rattle.sixel_named_terminals_laws.specs.Laws.{LastBandEndsAtASixel, LastBandReturnsAtARepeat};
 ghost use Rattle.sixel_named_terminals_laws.specs.Laws.{LastPositionIsRead, LateBoxIsUnsaid, LateRasterDoesNotCount};
 ghost use Rattle.sixel_named_terminals_laws.specs.Laws.{NarrowBoxDoesNotCount, NoWidthStops, PenKeepsItsColour};
 ghost use Rattle.sixel_named_terminals_laws.specs.Laws.{PositionsAreRead};
 ghost use Rattle.sixel_named_terminals_laws.specs.Laws.{RatioIsTall, SamplesAreUnsaid, ShownDoesNotEnd, ShowsOneScreen};
-ghost use Rattle.sixel_named_terminals_laws.specs.Laws.{ShowsOrEnds};
+ghost use Rattle.sixel_named_terminals_laws.specs.Laws.{ShowsOrEnds, SystemNineIsPercent};
 ghost use Rattle.sixel_named_terminals_laws.specs.Laws.{StopsAtAnEvent};
 ghost use Rattle.sixel_named_terminals_laws.specs.Laws.{TwoBoxesBelowAreUnsaid, UndefinedIsDrawn, UnknownSystemSticks};
 ghost use Rattle.sixel_named_terminals_laws.specs.Laws.{WideBoxCuts};
@@ -23,10 +25,17 @@ pub fn xterm_on_strings()
     ensures greatest_sides { GreatestSidesFill }
     ensures blank_sixel { BlankSixelIsFirst }
     ensures far_columns { FarColumnsAreLost }
+    ensures high_introducer { HighIntroducerStops }
+    ensures long_ratio { LongRatioIsTaken }
+    ensures far_repeat { FarRepeatReturns }
+    ensures far_sixel { FarSixelStops }
+    ensures last_band_sixel { LastBandEndsAtASixel }
+    ensures last_band_repeat { LastBandReturnsAtARepeat }
 {}
 
 /// What foot makes of strings that were shown on it.
 pub fn foot_on_strings()
+    ensures great_side { GreatSideDoesNotCount }
     ensures narrow_box { NarrowBoxDoesNotCount }
     ensures wide_box { WideBoxCuts }
     ensures past_the_width { DataPastTheWidthIsCut }
@@ -38,6 +47,8 @@ pub fn foot_on_strings()
 pub fn mlterm_on_strings()
     ensures chance { ChanceIsUnsaid }
     ensures samples { SamplesAreUnsaid }
+    ensures system_nine { SystemNineIsPercent }
+    ensures five { FiveMayMix }
     ensures corner { CornerIsUnsaid }
     ensures far_blank { FarBlankIsUnsaid }
     ensures two_boxes { TwoBoxesBelowAreUnsaid }

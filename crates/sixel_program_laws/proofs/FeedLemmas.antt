@@ -76,7 +76,7 @@ asked_unfed asked.Rows = name_unfed (codes "Rows") refl
 asked_unfed asked.Past = name_unfed (codes "Past") refl
 asked_unfed asked.Hue = name_unfed (codes "Hue") refl
 asked_unfed asked.Far = name_unfed (codes "Far") refl
-asked_unfed asked.Mixed = name_unfed (codes "Mixed") refl
+asked_unfed asked.Introducer = name_unfed (codes "Introducer") refl
 
 -- nor do digits
 digits_unfed : (ds : Text) → AreDigits ds → All IsUnfed ds

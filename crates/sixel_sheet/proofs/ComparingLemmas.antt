@@ -15,7 +15,7 @@ use Rattle.sixel_differ.specs.declared.view.View.TheVariants.{Screen, Unmodelled
 use Rattle.sixel_differ.specs.declared.view.Views.{Views}
 use Rattle.sixel_differ.specs.Comparisons.{IsComparison, IsLeader, IsLikeNone, IsUnlikeFirst, NoneShows, StandsAfter}
 use Rattle.sixel_differ.specs.Comparisons.{StandsWith, rank, standing_in}
-use Rattle.sixel_differ.specs.Pixels.{AreAlike, ComesBefore, DifferFirstAt, colour_at}
+use Rattle.sixel_differ.specs.Pixels.{AreAlike, ComesBefore, DifferFirstAt, seen_at}
 use Rattle.sixel_differ.specs.Views.{IsUnmodelled, Shows, view_in}
 
 -- ---- numbers and terminals
@@ -220,13 +220,13 @@ first_below P test (suc n) = elim (first_below P test n) [
   ]
 ]
 
--- the screens have one colour in this column and row, or in this row
+-- one colour is seen in this column and row of the screens, or in this row
 IsSameAt : Shown → Shown → ℕ → ℕ → Type 0
-IsSameAt a b y x = colour_at a x y ≡ colour_at b x y
+IsSameAt a b y x = seen_at a x y ≡ seen_at b x y
 
 test_at : (a b : Shown) (y x : ℕ) → IsSameAt a b y x ⊎ (IsSameAt a b y x → ⊥)
 unfolding IsSameAt
-test_at a b y x = same_colour (colour_at a x y) (colour_at b x y)
+test_at a b y x = same_colour (seen_at a x y) (seen_at b x y)
 
 IsSameRow : Shown → Shown → ℕ → Type 0
 IsSameRow a b y = AllBelow (IsSameAt a b y) a.width
@@ -253,7 +253,7 @@ first_in_row a b y lt off above = elim (first_below (IsSameAt a b y) (test_at a 
       before = λ u w wide high first. elim first [
         | inl less ↦ above w less u wide
         | inr same ↦
-            subst (λ (k : ℕ). colour_at a u k ≡ colour_at b u k) (sym same.0) (found.3 u same.1)
+            subst (λ (k : ℕ). seen_at a u k ≡ seen_at b u k) (sym same.0) (found.3 u same.1)
       ];
     },
   )

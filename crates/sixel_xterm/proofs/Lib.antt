@@ -1,3 +1,3 @@
+pub mod PenLemmas
 pub mod XTermLemmas
-pub mod CutLemmas
 pub mod SettingLemmas

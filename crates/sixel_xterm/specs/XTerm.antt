@@ -1,7 +1,7 @@
 -- xterm 379, run as a VT340. A definition doesn't select, and a pixel has the colour that its register has at the end.
 -- The first data command fills a box with register 0. What xterm can't read ends the string: what is drawn stays.
-use Rattle.std.specs.Prelude.{◌==◌, ◌&&◌, ◌||◌, ℕ, ◌-◌, ◌*◌, ◌/◌, ◌%◌, Bool, true, false, not, List, nat_lt}
-use Rattle.std.specs.Prelude.{if◌then◌else◌}
+use Rattle.std.specs.Prelude.{◌==◌, ◌&&◌, ◌||◌, ℕ, ◌+◌, ◌-◌, ◌*◌, ◌/◌, ◌%◌, Bool, true, false, not, List, min, nat_lt}
+use Rattle.std.specs.Prelude.{slice_index_or, if◌then◌else◌}
 use Rattle.std.specs.List.{list_any}
 use Rattle.std.specs.Option.{option_map_or}
 use Rattle.sixel_grammar.specs.declared.command.Command.{Command}
@@ -10,12 +10,13 @@ use Rattle.sixel_grammar.specs.declared.command.Command.TheVariants.{CarriageRet
 use Rattle.sixel_grammar.specs.declared.command.Event.{Event}
 use Rattle.sixel_grammar.specs.declared.command.Event.TheVariants.{Start, Step, Finish}
 use Rattle.sixel_model.specs.Colours.{colour_in, is_colour}
-use Rattle.sixel_model.specs.Events.{Attributes, Definition, is_data_command, raster_of}
-use Rattle.sixel_model.specs.Geometry.{band, band_rows, column}
+use Rattle.sixel_model.specs.Events.{Attributes, Definition, columns_of, is_data_command, is_painting, is_return, raster_of}
+use Rattle.sixel_model.specs.Geometry.{band, band_rows}
 use Rattle.sixel_emulator.specs.declared.reading.Reads.{Reads}
 use Rattle.sixel_emulator.specs.declared.reading.Reads.TheVariants.{Nothing, Draws, DrawsTwo, Stops, Unsaid}
 use Rattle.sixel_emulator.specs.Readings.{Model, Rule, no_opening}
-use Rattle.sixel_emulator.specs.Words.{greatest, kept, second_parameter}
+use Rattle.sixel_emulator.specs.Words.{after_each, greatest, kept, second_parameter}
+use Rattle.sixel_xterm.specs.declared.pen.Pen.{Pen}
 
 -- how many registers there are; a greater number is taken modulo this
 abbrev pub xterm_registers : ℕ
@@ -29,17 +30,35 @@ xterm_side = 1000
 abbrev pub xterm_number : ℕ
 xterm_number = 32767
 
+-- ---- the introducer
+
+-- nothing of the string is drawn if the first parameter is above 9
+abbrev pub xterm_introducer : List ℕ → Reads
+xterm_introducer parameters = if nat_lt 9 (slice_index_or parameters 0 0) then Stops else Nothing
+
 -- ---- raster attributes
 
--- they end the string: the ratio has a 0, a number is above the largest side, or only the width is 0
-abbrev pub ends_xterm : Attributes → Bool
-ends_xterm a =
-    (a.pan == 0) || (a.pad == 0) || nat_lt xterm_side a.pan || nat_lt xterm_side a.pad
-    || nat_lt xterm_side a.width || nat_lt xterm_side a.height || ((a.width == 0) && not (a.height == 0))
+-- the ratio has a 0, which ends the string
+abbrev pub has_no_ratio : ℕ → ℕ → Bool
+has_no_ratio pan pad = (pan == 0) || (pad == 0)
+
+-- the sides end it: one is above the largest, or only the width is 0
+abbrev pub ends_xterm : ℕ → ℕ → Bool
+ends_xterm width height =
+    nat_lt xterm_side width || nat_lt xterm_side height || ((width == 0) && not (height == 0))
+
+-- a number of the ratio is above the greatest that the model says
+abbrev pub has_long_ratio : ℕ → ℕ → Bool
+has_long_ratio pan pad = nat_lt xterm_number pan || nat_lt xterm_number pad
 
 -- a height of 0 ends the string if it is written, and doesn't if it is missing: events don't tell
 abbrev pub xterm_raster : Attributes → Reads
-xterm_raster a = if ends_xterm a then Stops else if a.height == 0 then Unsaid else Nothing
+xterm_raster a =
+    if has_no_ratio a.pan a.pad then Stops
+    else if has_long_ratio a.pan a.pad then Unsaid
+    else if ends_xterm a.width a.height then Stops
+    else if a.height == 0 then Unsaid
+    else Nothing
 
 -- ---- colours
 
@@ -84,38 +103,86 @@ xterm_box before = Raster 1 1 (greatest width_of before) (greatest height_of bef
 abbrev pub fills_xterm : List Event → Bool
 fills_xterm before = not (list_any is_data_command before) && not (second_parameter before == 1)
 
--- the columns and the rows that are left for a data command
-abbrev pub xterm_columns : List Event → ℕ
-xterm_columns before = xterm_side - column 0 before
+-- ---- room
 
+-- the rows that are left for a data command
 abbrev pub xterm_rows : List Event → ℕ
 xterm_rows before = xterm_side - band_rows * band before
 
--- what a data command of so many columns with these bits paints
+-- they are fewer than a band has: its band reaches past the last row
+abbrev pub is_past_rows : List Event → Bool
+is_past_rows before = nat_lt (xterm_rows before) band_rows
+
+-- a data command with a set bit runs out of room past the last column, and in a band that reaches past the last row
+abbrev pub runs_out : ℕ → Bool → Event → Bool
+runs_out column is_past e = is_painting e && (is_past || nat_lt xterm_side (column + columns_of 0 e))
+
+abbrev pub is_single : Event → Bool
+is_single (Step (Sixel bits)) = true
+is_single _ = false
+
+-- the pen at this column of a band
+abbrev pub pen_at : ℕ → Pen
+pen_at column = record { column = column; returned = false; ended = false }
+
+-- the pen after a data command. Without room a single sixel ends the string, and a repeat goes to the left margin
+abbrev pub pen_after_data : Pen → Bool → Event → Pen
+pen_after_data p is_past e =
+    if not (runs_out p.column is_past e)
+    then pen_at (min (p.column + columns_of 0 e) xterm_side)
+    else if is_single e then record p { ended = true }
+    else record (pen_at 0) { returned = true }
+
+-- the pen after an event; once the string has ended it stays
+abbrev pub pen_after : Pen → Bool → Event → Pen
+pen_after p is_past e =
+    if p.ended then p
+    else if is_return e then pen_at 0
+    else if is_data_command e then pen_after_data p is_past e
+    else p
+
+-- the pen after these events
+unfoldable pub xterm_pen : List Event → Pen
+xterm_pen before = after_each (λ p earlier e. pen_after p (is_past_rows earlier) e) (pen_at 0) before
+
+-- ---- data
+
+-- the columns that are left for a data command: one at most if its band reaches past the last row
+abbrev pub xterm_columns : List Event → ℕ
+xterm_columns before =
+    min (if is_past_rows before then 1 else xterm_side) (xterm_side - (xterm_pen before).column)
+
+-- what a data command of so many columns with these bits paints. Blanks stay, and move on
 abbrev pub xterm_painting : List Event → Command → ℕ → ℕ → Command
-xterm_painting before command count bits = kept (xterm_columns before) (xterm_rows before) command count bits
+xterm_painting before command count bits =
+    if bits % 64 == 0 then command else kept (xterm_columns before) (xterm_rows before) command count bits
 
 -- a repeat of 0 and one without a number are the same event, and xterm reads them in different ways
 abbrev pub xterm_data : List Event → Command → ℕ → ℕ → Reads
 xterm_data before command count bits =
     if count == 0 then Unsaid
     else if fills_xterm before then DrawsTwo (xterm_box before) (xterm_painting before command count bits)
+    else if (xterm_pen before).returned then DrawsTwo CarriageReturn (xterm_painting before command count bits)
     else Draws (xterm_painting before command count bits)
 
 -- ---- all events
 
-abbrev pub xterm : Rule
-xterm before (Start eight parameters) next = Nothing
-xterm before (Step (Raster pan pad width height)) next =
+-- what it makes of an event if the string goes on
+abbrev pub xterm_reads : List Event → Event → Reads
+xterm_reads before (Start eight parameters) = xterm_introducer parameters.items
+xterm_reads before (Step (Raster pan pad width height)) =
     xterm_raster (record { pan = pan; pad = pad; width = width; height = height })
-xterm before (Step (Define register system x y z)) next =
+xterm_reads before (Step (Define register system x y z)) =
     xterm_define register (record { system = system; x = x; y = y; z = z })
-xterm before (Step (Select register)) next = xterm_select register
-xterm before (Step (Sixel bits)) next = xterm_data before (Sixel bits) 1 bits
-xterm before (Step (Repeat count bits)) next = xterm_data before (Repeat count bits) count bits
-xterm before (Step CarriageReturn) next = Draws CarriageReturn
-xterm before (Step NextLine) next = Draws NextLine
-xterm before (Finish eight) next = Nothing
+xterm_reads before (Step (Select register)) = xterm_select register
+xterm_reads before (Step (Sixel bits)) = xterm_data before (Sixel bits) 1 bits
+xterm_reads before (Step (Repeat count bits)) = xterm_data before (Repeat count bits) count bits
+xterm_reads before (Step CarriageReturn) = Draws CarriageReturn
+xterm_reads before (Step NextLine) = Draws NextLine
+xterm_reads before (Finish eight) = Nothing
+
+abbrev pub xterm : Rule
+xterm before e next = if (xterm_pen before).ended then Stops else xterm_reads before e
 
 abbrev pub xterm_model : Model
 xterm_model = record {

@@ -2,6 +2,7 @@
 #![tactic(auto)]
 
 mod begun;
+mod pen;
 mod settings;
 mod xterm;
 

@@ -1,26 +1,23 @@
 //! What xterm makes of events.
 
-ghost use Rattle.std.specs.Prelude.{◌≡◌, ◌≤◌, ◌++◌, ◌∷◌, [], ℕ, List, Option, length, true};
+ghost use Rattle.std.specs.Prelude.{◌≡◌, ◌<◌, ◌++◌, ◌∷◌, [], ℕ, IsTrue, List, length, slice_index, slice_index_or};
+ghost use Rattle.sixel_grammar.specs.Bytes.{is_data};
 ghost use Rattle.sixel_grammar.specs.declared.command.Event.{Event as AnEvent};
-ghost use Rattle.sixel_model.specs.Geometry.{band_rows};
 ghost use Rattle.sixel_terminal.specs.Stretches.{sixels_of};
-ghost use Rattle.sixel_emulator.specs.Words.{upper};
-ghost use Rattle.sixel_xterm.specs.XTerm.{ends_xterm, fills_xterm, height_of, is_beyond_xterm, is_xterm_colour};
-ghost use Rattle.sixel_xterm.specs.XTerm.{width_of, xterm, xterm_box, xterm_columns, xterm_data, xterm_define};
-ghost use Rattle.sixel_xterm.specs.XTerm.{xterm_model};
-ghost use Rattle.sixel_xterm.specs.XTerm.{xterm_painting, xterm_raster, xterm_rows, xterm_select, xterm_x};
-ghost use Rattle.sixel_xterm.specs.XTermSeen.{HasSeenXTerm};
+ghost use Rattle.sixel_xterm.specs.XTerm.{ends_xterm, fills_xterm, has_long_ratio, has_no_ratio, height_of};
+ghost use Rattle.sixel_xterm.specs.XTerm.{is_beyond_xterm, is_past_rows, is_xterm_colour, width_of, xterm, xterm_box};
+ghost use Rattle.sixel_xterm.specs.XTerm.{xterm_columns, xterm_data, xterm_define, xterm_introducer, xterm_model};
+ghost use Rattle.sixel_xterm.specs.XTerm.{xterm_painting, xterm_raster, xterm_reads, xterm_rows, xterm_select, xterm_x};
+ghost use Rattle.sixel_xterm.specs.XTermSeen.{HasSeenXTerm, has_room, is_free, next_rows};
 
+use crate::pen::{Pen, SIDE};
 use sixel_emulator::words::{is_data_command, kept, second_of};
-use sixel_emulator::{Place, Reading, Reads};
+use sixel_emulator::{Reading, Reads};
 use sixel_grammar::{Command, Event};
 use sixel_model::BAND_ROWS;
 
 /// How many registers there are. A greater number is taken modulo this.
 const REGISTERS: u16 = 1024;
-
-/// The largest side of a box, and how many columns and rows are painted.
-const SIDE: u16 = 1000;
 
 /// The greatest number of which the model says what xterm reads.
 const NUMBER: u16 = 32767;
@@ -28,7 +25,9 @@ const NUMBER: u16 = 32767;
 /// What xterm needs to know of the events that it has read.
 #[derive(Clone, Copy, Debug, PartialEq, Eq)]
 pub struct XTerm {
-    place: Place,
+    pen: Pen,
+    /// How many rows are left.
+    rows: u16,
     /// The greatest width that raster attributes declared.
     width: u16,
     /// The greatest height.
@@ -39,23 +38,46 @@ pub struct XTerm {
     second: u16,
 }
 
-/// Whether raster attributes end the string.
-fn ends(pan: u16, pad: u16, width: u16, height: u16) -> bool
-    ensures { result ≡ ends_xterm (record { pan = pan; pad = pad; width = width; height = height }) }
+/// What it makes of an introducer with this first parameter.
+fn read_introducer(first: u16) -> Reads
+    ensures { (parameters : List ℕ) → first ≡ slice_index_or parameters 0 0 → result ≡ xterm_introducer parameters }
 {
-    pan == 0
-        || pad == 0
-        || pan > SIDE
-        || pad > SIDE
-        || width > SIDE
-        || height > SIDE
-        || (width == 0 && height != 0)
+    if first > 9 {
+        Reads::Stops
+    } else {
+        Reads::Nothing
+    }
+}
+
+/// Whether a ratio has a 0.
+fn has_no_ratio(pan: u16, pad: u16) -> bool
+    ensures { result ≡ has_no_ratio pan pad }
+{
+    pan == 0 || pad == 0
+}
+
+/// Whether a number of a ratio is above those of which the model speaks.
+fn has_long_ratio(pan: u16, pad: u16) -> bool
+    ensures { result ≡ has_long_ratio pan pad }
+{
+    pan > NUMBER || pad > NUMBER
+}
+
+/// Whether the sides that raster attributes give end the string.
+fn ends(width: u16, height: u16) -> bool
+    ensures { result ≡ ends_xterm width height }
+{
+    width > SIDE || height > SIDE || (width == 0 && height != 0)
 }
 
 fn read_raster(pan: u16, pad: u16, width: u16, height: u16) -> Reads
     ensures { result ≡ xterm_raster (record { pan = pan; pad = pad; width = width; height = height }) }
 {
-    if ends(pan, pad, width, height) {
+    if has_no_ratio(pan, pad) {
+        Reads::Stops
+    } else if has_long_ratio(pan, pad) {
+        Reads::Unsaid
+    } else if ends(width, height) {
         Reads::Stops
     } else if height == 0 {
         Reads::Unsaid
@@ -138,13 +160,25 @@ fn height_of(event: &Event) -> u16
     }
 }
 
+/// How many rows are left after an event.
+#[inline(always)]
+fn rows_after(rows: u16, event: &Event) -> u16
+    ensures { result ≡ next_rows rows event.now }
+{
+    match event {
+        Event::Step(Command::NextLine) => rows.saturating_sub(6),
+        _ => rows,
+    }
+}
+
 impl XTerm {
-    /// Nothing has been read.
+    /// No event is read.
     pub fn new() -> XTerm
         ensures { HasSeenXTerm result [] }
     {
         XTerm {
-            place: Place::new(),
+            pen: Pen::at_margin(),
+            rows: SIDE,
             width: 0,
             height: 0,
             has_data: false,
@@ -172,35 +206,54 @@ impl XTerm {
         }
     }
 
+    /// Whether the band of the next sixel reaches past the last row.
+    #[inline(always)]
+    fn is_past_rows(&self) -> bool
+        ensures { (before : List AnEvent) → HasSeenXTerm self.now before → result ≡ is_past_rows before }
+    {
+        u32::from(self.rows) < BAND_ROWS
+    }
+
     /// How many columns are left for a data command.
     fn columns_left(&self) -> u16
         ensures { (before : List AnEvent) → HasSeenXTerm self.now before → result ≡ xterm_columns before }
     {
-        u32::from(SIDE).saturating_sub(self.place.column) as u16
+        let most = if self.is_past_rows() { 1 } else { SIDE };
+        self.pen.columns_left().min(most)
     }
 
-    /// How many rows are left.
-    fn rows_left(&self) -> u32
-        ensures { (before : List AnEvent) → HasSeenXTerm self.now before → result ≡ xterm_rows before }
-    {
-        u32::from(SIDE).saturating_sub(self.place.band.saturating_mul(BAND_ROWS))
-    }
-
-    /// Whether all rows of the band are left.
+    /// Whether a data command that comes next is drawn as it is, if it has room.
     #[inline(always)]
-    fn has_band(&self) -> bool
-        ensures { (before : List AnEvent) → HasSeenXTerm self.now before → result ≡ true
-            → band_rows ≤ xterm_rows before }
+    fn is_free(&self) -> bool
+        ensures { (before : List AnEvent) → HasSeenXTerm self.now before → result ≡ is_free before }
     {
-        u64::from(self.place.band) * u64::from(BAND_ROWS) + u64::from(BAND_ROWS) <= u64::from(SIDE)
+        !(self.pen.ended || self.pen.returned || self.fills())
     }
 
-    /// What a data command paints: what of it is in the first columns and rows.
+    /// Whether a data command of so many columns with these bits has room, or needs none.
+    #[inline(always)]
+    fn has_room(&self, count: u16, bits: u8) -> bool
+        ensures { (before : List AnEvent) → HasSeenXTerm self.now before → result ≡ has_room before count bits }
+    {
+        bits % 64 == 0 || (!self.is_past_rows() && count <= self.pen.columns_left())
+    }
+
+    /// What a data command paints.
     fn painting(&self, command: Command, count: u16, bits: u8) -> Command
         ensures { (before : List AnEvent) → HasSeenXTerm self.now before
             → result ≡ xterm_painting before command count bits }
     {
-        kept(self.columns_left(), self.rows_left(), command, count, bits)
+        if bits % 64 == 0 {
+            command
+        } else {
+            kept(
+                self.columns_left(),
+                u32::from(self.rows),
+                command,
+                count,
+                bits,
+            )
+        }
     }
 
     #[inline(always)]
@@ -209,19 +262,23 @@ impl XTerm {
             → result ≡ xterm_data before command count bits }
     {
         if count == 0 {
-            Reads::Unsaid
-        } else if self.fills() {
-            Reads::DrawsTwo(self.declared(), self.painting(command, count, bits))
+            return Reads::Unsaid;
+        }
+        let painting = self.painting(command, count, bits);
+        if self.fills() {
+            Reads::DrawsTwo(self.declared(), painting)
+        } else if self.pen.returned {
+            Reads::DrawsTwo(Command::CarriageReturn, painting)
         } else {
-            Reads::Draws(self.painting(command, count, bits))
+            Reads::Draws(painting)
         }
     }
 
-    /// What it makes of the event.
+    /// What it makes of the event if the string goes on.
     #[inline(always)]
     fn read_event(&self, event: &Event) -> Reads
-        ensures { (before : List AnEvent) (next : Option AnEvent) → HasSeenXTerm self.now before
-            → result ≡ xterm before event.now next }
+        ensures { (before : List AnEvent) → HasSeenXTerm self.now before
+            → result ≡ xterm_reads before event.now }
     {
         match event {
             Event::Step(Command::Sixel(bits)) => self.read_data(Command::Sixel(*bits), 1, *bits),
@@ -252,9 +309,13 @@ impl XTerm {
             ) => read_definition(*register, *system, *x, *y, *z),
             Event::Step(Command::CarriageReturn) => Reads::Draws(Command::CarriageReturn),
             Event::Step(Command::NextLine) => Reads::Draws(Command::NextLine),
-            Event::Start { .. } | Event::Finish { .. } => Reads::Nothing,
+            Event::Start { parameters, .. } => {
+                read_introducer(parameters.get(0).copied().unwrap_or(0))
+            }
+            Event::Finish { .. } => Reads::Nothing,
         }
     }
+
     /// With one more event read.
     #[inline(always)]
     fn after(self, event: &Event) -> XTerm
@@ -262,7 +323,8 @@ impl XTerm {
             → HasSeenXTerm result (before ++ event.now ∷ []) }
     {
         XTerm {
-            place: self.place.after(event, 0),
+            pen: self.pen.after(self.is_past_rows(), event),
+            rows: rows_after(self.rows, event),
             width: self.width.max(width_of(event)),
             height: self.height.max(height_of(event)),
             has_data: self.has_data | is_data_command(event),
@@ -272,15 +334,16 @@ impl XTerm {
 }
 
 impl XTerm {
-    /// With so many sixels read.
+    /// With these sixels read.
     #[inline(always)]
-    fn after_sixels(self, count: usize) -> XTerm
-        ensures { (before : List AnEvent) (bytes : List ℕ) → length bytes ≡ count → HasSeenXTerm self before
-            → HasSeenXTerm result (before ++ sixels_of bytes) }
+    fn after_sixels(self, bytes: &[u8]) -> XTerm
+        requires { (k : ℕ) → k < length bytes.now → IsTrue (is_data (slice_index bytes.now k)) }
+        ensures { (before : List AnEvent) → HasSeenXTerm self before
+            → HasSeenXTerm result (before ++ sixels_of bytes.now) }
     {
         XTerm {
-            place: self.place.after_sixels(count),
-            has_data: self.has_data | (count > 0),
+            pen: self.pen.after_sixels(self.is_past_rows(), bytes),
+            has_data: self.has_data | (bytes.len() > 0),
             ..self
         }
     }
@@ -293,7 +356,11 @@ impl Reading for XTerm {
 
     #[inline(always)]
     fn read(&mut self, event: &Event, _next: Option<&Event>) -> Reads {
-        let reads = self.read_event(event);
+        let reads = if self.pen.ended {
+            Reads::Stops
+        } else {
+            self.read_event(event)
+        };
         *self = self.after(event);
         reads
     }
@@ -303,36 +370,27 @@ impl Reading for XTerm {
     }
 
     fn plain_sixels(&self) -> usize {
-        if self.fills() {
+        if !self.is_free() {
             0
-        } else if self.has_band() {
-            usize::from(self.columns_left())
-        } else {
+        } else if self.is_past_rows() {
             0
-        }
-    }
-
-    fn note_sixels(&mut self, bytes: &[u8]) {
-        *self = self.after_sixels(bytes.len());
-    }
-
-    fn kept_columns(&self, zero_columns: u8) -> Option<usize> {
-        if zero_columns != 0 || self.fills() {
-            return None;
-        }
-        let columns = self.columns_left();
-        if columns == 0 {
-            Some(0)
-        } else if self.rows_left() == 0 {
-            Some(usize::from(columns))
         } else {
-            None
+            usize::from(self.pen.columns_left())
         }
     }
 
     #[inline(always)]
-    fn is_plain_repeat(&self, count: u16, _bits: u8) -> bool {
-        count != 0 && count <= self.columns_left() && self.has_band() && !self.fills()
+    fn note_sixels(&mut self, bytes: &[u8]) {
+        *self = self.after_sixels(bytes);
+    }
+
+    fn kept_columns(&self, _zero_columns: u8) -> Option<usize> {
+        None
+    }
+
+    #[inline(always)]
+    fn is_plain_repeat(&self, count: u16, bits: u8) -> bool {
+        count != 0 && self.is_free() && self.has_room(count, bits)
     }
 
     #[inline(always)]

@@ -14,6 +14,9 @@ use sixel_emulator::Place;
 use sixel_grammar::{Command, Event};
 use sixel_model::BAND_ROWS;
 
+/// The largest side of raster attributes that count.
+const MOST_SIDE: u16 = 10000;
+
 /// The size of the picture. Sides stop at `u32::MAX`, which is more than any that raster attributes declare.
 #[derive(Clone, Copy, Debug, PartialEq, Eq)]
 pub(crate) struct Growing {
@@ -42,7 +45,9 @@ impl Growing {
         ensures { (before : List AnEvent) → HasGrown self.now before
             → result ≡ counts_on_foot (foot_size before) width height }
     {
-        u32::from(width) >= self.height && u32::from(height) >= self.width.max(1)
+        width.max(height) <= MOST_SIDE
+            && u32::from(width) >= self.height
+            && u32::from(height) >= self.width.max(1)
     }
 
     /// Whether raster attributes with these sides make the picture narrower or lower.

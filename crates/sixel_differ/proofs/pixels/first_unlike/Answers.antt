@@ -24,6 +24,5 @@ returns-in-Some c =
       width = c.requires.width;
       whole = c.requires.whole;
     })
-    c.pixels.ensures.fixed c.pixels-2.ensures.fixed
     (c.place_of.ensures.0 ∙ ap (λ (w : ℕ). c.in-Some.at % w) c.width.ensures)
     (c.place_of.ensures.1 ∙ ap (λ (w : ℕ). c.in-Some.at / w) c.width.ensures) c.in-Some.ensures

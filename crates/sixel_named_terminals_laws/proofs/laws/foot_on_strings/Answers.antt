@@ -4,6 +4,10 @@ use Rattle.sixel_model.specs.Positions.{latest, since}
 use Rattle.sixel_emulator.specs.Words.{after_each, after_first}
 use Rattle.sixel_named_terminals_laws.proofs.laws.foot_on_strings.Goals as goal
 
+pub returns-clause-great_side : goal.returns-clause-great_side
+unfolding after_each after_first band column latest since
+returns-clause-great_side c = λ next. refl
+
 pub returns-clause-narrow_box : goal.returns-clause-narrow_box
 unfolding after_each after_first band column latest since
 returns-clause-narrow_box c = λ next. refl

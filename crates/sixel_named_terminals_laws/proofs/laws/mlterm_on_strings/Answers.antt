@@ -10,6 +10,8 @@ unfolding band column latest since is_said_colour after_each after_first
 returns c = record {
   chance = λ next. refl;
   samples = (λ next. refl, λ next. refl);
+  system_nine = λ next. refl;
+  five = λ next. refl;
   corner = λ next. refl;
   far_blank = λ next. refl;
   two_boxes = λ next. refl;

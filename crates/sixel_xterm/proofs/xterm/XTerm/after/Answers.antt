@@ -4,6 +4,8 @@ use Rattle.sixel_xterm.proofs.xterm.XTerm.after.Goals as goal
 pub returns : goal.returns
 returns c = λ before s.
     rw (
+      c.after.ensures,
+      c.is_past_rows.ensures before s,
       c.max.ensures,
       c.max-2.ensures,
       c.width_of.ensures,
@@ -11,5 +13,6 @@ returns c = λ before s.
       c.unwrap_or.ensures,
       c.second_of.ensures,
       c.is_data_command.ensures,
+      c.rows_after.ensures,
     )
-    (xterm_push c.after.result c.args.event.now s (c.after.ensures before s.place))
+    (xterm_push c.args.event.now s)

@@ -1,5 +1,5 @@
-use Rattle.sixel_xterm.proofs.XTermLemmas.{xterm_alone}
+use Rattle.std.proofs.Common.{refl}
 use Rattle.sixel_xterm.proofs.xterm.XTermReading.waits.Goals as goal
 
 pub returns : goal.returns
-returns c = λ is before next. xterm_alone before c.args._event.now next
+returns c = λ is before next. refl
