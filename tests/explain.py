@@ -22,6 +22,7 @@ QUESTIONS = [
     ("EightBit", "EightBit"),
     ("RasterLate", "RasterLate"),
     ("introducer", "Introducer"),
+    ("bare", "Bare"),
     ("uncovered", "Uncovered"),
     ("MAXVAL", "Maxval"),
     ("tooManyColours", "TooManyColours"),

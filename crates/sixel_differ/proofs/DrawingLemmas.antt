@@ -1,6 +1,6 @@
 -- The drawings of the named terminals while a document is read.
 use Rattle.std.proofs.Common.{◌≡◌, ◌∙◌, ◌++◌, ℕ, List, [], ap, subst, sym}
-use Rattle.std.specs.Prelude.{Err, IfOk, Ok, Result}
+use Rattle.std.specs.Prelude.{Err, IfOk, Ok, Option, Result, true}
 use Rattle.sixel_grammar.specs.declared.command.Event.{Event}
 use Rattle.sixel_grammar.specs.declared.command.Placed.{Placed}
 use Rattle.sixel_grammar.specs.Document.{Document, events_of}
@@ -12,7 +12,7 @@ use Rattle.sixel_terminal.specs.Drawings.{Drawn}
 use Rattle.sixel_terminal.specs.Screens.{Shown}
 use Rattle.sixel_emulator.specs.declared.modelled.Modelled.{Modelled}
 use Rattle.sixel_named_terminals.specs.declared.named.Named.{Named}
-use Rattle.sixel_named_terminals.specs.declared.named.Named.TheVariants.{Konsole}
+use Rattle.sixel_named_terminals.specs.declared.named.Named.TheVariants.{Foot, Konsole, MlTerm, XTerm}
 use Rattle.sixel_named_terminals.specs.declared.showing.ShowFault.TheVariants.{Unmodelled as Ends}
 use Rattle.sixel_konsole.specs.Konsole.{konsole_model}
 use Rattle.sixel_konsole.specs.KonsoleSeen.{HasSeenKonsole}
@@ -21,7 +21,12 @@ use Rattle.sixel_emulator.specs.Modelled.{EndsAtPlace, HasFollowed, HasFollowedO
 use Rattle.sixel_named_terminals.specs.Named.{DrawsNothingFirst, IsScreenOn, ShowsDocument, model_of, terminal_on}
 use Rattle.sixel_emulator.specs.Readings.{IsReading}
 use Rattle.sixel_named_terminals.proofs.ShowingLemmas.{Finishes}
-use Rattle.sixel_differ.specs.Drawings.{HasDrawn, HasDrawnKonsole, OnKonsole}
+use Rattle.sixel_foot.specs.FootSeen.{HasSeenFoot}
+use Rattle.sixel_mlterm.specs.MlTermSeen.{HasSeenMlTerm}
+use Rattle.sixel_xterm.specs.XTermSeen.{HasSeenXTerm}
+use Rattle.sixel_emulator.specs.Heard.{HasHeardOn, bare_heard, heard, heard_in}
+use Rattle.sixel_differ.specs.Drawings.{Drawings, HasDrawn, HasDrawnKonsole, HaveDrawn, Hearings, OnKonsole}
+use Rattle.sixel_differ.specs.Drawings.{drawings_in, hearing_all}
 
 -- ---- before any event
 
@@ -52,6 +57,32 @@ konsole_drawn_on background sides first now placed on taken begun = record {
   followed = on.1 [] begun.followed;
   measured = taken begun.measured;
 }
+
+-- what all of them do while they take these events
+abbrev pub HaveHeardOn : Hearings → Hearings → List Placed → Type 0
+HaveHeardOn first now placed =
+    (HasHeardOn (model_of XTerm) HasSeenXTerm first.one.one now.one.one placed
+    × HasHeardOn (model_of MlTerm) HasSeenMlTerm first.one.other now.one.other placed)
+    × (HasFollowedOn (model_of Foot) HasSeenFoot first.other.one now.other.one placed
+    × (HasFollowedOn konsole_model HasSeenKonsole first.other.other.one now.other.other.one placed
+    × HasTakenOn first.other.other.other now.other.other.other placed))
+
+pub have_drawn_on : (bytes : List ℕ) (bare : Option ℕ) (first : Drawings) (now : Hearings) (placed : List Placed)
+    → bare ≡ bare_heard true bytes → HaveHeardOn (hearing_all first bare) now placed
+    → (background : Parts) (sides : ℕ × ℕ) → HaveDrawn background sides first [] []
+    → HaveDrawn background sides (drawings_in now) (heard_in true bytes placed) placed
+have_drawn_on bytes bare first now placed is on background sides begun =
+    let same : heard bare placed ≡ heard_in true bytes placed = ap (λ (o : Option ℕ). heard o placed) is in record {
+      xterm = subst (λ (l : List Placed). HasDrawn XTerm HasSeenXTerm background sides now.one.one.modelled l) same
+          (drawn_on XTerm HasSeenXTerm background sides first.one.one now.one.one.modelled (heard bare placed) on.0.0.1
+          begun.xterm);
+      mlterm = subst (λ (l : List Placed). HasDrawn MlTerm HasSeenMlTerm background sides now.one.other.modelled l) same
+          (drawn_on MlTerm HasSeenMlTerm background sides first.one.other now.one.other.modelled (heard bare placed)
+          on.0.1.1 begun.mlterm);
+      foot = drawn_on Foot HasSeenFoot background sides first.other.one now.other.one placed on.1.0 begun.foot;
+      konsole = konsole_drawn_on background sides first.other.other now.other.other placed on.1.1.0 on.1.1.1
+          begun.konsole;
+    }
 
 -- ---- at the end
 

@@ -12,7 +12,7 @@ use Rattle.sixel_terminal.specs.Drawing.{screen_on, shown_on}
 use Rattle.sixel_terminal.specs.Screens.{Shown}
 use Rattle.sixel_named_terminals.specs.declared.named.Named.{Named}
 use Rattle.sixel_named_terminals.specs.declared.named.Named.TheVariants.{XTerm, MlTerm, Foot, Konsole}
-use Rattle.sixel_named_terminals.specs.Named.{IsScreenOn, model_of, terminal_on}
+use Rattle.sixel_named_terminals.specs.Named.{IsScreenOn, heard_on, model_of, terminal_on}
 use Rattle.sixel_mend.specs.declared.mending.Mending.{Mending}
 use Rattle.sixel_mend.specs.Sizes.{IsSize}
 use Rattle.sixel_differ.specs.declared.fault.DifferFault.{DifferFault}
@@ -52,14 +52,15 @@ screen_sides named background width height events screen on =
 
 pub have_sides : (background : Parts) (bytes : List ℕ) (v : Views) → AreViews background bytes v → HaveSides v
 have_sides background bytes v are = λ named screen shows.
-    screen_sides named background v.width v.height (events_of are.placed) screen
-    (subst (λ (view : View). IsView named background (v.width, v.height) are.placed view) shows (are.views named))
+    screen_sides named background v.width v.height (events_of (heard_on named bytes are.placed)) screen
+    (subst (λ (view : View). IsView named background (v.width, v.height) (heard_on named bytes are.placed) view) shows
+    (are.views named))
 
 are_views : (background : Parts) (bytes : List ℕ) (width height banded : ℕ) (v : Views) (placed : List Placed)
     → Document placed bytes → ((m : Mending) → IsSize m (events_of placed) width height)
     → IsTrue (is_side width && is_side height) → IsInBands height banded → width ≡ v.width → banded ≡ v.height
     → ((named : Named) (d : List Placed) → Document d bytes
-    → IsView named background (width, banded) d (view_in v named))
+    → IsView named background (width, banded) (heard_on named bytes d) (view_in v named))
     → AreViews background bytes v
 are_views background bytes width height banded v placed doc size sides bands across down views = record {
   placed = placed;
@@ -69,8 +70,8 @@ are_views background bytes width height banded v placed doc size sides bands acr
   sides = subst (λ (n : ℕ). IsTrue (is_side n && is_side height)) across sides;
   banded = subst (IsInBands height) down bands;
   views = λ named.
-      subst (λ (n : ℕ). IsView named background (v.width, n) placed (view_in v named)) down
-      (subst (λ (n : ℕ). IsView named background (n, banded) placed (view_in v named)) across
+      subst (λ (n : ℕ). IsView named background (v.width, n) (heard_on named bytes placed) (view_in v named)) down
+      (subst (λ (n : ℕ). IsView named background (n, banded) (heard_on named bytes placed) (view_in v named)) across
       (views named placed doc));
 }
 
@@ -79,7 +80,7 @@ pub given_views : (background : Parts) (bytes : List ℕ) (width height banded :
     → IsTrue (is_side width && is_side height) → IsInBands height banded → IfOk given (λ v. v.width ≡ width)
     → IfOk given (λ v. v.height ≡ banded)
     → IfOk given (λ v. (named : Named) (d : List Placed) → Document d bytes
-    → IsView named background (width, banded) d (view_in v named))
+    → IsView named background (width, banded) (heard_on named bytes d) (view_in v named))
     → IfOk given (AreViews background bytes)
 given_views background bytes width height banded (Ok v) placed doc size sides bands across down views =
     are_views background bytes width height banded v placed doc size sides bands (sym across) (sym down) views
@@ -108,11 +109,13 @@ given_fault bytes width height (Err fault) placed doc size sides is =
 
 -- ---- the views on screens of some sides
 
-pub each_view : (background : Parts) (sides : ℕ × ℕ) (placed : List Placed) (v : Views)
-    → IsView XTerm background sides placed v.xterm → IsView MlTerm background sides placed v.mlterm
-    → IsView Foot background sides placed v.foot → IsView Konsole background sides placed v.konsole
-    → (named : Named) → IsView named background sides placed (view_in v named)
-each_view background sides placed v a b c d XTerm = a
-each_view background sides placed v a b c d MlTerm = b
-each_view background sides placed v a b c d Foot = c
-each_view background sides placed v a b c d Konsole = d
+pub each_view : (background : Parts) (sides : ℕ × ℕ) (bytes : List ℕ) (placed : List Placed) (v : Views)
+    → IsView XTerm background sides (heard_on XTerm bytes placed) v.xterm
+    → IsView MlTerm background sides (heard_on MlTerm bytes placed) v.mlterm
+    → IsView Foot background sides (heard_on Foot bytes placed) v.foot
+    → IsView Konsole background sides (heard_on Konsole bytes placed) v.konsole
+    → (named : Named) → IsView named background sides (heard_on named bytes placed) (view_in v named)
+each_view background sides bytes placed v a b c d XTerm = a
+each_view background sides bytes placed v a b c d MlTerm = b
+each_view background sides bytes placed v a b c d Foot = c
+each_view background sides bytes placed v a b c d Konsole = d

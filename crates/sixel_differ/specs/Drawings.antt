@@ -1,5 +1,5 @@
 -- The drawings of the named terminals while a document is read. Only contracts of private functions cite these.
-use Rattle.std.specs.Prelude.{◌≡◌, ℕ, List, []}
+use Rattle.std.specs.Prelude.{◌≡◌, ℕ, List, [], Option}
 use Rattle.sixel_grammar.specs.declared.command.Event.{Event}
 use Rattle.sixel_grammar.specs.declared.command.Placed.{Placed}
 use Rattle.sixel_grammar.specs.Document.{events_of}
@@ -9,6 +9,7 @@ use Rattle.sixel_foot.specs.declared.foot.Foot.{Foot as FootReading}
 use Rattle.sixel_konsole.specs.declared.konsole.Konsole.{Konsole as KonsoleReading}
 use Rattle.sixel_konsole.specs.declared.measuring.Measuring.{Measuring}
 use Rattle.sixel_mlterm.specs.declared.mlterm.MlTerm.{MlTerm as MlTermReading}
+use Rattle.sixel_emulator.specs.declared.hearing.Hearing.{Hearing}
 use Rattle.sixel_emulator.specs.declared.modelled.Modelled.{Modelled}
 use Rattle.sixel_named_terminals.specs.declared.named.Named.{Named}
 use Rattle.sixel_named_terminals.specs.declared.named.Named.TheVariants.{XTerm, MlTerm, Foot}
@@ -43,9 +44,28 @@ pub record HasDrawnKonsole (background : Parts) (sides : ℕ × ℕ) (w : OnKons
   pub followed : HasFollowed konsole_model HasSeenKonsole w.one [] placed
   pub measured : HasTakenAll w.other (events_of placed)
 
--- all have taken these events
-pub record HaveDrawn (background : Parts) (sides : ℕ × ℕ) (d : Drawings) (placed : List Placed) : Type 0 where
-  pub xterm : HasDrawn XTerm HasSeenXTerm background sides d.one.one placed
-  pub mlterm : HasDrawn MlTerm HasSeenMlTerm background sides d.one.other placed
+-- all have taken these events; xterm and mlterm hear others
+pub record HaveDrawn (background : Parts) (sides : ℕ × ℕ) (d : Drawings) (heard placed : List Placed) : Type 0 where
+  pub xterm : HasDrawn XTerm HasSeenXTerm background sides d.one.one heard
+  pub mlterm : HasDrawn MlTerm HasSeenMlTerm background sides d.one.other heard
   pub foot : HasDrawn Foot HasSeenFoot background sides d.other.one placed
   pub konsole : HasDrawnKonsole background sides d.other.other placed
+
+-- ---- while they are drawn
+
+-- the same while they draw: xterm and mlterm may hear a select otherwise
+abbrev pub Hearings : Type 0
+Hearings = Both (Both (Hearing XTermReading) (Hearing MlTermReading)) (Both (Modelled FootReading) OnKonsole)
+
+-- they hear the select at this offset otherwise
+abbrev pub hearing_all : Drawings → Option ℕ → Hearings
+hearing_all d bare = record {
+  one = record {
+    one = record { modelled = d.one.one; bare = bare };
+    other = record { modelled = d.one.other; bare = bare };
+  };
+  other = d.other;
+}
+
+abbrev pub drawings_in : Hearings → Drawings
+drawings_in h = record { one = record { one = h.one.one.modelled; other = h.one.other.modelled }; other = h.other }

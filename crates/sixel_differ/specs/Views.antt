@@ -9,7 +9,7 @@ use Rattle.sixel_terminal.specs.Screens.{Shown}
 use Rattle.sixel_named_terminals.specs.declared.named.Named.{Named}
 use Rattle.sixel_named_terminals.specs.declared.named.Named.TheVariants.{XTerm, MlTerm, Foot, Konsole}
 use Rattle.sixel_emulator.specs.Modelled.{EndsAtPlace}
-use Rattle.sixel_named_terminals.specs.Named.{IsScreenOn, model_of}
+use Rattle.sixel_named_terminals.specs.Named.{IsScreenOn, heard_on, model_of}
 use Rattle.sixel_mend.specs.declared.mending.Mending.{Mending}
 use Rattle.sixel_mend.specs.Sizes.{IsSize}
 use Rattle.sixel_differ.specs.declared.view.View.{View}
@@ -42,7 +42,7 @@ HaveSides v = (named : Named) (screen : Shown) → Shows v named screen → HasS
 
 -- ---- of a document
 
--- the view of a terminal: its screen after the document, all of the background before; or the offset of the event at
+-- the view of a terminal: its screen after these events, all of the background before; or the offset of the event at
 -- which its model ends
 abbrev pub IsView : Named → Parts → ℕ × ℕ → List Placed → View → Type 0
 IsView named background sides placed (Screen screen) = IsScreenOn named background sides (events_of placed) screen
@@ -64,4 +64,5 @@ pub record AreViews (background : Parts) (bytes : List ℕ) (v : Views) : Type 0
   pub size : (m : Mending) → IsSize m (events_of placed) v.width height
   pub sides : IsTrue (is_side v.width && is_side height)
   pub banded : IsInBands height v.height
-  pub views : (named : Named) → IsView named background (v.width, v.height) placed (view_in v named)
+  pub views : (named : Named)
+      → IsView named background (v.width, v.height) (heard_on named bytes placed) (view_in v named)

@@ -1,23 +1,24 @@
 //! The named terminals draw a document in one reading.
 
-ghost use Rattle.std.specs.Prelude.{◌≡◌, ◌&&◌, [], ℕ, IfErr, IfOk, IsTrue, List};
+ghost use Rattle.std.specs.Prelude.{◌≡◌, ◌&&◌, [], ℕ, IfErr, IfOk, IsTrue, List, true};
 ghost use Rattle.sixel_grammar.specs.declared.command.Placed.{Placed as Place};
 ghost use Rattle.sixel_grammar.specs.Document.{Document};
 ghost use Rattle.sixel_model.specs.declared.colour.Parts.{Parts as SomeParts};
 ghost use Rattle.sixel_terminal.specs.Limits.{is_screen_side};
 ghost use Rattle.sixel_named_terminals.specs.declared.named.Named.{Named as ANamed};
+ghost use Rattle.sixel_emulator.specs.Heard.{heard_in};
 ghost use Rattle.sixel_foot.specs.FootSeen.{HasSeenFoot};
 ghost use Rattle.sixel_mlterm.specs.MlTermSeen.{HasSeenMlTerm};
-ghost use Rattle.sixel_named_terminals.specs.Named.{DrawsNothingFirst, model_of};
+ghost use Rattle.sixel_named_terminals.specs.Named.{DrawsNothingFirst, heard_on, model_of};
 ghost use Rattle.sixel_xterm.specs.XTermSeen.{HasSeenXTerm};
-ghost use Rattle.sixel_differ.specs.Drawings.{HasDrawn, HasDrawnKonsole, HaveDrawn};
+ghost use Rattle.sixel_differ.specs.Drawings.{HasDrawn, HasDrawnKonsole, HaveDrawn, drawings_in, hearing_all};
 ghost use Rattle.sixel_differ.specs.Faults.{IsReadingFault};
 ghost use Rattle.sixel_differ.specs.Views.{IsView, view_in};
 
 use crate::apart::Apart;
 use crate::fault::DifferFault;
 use crate::view::{View, Views};
-use sixel_emulator::{Modelled, Reading};
+use sixel_emulator::{Hearing, Modelled, Reading, bare_in};
 use sixel_foot::{Foot, as_foot, foot_terminal};
 use sixel_grammar::{Both, follow_document};
 use sixel_konsole::{Konsole, Measuring, as_konsole_at_once, konsole_terminal};
@@ -30,6 +31,9 @@ use std::alloc::{AllocError, Global};
 
 /// A drawing by konsole's model, without its rectangle, and a measure of that.
 type OnKonsole = Both<Modelled<Konsole>, Measuring>;
+
+/// The drawings while they take events.
+type Hearings = Both<Both<Hearing<XTerm>, Hearing<MlTerm>>, Both<Modelled<Foot>, OnKonsole>>;
 
 /// A drawing by the model of each terminal.
 pub(crate) type Drawings = Both<
@@ -104,7 +108,7 @@ pub(crate) fn begin(
     height: u32,
 ) -> Result<Drawings, AllocError>
     requires { IsTrue (is_screen_side width && is_screen_side height) }
-    ensures { IfOk result (λ drawings. HaveDrawn background (width, height) drawings []) }
+    ensures { IfOk result (λ drawings. HaveDrawn background (width, height) drawings [] []) }
 {
     let xterm = begin_xterm(alloc, background, width, height)?;
     let mlterm = begin_mlterm(alloc, background, width, height)?;
@@ -122,16 +126,52 @@ pub(crate) fn begin(
     })
 }
 
+/// The drawings while they take events: xterm and mlterm hear the select at this offset otherwise.
+fn hearing_all(drawings: Drawings, bare: Option<u64>) -> Hearings
+    ensures { result ≡ hearing_all drawings bare }
+{
+    let Both { one, other } = drawings;
+    Both {
+        one: Both {
+            one: Hearing {
+                modelled: one.one,
+                bare,
+            },
+            other: Hearing {
+                modelled: one.other,
+                bare,
+            },
+        },
+        other,
+    }
+}
+
+/// The drawings that have taken events.
+fn drawings_in(hearings: Hearings) -> Drawings
+    ensures { result ≡ drawings_in hearings }
+{
+    let Both { one, other } = hearings;
+    Both {
+        one: Both {
+            one: one.one.modelled,
+            other: one.other.modelled,
+        },
+        other,
+    }
+}
+
 /// The drawings after the document of these bytes. `drawings` have taken no event.
 pub(crate) fn draw_all(bytes: &[u8], drawings: Drawings) -> Result<Drawings, DifferFault>
     ensures drawn { IfOk result (λ drawn. (placed : List Place) × Document placed bytes.now
-        × ((background : SomeParts) (sides : ℕ × ℕ)
-        → HaveDrawn background sides drawings [] → HaveDrawn background sides drawn placed)) }
+        × ((background : SomeParts) (sides : ℕ × ℕ) → HaveDrawn background sides drawings [] []
+        → HaveDrawn background sides drawn (heard_in true bytes.now placed) placed)) }
     ensures refused { IfErr result (IsReadingFault bytes.now) }
 {
-    let mut apart = Apart { follower: drawings };
+    let mut apart = Apart {
+        follower: hearing_all(drawings, bare_in(true, bytes)),
+    };
     follow_document(bytes, &mut apart)?;
-    Ok(apart.follower)
+    Ok(drawings_in(apart.follower))
 }
 
 /// What is shown by the drawing of a terminal whose model draws nothing before the first event.
@@ -182,11 +222,11 @@ pub(crate) fn views_of(
 ) -> Result<Views, DifferFault>
     requires sides { IsTrue (is_screen_side width && is_screen_side height) }
     requires drawn { (placed : List Place) × Document placed bytes.now
-        × HaveDrawn background (width, height) drawings placed }
+        × HaveDrawn background (width, height) drawings (heard_in true bytes.now placed) placed }
     ensures width { IfOk result (λ views. views.width ≡ width) }
     ensures height { IfOk result (λ views. views.height ≡ height) }
     ensures views { IfOk result (λ views. (named : ANamed) (placed : List Place) → Document placed bytes.now
-        → IsView named background (width, height) placed (view_in views named)) }
+        → IsView named background (width, height) (heard_on named bytes.now placed) (view_in views named)) }
     ensures refused { IfErr result (IsReadingFault bytes.now) }
 {
     let Both { one, other } = drawings;

@@ -6,6 +6,7 @@ ghost use Rattle.sixel_grammar.specs.Document.{Document, events_of};
 ghost use Rattle.sixel_model.specs.Pictures.{is_side};
 ghost use Rattle.sixel_terminal.specs.Limits.{is_screen_side};
 ghost use Rattle.sixel_named_terminals.specs.declared.named.Named.{Named as ANamed};
+ghost use Rattle.sixel_named_terminals.specs.Named.{heard_on};
 ghost use Rattle.sixel_mend.specs.declared.mending.Mending.{Mending as AMending};
 ghost use Rattle.sixel_mend.specs.Measuring.{HasMeasured};
 ghost use Rattle.sixel_mend.specs.Mended.{Mends};
@@ -75,7 +76,7 @@ fn views_on(
     ensures width { IfOk result (λ views. views.width ≡ width) }
     ensures height { IfOk result (λ views. views.height ≡ height) }
     ensures views { IfOk result (λ views. (named : ANamed) (placed : List Place) → Document placed bytes.now
-        → IsView named background (width, height) placed (view_in views named)) }
+        → IsView named background (width, height) (heard_on named bytes.now placed) (view_in views named)) }
     ensures refused { IfErr result (IsReadingFault bytes.now) }
 {
     let begun = begin(alloc, background, width, height)?;

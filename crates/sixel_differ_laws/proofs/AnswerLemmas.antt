@@ -17,7 +17,7 @@ use Rattle.sixel_model.specs.Pictures.{is_side, most_side}
 use Rattle.sixel_terminal.specs.Drawing.{height_of, touches_on}
 use Rattle.sixel_named_terminals.specs.declared.named.Named.{Named}
 use Rattle.sixel_named_terminals.specs.declared.named.Named.TheVariants.{XTerm, MlTerm, Foot, Konsole}
-use Rattle.sixel_named_terminals.specs.Named.{model_of}
+use Rattle.sixel_named_terminals.specs.Named.{heard_on, model_of}
 use Rattle.sixel_emulator.specs.Readings.{EndsAt}
 use Rattle.sixel_named_terminals.proofs.NamedLemmas.{shows_or_ends}
 use Rattle.sixel_mend.specs.declared.mending.Mending.{Mending}
@@ -135,10 +135,10 @@ unfolding HasView
 some_views background bytes placed doc size fit =
     let bands = has_bands size.height in
     let sides : ℕ × ℕ = (size.width, bands.banded) in
-    let a = has_view XTerm background sides placed in
-    let b = has_view MlTerm background sides placed in
-    let c = has_view Foot background sides placed in
-    let d = has_view Konsole background sides placed in
+    let a = has_view XTerm background sides (heard_on XTerm bytes placed) in
+    let b = has_view MlTerm background sides (heard_on MlTerm bytes placed) in
+    let c = has_view Foot background sides (heard_on Foot bytes placed) in
+    let d = has_view Konsole background sides (heard_on Konsole bytes placed) in
     let v : Views = record {
       width = size.width;
       height = bands.banded;
@@ -155,7 +155,7 @@ some_views background bytes placed doc size fit =
         size = size.size;
         sides = fit;
         banded = bands.is;
-        views = each_view background sides placed v a.1 b.1 c.1 d.1;
+        views = each_view background sides bytes placed v a.1 b.1 c.1 d.1;
       },
     )
 

@@ -11,7 +11,7 @@ use Rattle.sixel_terminal.specs.Screens.{Shown}
 use Rattle.sixel_named_terminals.specs.declared.named.Named.{Named}
 use Rattle.sixel_named_terminals.specs.declared.named.Named.TheVariants.{XTerm, MlTerm, Foot, Konsole}
 use Rattle.sixel_emulator.specs.Modelled.{EndsAtPlace}
-use Rattle.sixel_named_terminals.specs.Named.{model_of}
+use Rattle.sixel_named_terminals.specs.Named.{heard_on, model_of}
 use Rattle.sixel_emulator.specs.Readings.{Model}
 use Rattle.sixel_named_terminals.proofs.NamedLemmas.{end_once, said_does_not_end, screen_once}
 use Rattle.sixel_mend.specs.declared.mending.Mending.{Mending}
@@ -193,9 +193,11 @@ one_set_of_views = λ background bytes v w p q.
         let down : v.height ≡ w.height =
         bands_once q.height v.height w.height (subst (λ (n : ℕ). IsInBands n v.height) size.1 p.banded) q.banded in
         same_views v w size.0 down (λ named.
-        view_once named background (w.width, w.height) q.placed (view_in v named) (view_in w named)
-        (subst (λ (n : ℕ). IsView named background (w.width, n) q.placed (view_in v named)) down
-        (subst (λ (n : ℕ). IsView named background (n, v.height) q.placed (view_in v named)) size.0
-        (subst (λ (d : List Placed). IsView named background (v.width, v.height) d (view_in v named)) same
+        let heard = heard_on named bytes q.placed in
+        view_once named background (w.width, w.height) heard (view_in v named) (view_in w named)
+        (subst (λ (n : ℕ). IsView named background (w.width, n) heard (view_in v named)) down
+        (subst (λ (n : ℕ). IsView named background (n, v.height) heard (view_in v named)) size.0
+        (subst (λ (d : List Placed).
+        IsView named background (v.width, v.height) (heard_on named bytes d) (view_in v named)) same
         (p.views named))))
         (q.views named))

@@ -6,4 +6,5 @@ pub mod CourseLemmas
 pub mod ProgressLemmas
 pub mod ModelledLemmas
 pub mod CutLemmas
+pub mod HeardLemmas
 pub mod FirstPieceLemmas

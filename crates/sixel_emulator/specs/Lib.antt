@@ -5,3 +5,4 @@ pub mod Courses
 pub mod Modelled
 pub mod FirstPiece
 pub mod Settings
+pub mod Heard

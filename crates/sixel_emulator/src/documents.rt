@@ -8,9 +8,11 @@ ghost use Rattle.sixel_grammar.specs.Document.{Document, events_of};
 ghost use Rattle.sixel_grammar.specs.Faults.{IsFaultOf};
 ghost use Rattle.sixel_grammar.specs.Reading.{Explains, NoFaultBefore, failures_after};
 ghost use Rattle.sixel_emulator.specs.FirstPiece.{IsFirst, with_first};
+ghost use Rattle.sixel_emulator.specs.Heard.{heard_in};
 ghost use Rattle.sixel_emulator.specs.Modelled.{HasFollowed, ModelGives};
 
-use crate::first_piece::follow_rest;
+use crate::heard_source::hear_rest;
+use crate::hearing::{Hearing, bare_in};
 use crate::modelled::Modelled;
 use crate::reading::Reading;
 use sixel_grammar::{Fault, InputFault, follow_document};
@@ -18,18 +20,21 @@ use sixel_io::{PIECE, Source};
 use sixel_terminal::Drawing;
 
 /// Reads the source, whose first bytes are the first `read` of `piece`, to its end. Gives the drawing of its document, or
-/// the offset of the event at which the model ends. `modelled` has taken no event.
+/// the offset of the event at which the model ends. `modelled` has taken no event. Its terminal may hear the first select
+/// without a number as raster attributes of zeros.
 pub fn draw<S: Source, R: Reading + Drop>(
     input: &mut S,
     piece: &mut [u8; PIECE],
     read: usize,
-    mut modelled: Modelled<R>,
+    hears: bool,
+    modelled: Modelled<R>,
 ) -> Result<Result<Drawing, u64>, InputFault>
     requires { IsFirst piece.old read (S.state input.old).remaining }
     ensures terminal { IfOk result (λ given. IfOk given (λ d. d.terminal ≡ modelled.progress.drawing.terminal)) }
     ensures gives { IfOk result (λ given. IfSome (with_first piece.old read (S.state input.old).remaining) (λ bytes.
         (placed : List Place) × Document placed bytes × ((opening : List AnEvent)
-        → HasFollowed R.model R.has_seen modelled opening [] → ModelGives R.model opening placed given))) }
+        → HasFollowed R.model R.has_seen modelled opening []
+        → ModelGives R.model opening (heard_in hears bytes placed) given))) }
     ensures refused { IfErr result (λ fault.
         IfSome (with_first piece.old read (S.state input.old).remaining) (Explains fault)) }
     ensures failures { (S.state input.new).failures ≡ failures_after result (S.state input.old).failures }
@@ -38,20 +43,30 @@ pub fn draw<S: Source, R: Reading + Drop>(
         (NoFaultBefore (S.state input.new).remaining) }
     ensures memory { result ≢ Err InputFault.OutOfMemory }
 {
-    follow_rest(input, piece, read, &mut modelled)?;
-    Ok(modelled.finish())
+    let mut hearing = Hearing {
+        modelled,
+        bare: None,
+    };
+    hear_rest(input, piece, read, hears, &mut hearing)?;
+    Ok(hearing.modelled.finish())
 }
 
 /// The same for a document that is in memory. `Fault`: the bytes are no document.
 pub fn draw_bytes<R: Reading + Drop>(
     bytes: &[u8],
-    mut modelled: Modelled<R>,
+    hears: bool,
+    modelled: Modelled<R>,
 ) -> Result<Result<Drawing, u64>, Fault>
     ensures terminal { IfOk result (λ given. IfOk given (λ d. d.terminal ≡ modelled.progress.drawing.terminal)) }
     ensures gives { IfOk result (λ given. (placed : List Place) × Document placed bytes.now × ((opening : List AnEvent)
-        → HasFollowed R.model R.has_seen modelled opening [] → ModelGives R.model opening placed given)) }
+        → HasFollowed R.model R.has_seen modelled opening []
+        → ModelGives R.model opening (heard_in hears bytes.now placed) given)) }
     ensures refused { IfErr result (IsFaultOf bytes.now) }
 {
-    follow_document(bytes, &mut modelled)?;
-    Ok(modelled.finish())
+    let mut hearing = Hearing {
+        modelled,
+        bare: bare_in(hears, bytes),
+    };
+    follow_document(bytes, &mut hearing)?;
+    Ok(hearing.modelled.finish())
 }

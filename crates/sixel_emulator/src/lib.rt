@@ -5,6 +5,8 @@
 mod course;
 mod documents;
 mod first_piece;
+mod heard_source;
+mod hearing;
 mod modelled;
 mod place;
 mod progress;
@@ -16,6 +18,7 @@ pub mod words;
 pub use course::Course;
 pub use documents::{draw, draw_bytes};
 pub use first_piece::follow_rest;
+pub use hearing::{Hearing, bare_in};
 pub use modelled::{Modelled, UnsaidControls};
 pub use place::Place;
 pub use reading::{Reading, Reads};

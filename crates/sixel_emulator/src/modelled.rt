@@ -217,7 +217,7 @@ impl<R: Reading> Modelled<R> {
     ///
     /// It is inlined, so that a caller that knows the kind of the event keeps only the code for that kind.
     #[inline(always)]
-    fn push(&mut self, place: u64, event: Event)
+    pub(crate) fn push(&mut self, place: u64, event: Event)
         ensures terminal { self.new.progress.drawing.terminal ≡ self.old.progress.drawing.terminal }
         ensures followed { (opening : List AnEvent) (before : List Place)
             → HasFollowed R.model R.has_seen self.old opening before
@@ -337,7 +337,7 @@ impl<R: Reading> Modelled<R> {
 
     /// The same, and faster where none waits.
     #[inline(always)]
-    fn push_stretch(&mut self, place: u64, bytes: &[u8])
+    pub(crate) fn push_stretch(&mut self, place: u64, bytes: &[u8])
         requires sixels { (k : ℕ) → k < length bytes.now → IsTrue (is_data (slice_index bytes.now k)) }
         requires some { 0 < length bytes.now }
         requires limit { place + length bytes.now ≤ most_bytes }
@@ -392,7 +392,7 @@ impl<R: Reading> Modelled<R> {
 
     /// The same, and faster for one without a set bit, where none waits. Most long repeats are blank.
     #[inline(always)]
-    fn push_blank_or_other(&mut self, place: u64, count: u16, bits: u8)
+    pub(crate) fn push_blank_or_other(&mut self, place: u64, count: u16, bits: u8)
         ensures terminal { self.new.progress.drawing.terminal ≡ self.old.progress.drawing.terminal }
         ensures followed { (opening : List AnEvent) (before : List Place)
             → HasFollowed R.model R.has_seen self.old opening before

@@ -1,11 +1,13 @@
 -- A checker and an asking that follow the events of a source.
-use Rattle.std.proofs.Common.{◌≡◌, ◌∙◌, ℕ, List, [], Option, refl, subst, sym}
+use Rattle.std.proofs.Common.{◌≡◌, ◌∙◌, ℕ, List, [], Option, Some, None, refl, subst, sym}
 use Rattle.std.specs.Prelude.{IfSome, Ok}
+use Rattle.sixel_grammar.specs.Document.{Document}
 use Rattle.sixel_grammar.specs.Following.{HoldsIn}
 use Rattle.sixel_grammar.specs.Source.{FollowsSource, HaltsSource, IsFollowed}
 use Rattle.sixel_grammar.specs.declared.command.Placed.{Placed}
 use Rattle.sixel_grammar.specs.declared.source.SourceHalt.TheVariants.{Stopped}
-use Rattle.sixel_grammar.proofs.FollowSourceLemmas.{told_known}
+use Rattle.sixel_omissions.specs.Seen.{HasSeenBare}
+use Rattle.sixel_omissions.specs.declared.bare.BareSelects.{BareSelects}
 use Rattle.sixel_judge.specs.Growth.{MayGrowAmong, MayGrowIn}
 use Rattle.sixel_judge.specs.Standing.{CheckerValue, StandsAfter}
 use Rattle.sixel_judge.proofs.FollowLemmas.{HasTaken, MayStop, grows_in, whole_then}
@@ -43,15 +45,17 @@ seen_now : (n : ℕ) (old new : Pair) (known : Option (List ℕ)) (f : IsFollowe
 seen_now n old new known f s =
     subst (λ (k : ℕ). StandsAfter k new.one f.events) (registers_of n old.one [] s) f.taken.0
 
-pub taken_all : (n : ℕ) (t : Terminals) (old new : Pair) (known : Option (List ℕ))
-    → FollowsSource HasTakenBoth old new known → StandsAfter n old.one [] → old.other.terminals ≡ t
-    → HasAsked old.other [] → IfSome known (HaveTakenAll n t (Ok new))
-taken_all n t old new known follows s is asked =
-    let f = followed_both n old new known follows s in
-    told_known known f.bytes (HaveTakenAll n t (Ok new)) f.known_are (
+pub taken_all : (n : ℕ) (t : Terminals) (old new : Pair) (bare : BareSelects) (known : Option (List ℕ))
+    → FollowsSource HasTakenBoth old new known → IfSome known (HasSeenBare bare) → StandsAfter n old.one []
+    → old.other.terminals ≡ t → HasAsked old.other []
+    → IfSome known (HaveTakenAll n t (Ok (record { both = new; bare = bare })))
+taken_all n t old new bare None follows seen s is asked = tt
+taken_all n t old new bare (Some bytes) follows seen s is asked =
+    let f = followed_both n old new (Some bytes) follows s in (
       f.events,
-      f.document,
-      record { seen = seen_now n old new known f s; terminals = f.taken.1.0 ∙ is; asked = f.taken.1.1 asked },
+      subst (Document f.events) (sym f.known_are) f.document,
+      record { seen = seen_now n old new (Some bytes) f s; terminals = f.taken.1.0 ∙ is; asked = f.taken.1.1 asked },
+      seen,
     )
 
 pub whole_now : (n : ℕ) (old new : Pair) (known : Option (List ℕ)) → FollowsSource HasTakenBoth old new known

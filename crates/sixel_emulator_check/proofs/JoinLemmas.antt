@@ -1,5 +1,5 @@
 -- What is made of the answer of a checker and that of an asking.
-use Rattle.std.proofs.Common.{◌≡◌, ◌≤◌, ◌<◌, ℕ, Bool, true, false, Option, Some, None, List, Ok, refl}
+use Rattle.std.proofs.Common.{◌≡◌, ◌∙◌, ◌≤◌, ◌<◌, ℕ, Bool, true, false, Option, Some, None, List, Ok, ap, refl}
 use Rattle.std.specs.Prelude.{nat_lt, if◌then◌else◌}
 use Rattle.std.proofs.lemmas.Bool.{lt-ltb, ltb-true}
 use Rattle.sixel_grammar.specs.Document.{Document, events_of}
@@ -16,11 +16,13 @@ use Rattle.sixel_emulator_rules.specs.declared.asking.AskedFinding.{AskedFinding
 use Rattle.sixel_emulator_rules.specs.declared.terminals.Terminals.{Terminals}
 use Rattle.sixel_emulator_rules.proofs.LawLemmas.{none_is_exact}
 use Rattle.sixel_emulator_check.specs.Answers.{AnswersOn, AnswersOutcomeOn}
-use Rattle.sixel_emulator_check.specs.Checking.{broken_outcome_or, earlier_than, joined_outcome}
+use Rattle.sixel_emulator_check.specs.Checking.{broken_outcome_or, earlier_than, joined_outcome, outcome_with}
 use Rattle.sixel_emulator_check.specs.Verdicts.{IsRightOn, IsVerdictOn, named_outcome_of}
+use Rattle.sixel_emulator_check.specs.Written.{IsBareOn, with_bare}
 use Rattle.sixel_emulator_check.specs.declared.verdict.NamedVerdict.{NamedVerdict}
 use Rattle.sixel_emulator_check.specs.declared.verdict.NamedVerdict.TheVariants as named
 use Rattle.sixel_emulator_check.proofs.FirstLemmas.{asked_alone, asked_first, broken_alone, broken_first}
+use Rattle.sixel_emulator_check.proofs.WrittenLemmas.{right_with, with_same}
 
 -- ---- the verdict
 
@@ -85,21 +87,28 @@ joined_same (Broken f) o = broken_same f (earlier_than f o)
 -- ---- the answers
 
 answers_joined : (registers : ℕ) (t : Terminals) (placed : List Placed) (bytes : List ℕ) (v : Verdict)
-    (o : Option AskedFinding) → registers ≤ 256 → Document placed bytes → IsVerdict registers placed v
-    → IsShownEverywhere registers (events_of placed) v → IsAnswer t placed o
-    → AnswersOn registers t (Ok (joined v o)) bytes
-answers_joined registers t placed bytes v o few document is everywhere answer = (
+    (o : Option AskedFinding) (bare : Option ℕ) → registers ≤ 256 → Document placed bytes
+    → IsVerdict registers placed v → IsShownEverywhere registers (events_of placed) v → IsAnswer t placed o
+    → IsBareOn t bytes bare → AnswersOn registers t (Ok (with_bare bare (joined v o))) bytes
+answers_joined registers t placed bytes v o bare few document is everywhere answer bare_is = (
   placed,
   document,
-  joined_is registers t placed bytes v o few document is answer,
-  joined_right registers placed v o everywhere,
+  record {
+    by_events = joined v o;
+    is = joined_is registers t placed bytes v o few document is answer;
+    bare = bare;
+    bare_is = bare_is;
+    verdict_is = refl;
+  },
+  right_with registers placed bare (joined v o) (joined_right registers placed v o everywhere),
 )
 
 pub answers_outcome : (registers : ℕ) (t : Terminals) (placed : List Placed) (bytes : List ℕ) (outcome : Outcome)
-    (o : Option AskedFinding) → registers ≤ 256 → Document placed bytes → IsOutcome registers placed outcome
-    → IsAnswer t placed o → AnswersOutcomeOn registers t (Ok (joined_outcome outcome o)) bytes
-answers_outcome registers t placed bytes outcome o few document is answer = (
-  joined is.verdict o,
-  answers_joined registers t placed bytes is.verdict o few document is.verdict_is is.everywhere answer,
-  rw is.outcome_is (joined_same is.verdict o),
+    (o : Option AskedFinding) (bare : Option ℕ) → registers ≤ 256 → Document placed bytes
+    → IsOutcome registers placed outcome → IsAnswer t placed o → IsBareOn t bytes bare
+    → AnswersOutcomeOn registers t (Ok (outcome_with bare (joined_outcome outcome o))) bytes
+answers_outcome registers t placed bytes outcome o bare few document is answer bare_is = (
+  with_bare bare (joined is.verdict o),
+  answers_joined registers t placed bytes is.verdict o bare few document is.verdict_is is.everywhere answer bare_is,
+  rw is.outcome_is (ap (outcome_with bare) (joined_same is.verdict o) ∙ with_same bare (joined is.verdict o)),
 )

@@ -7,3 +7,5 @@ pub mod OneVerdictLemmas
 pub mod OneSurveyLemmas
 pub mod SurveyLawLemmas
 pub mod SurveyingLemmas
+pub mod WrittenLemmas
+pub mod WrittenLawLemmas

@@ -3,6 +3,7 @@ use Rattle.std.proofs.Common.{◌≡◌, ℕ, List, None, Ok, refl}
 use Rattle.sixel_check.specs.Answers.{Answers, AnswersOutcome}
 use Rattle.sixel_grammar.specs.Document.{events_of}
 use Rattle.sixel_grammar.specs.declared.command.Event.{Event}
+use Rattle.sixel_grammar.specs.declared.command.Placed.{Placed}
 use Rattle.sixel_emulator_rules.specs.Asked.{BreaksNoneAsked}
 use Rattle.sixel_judge.specs.declared.verdict.Outcome.{Outcome}
 use Rattle.sixel_judge.specs.declared.verdict.Verdict.{Verdict}
@@ -10,19 +11,29 @@ use Rattle.sixel_judge.specs.declared.verdict.Verdict.TheVariants.{Portable, Bro
 use Rattle.sixel_emulator_check.specs.Answers.{AnswersOn, AnswersOutcomeOn}
 use Rattle.sixel_emulator_check.specs.Checking.{joined_outcome}
 use Rattle.sixel_emulator_check.specs.Laws.{SameAsCheck, named_verdict, none}
+use Rattle.sixel_emulator_check.specs.Verdicts.{IsVerdictOn}
+use Rattle.sixel_emulator_check.specs.Written.{IsVerdictOf}
 use Rattle.sixel_emulator_check.proofs.JoinLemmas.{joined, joined_same}
 
 -- no terminal asks for a rule
 pub none_asked : (events : List Event) → BreaksNoneAsked none events
 none_asked events rule asked = cc
 
+-- nor for a select with its number
+by_events_alone : (registers : ℕ) (placed : List Placed) (bytes : List ℕ) (v : Verdict)
+    → IsVerdictOn registers none placed (named_verdict v) → IsVerdictOf registers none bytes placed (named_verdict v)
+by_events_alone registers placed bytes v is =
+    record { by_events = named_verdict v; is = is; bare = None; bare_is = refl; verdict_is = refl }
+
 pub same_as_check : (registers : ℕ) → SameAsCheck registers
 same_as_check registers bytes (Portable p) h =
-    let events : List Event = events_of h.0 in (h.0, h.1, (h.2.0, none_asked events, h.2.1), h.3)
+    let events : List Event = events_of h.0 in
+    (h.0, h.1, by_events_alone registers h.0 bytes (Portable p) (h.2.0, none_asked events, h.2.1), h.3)
 same_as_check registers bytes (Broken f) h = (
   h.0,
   h.1,
-  (h.2.0, record { finding = h.2.1; none_asked_earlier = λ m j lt asked. cc }),
+  by_events_alone registers h.0 bytes (Broken f)
+      (h.2.0, record { finding = h.2.1; none_asked_earlier = λ m j lt asked. cc }),
   tt,
 )
 

@@ -71,7 +71,7 @@ asked_once {t} {placed} is other =
     (λ rule. entry_once t placed rule (is.entry_of rule) (other.entry_of rule) (is.each rule) (other.each rule))
     ∙ sym other.entries_are
 
-of_parts : List Entry → List AskedEntry → Option (ℕ × ℕ) → NamedSurvey
+unfoldable pub of_parts : List Entry → List AskedEntry → Option (ℕ × ℕ) → NamedSurvey
 of_parts entries more size =
     record { entries = record { items = entries }; asked = record { items = more }; size = size }
 

@@ -1,7 +1,7 @@
 -- A survey for named terminals and the verdict for them.
 use Rattle.std.proofs.Common.{◌≡◌, ◌<◌, ◌≤◌, ◌-◌, ℕ, Option, Some, None, List, [], refl, sym, ap, subst, ◌∙◌, arith}
 use Rattle.std.proofs.Common.{take}
-use Rattle.std.specs.Prelude.{All, Contains, IsTrue, filter_map}
+use Rattle.std.specs.Prelude.{◌↔◌, All, Contains, IsTrue, filter_map}
 use Rattle.std.proofs.lemmas.List.Elements.{All-contains, All-from_recursion}
 use Rattle.sixel_grammar.specs.Document.{Document, events_of}
 use Rattle.sixel_grammar.specs.declared.command.Event.{Event}
@@ -33,8 +33,11 @@ use Rattle.sixel_emulator_rules.proofs.AskingLemmas.{held_in_take, within_less, 
 use Rattle.sixel_emulator_rules.proofs.CountsLemmas.{breaks_counts, counts_breaks}
 use Rattle.sixel_emulator_rules.proofs.FirstLemmas.{there}
 use Rattle.sixel_emulator_rules.proofs.LawLemmas.{names_within}
-use Rattle.sixel_emulator_check.specs.Laws.{EmptyIfNoneOn, FirstIsVerdictOn}
+use Rattle.sixel_emulator_check.specs.Laws.{IsFirstOf, verdict_with}
+use Rattle.sixel_emulator_check.specs.Surveys.{IsSurveyOn}
 use Rattle.sixel_emulator_check.specs.Verdicts.{IsVerdictOn}
+use Rattle.sixel_emulator_check.specs.declared.surveying.NamedSurvey.{NamedSurvey}
+use Rattle.sixel_emulator_check.specs.declared.verdict.NamedFinding.{NamedFinding}
 use Rattle.sixel_emulator_check.specs.declared.verdict.NamedFinding.TheVariants as finding
 use Rattle.sixel_emulator_check.specs.declared.verdict.NamedVerdict.TheVariants.{Broken, Asked}
 
@@ -77,13 +80,13 @@ listed {t} {placed} s e h =
     listed_as s.entry_of result.0 e (s.entry_of result.0) refl result.1 (s.each result.0)
 
 -- an entry of the rule, at a position up to j
-record Entered (placed : List Placed) (entries : List AskedEntry) (m : AskedRule) (j : ℕ) : Type 0 where
-  entry : AskedEntry
-  among : Contains entries entry
-  rule_is : entry.rule ≡ m
-  at : ℕ
-  is_entry : IsAskedEntryAt placed entry at
-  up_to : at ≤ j
+pub record Entered (placed : List Placed) (entries : List AskedEntry) (m : AskedRule) (j : ℕ) : Type 0 where
+  pub entry : AskedEntry
+  pub among : Contains entries entry
+  pub rule_is : entry.rule ≡ m
+  pub at : ℕ
+  pub is_entry : IsAskedEntryAt placed entry at
+  pub up_to : at ≤ j
 
 entered_as : {t : Terminals} {placed : List Placed} {entries : List AskedEntry} (s : AreAskedEntries t placed entries)
     (m : AskedRule) (j : ℕ) (o : Option AskedEntry) → s.entry_of m ≡ o → IsTrue (is_asked t m)
@@ -105,7 +108,7 @@ entered_as {placed} {entries} s m j (Some e) is asked h of =
     }
 
 -- a rule that is asked for and counts has an entry
-entered : {t : Terminals} {placed : List Placed} {entries : List AskedEntry} (s : AreAskedEntries t placed entries)
+pub entered : {t : Terminals} {placed : List Placed} {entries : List AskedEntry} (s : AreAskedEntries t placed entries)
     (m : AskedRule) (j : ℕ) → IsTrue (is_asked t m) → HoldsAtPosition (CountsAsked m) (events_of placed) j
     → Entered placed entries m j
 entered s m j asked h = entered_as s m j (s.entry_of m) refl asked h (s.each m)
@@ -119,7 +122,7 @@ not_among_none {X} entries e none h =
 -- ---- no entry
 
 -- what breaks a rule counts, if no event before it names a register above 255
-counts_within : (m : AskedRule) (j : ℕ) (events : List Event) → NamesWithin (take j events)
+pub counts_within : (m : AskedRule) (j : ℕ) (events : List Event) → NamesWithin (take j events)
     → HoldsAtPosition (BreaksAsked m) events j → HoldsAtPosition (CountsAsked m) events j
 counts_within m j events within h =
     record { item = h.item; here = h.here; holds = breaks_counts (take j events) h.item m within h.holds }
@@ -148,7 +151,10 @@ no_asked_entries : {t : Terminals} {placed : List Placed} {entries : List AskedE
 no_asked_entries {t} {placed} s none =
     s.entries_are ∙ none_kept s.entry_of in_order (λ m. no_entry t placed m (s.entry_of m) none (s.each m))
 
-pub empty_if_none_on : (registers : ℕ) → registers ≤ 256 → EmptyIfNoneOn registers
+pub empty_if_none_on : (registers : ℕ) → registers ≤ 256 → (t : Terminals) (placed : List Placed)
+    (survey : NamedSurvey) → IsSurveyOn registers t placed survey
+    → ((survey.entries.items ≡ []) × (survey.asked.items ≡ []))
+    ↔ (BreaksNone registers last_rule (events_of placed) × BreaksNoneAsked t (events_of placed))
 empty_if_none_on registers le t placed survey s = (
   λ empty. (let v = verdict_exists registers placed in
       let unbroken = none_if_empty s.entries v.0 empty.0 v.1 in
@@ -159,7 +165,7 @@ empty_if_none_on registers le t placed survey s = (
 -- ---- the first entry is one of a rule of portable pictures
 
 -- the place of an entry whose position is before i is before that of the event there
-earlier_place : {placed : List Placed} {bytes : List ℕ} {e : AskedEntry} {k : ℕ} (i a : ℕ) → Document placed bytes
+pub earlier_place : {placed : List Placed} {bytes : List ℕ} {e : AskedEntry} {k : ℕ} (i a : ℕ) → Document placed bytes
     → IsAskedEntryAt placed e k → place_at placed i ≡ Some a → k < i → e.place < a
 earlier_place {e} {k} i a document at there lt = later_place document k i e.place a lt at.place there
 
@@ -221,7 +227,7 @@ unbroken_to {registers} {placed} {entries} i a (verdict.Broken f) document s the
     omega (arith, one, more)) in
     is.1.first.none_earlier m j (omega (arith, le, later, other)) h
 
-unbroken_take : (registers i : ℕ) (events : List Event) → UnbrokenTo registers events i
+pub unbroken_take : (registers i : ℕ) (events : List Event) → UnbrokenTo registers events i
     → BreaksNone registers last_rule (take i events)
 unfolding BreaksNone
 unbroken_take registers i events none m le j h =
@@ -281,9 +287,11 @@ asked_first {registers} {placed} e le document s asked later among least_place l
       },
     )
 
--- ---- the law
+-- ---- the verdict
 
-pub first_is_verdict_on : (registers : ℕ) → registers ≤ 256 → FirstIsVerdictOn registers
+pub first_is_verdict_on : (registers : ℕ) → registers ≤ 256 → (t : Terminals) (placed : List Placed) (bytes : List ℕ)
+    (survey : NamedSurvey) (f : NamedFinding) → Document placed bytes → IsSurveyOn registers t placed survey
+    → IsFirstOf survey.entries.items survey.asked.items f → IsVerdictOn registers t placed (verdict_with f)
 first_is_verdict_on registers le t placed bytes survey (finding.Portable f) document s first =
     portable_first le document s.asked first.1
     (subst (λ (g : Finding). IsVerdict registers placed (verdict.Broken g)) (sym first.0.2)

@@ -1,5 +1,5 @@
 -- What the laws say.
-use Rattle.std.specs.Prelude.{◌≡◌, ◌↔◌, ◌≤◌, ◌<◌, ℕ, List, [], Contains, All, Ok, false}
+use Rattle.std.specs.Prelude.{◌≡◌, ◌↔◌, ◌≤◌, ◌<◌, ℕ, List, [], Contains, All, None, Ok, false}
 use Rattle.sixel_grammar.specs.declared.command.Placed.{Placed}
 use Rattle.sixel_grammar.specs.Document.{Document, events_of}
 use Rattle.sixel_model.specs.Rules.{BreaksNone, last_rule}
@@ -13,8 +13,7 @@ use Rattle.sixel_emulator_rules.specs.Asked as asked
 use Rattle.sixel_emulator_rules.specs.declared.tally.AskedEntry.{AskedEntry}
 use Rattle.sixel_emulator_rules.specs.declared.terminals.Terminals.{Terminals}
 use Rattle.sixel_emulator_check.specs.Answers.{AnswersOn}
-use Rattle.sixel_emulator_check.specs.Surveys.{IsSurveyOn}
-use Rattle.sixel_emulator_check.specs.Verdicts.{IsVerdictOn}
+use Rattle.sixel_emulator_check.specs.Written.{IsBareOn, IsSurveyOf, IsVerdictOf}
 use Rattle.sixel_emulator_check.specs.declared.surveying.NamedSurvey.{NamedSurvey}
 use Rattle.sixel_emulator_check.specs.declared.verdict.NamedFinding.{NamedFinding}
 use Rattle.sixel_emulator_check.specs.declared.verdict.NamedFinding.TheVariants as finding
@@ -39,16 +38,18 @@ verdict_with (finding.Asked f) = Asked f
 -- a survey has no entry exactly if no rule is broken
 abbrev pub EmptyIfNoneOn : ℕ → Type 0
 EmptyIfNoneOn registers =
-    (t : Terminals) (placed : List Placed) (survey : NamedSurvey) → IsSurveyOn registers t placed survey
+    (t : Terminals) (bytes : List ℕ) (placed : List Placed) (survey : NamedSurvey)
+    → IsSurveyOf registers t bytes placed survey
     → ((survey.entries.items ≡ []) × (survey.asked.items ≡ []))
-    ↔ (BreaksNone registers last_rule (events_of placed) × BreaksNoneAsked t (events_of placed))
+    ↔ (BreaksNone registers last_rule (events_of placed) × BreaksNoneAsked t (events_of placed)
+    × IsBareOn t bytes None)
 
 -- the first entry of a survey of a document is the verdict on it
 abbrev pub FirstIsVerdictOn : ℕ → Type 0
 FirstIsVerdictOn registers =
     (t : Terminals) (placed : List Placed) (bytes : List ℕ) (survey : NamedSurvey) (f : NamedFinding)
-    → Document placed bytes → IsSurveyOn registers t placed survey
-    → IsFirstOf survey.entries.items survey.asked.items f → IsVerdictOn registers t placed (verdict_with f)
+    → Document placed bytes → IsSurveyOf registers t bytes placed survey
+    → IsFirstOf survey.entries.items survey.asked.items f → IsVerdictOf registers t bytes placed (verdict_with f)
 
 -- ---- no terminal
 

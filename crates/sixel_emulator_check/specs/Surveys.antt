@@ -1,9 +1,7 @@
 -- Surveys for named terminals.
-use Rattle.std.specs.Prelude.{◌≡◌, ℕ, List, [], ◌∷◌, Option, Some, None, Result, Ok, Err}
-use Rattle.sixel_grammar.specs.Document.{Document, events_of}
-use Rattle.sixel_grammar.specs.Reading.{Explains}
+use Rattle.std.specs.Prelude.{◌≡◌, ℕ, List, [], ◌∷◌, Option, Some, None}
+use Rattle.sixel_grammar.specs.Document.{events_of}
 use Rattle.sixel_grammar.specs.declared.command.Placed.{Placed}
-use Rattle.sixel_grammar.specs.declared.fault.InputFault.{InputFault}
 use Rattle.sixel_model.specs.Pictures.{PictureValue}
 use Rattle.sixel_model.specs.Rules.{picture_left}
 use Rattle.sixel_survey.specs.Surveys.{AreEntries}
@@ -29,9 +27,3 @@ pub record IsSurveyOn (registers : ℕ) (t : Terminals) (placed : List Placed) (
   pub asked : AreAskedEntries t placed survey.asked.items
   pub size : survey.size
       ≡ size_without survey.entries.items survey.asked.items (picture_left registers (events_of placed))
-
--- Ok: the bytes are a document, and the survey is that of its events; Err: a grammar fault is the fault of these bytes
-abbrev pub SurveysOn : ℕ → Terminals → Result NamedSurvey InputFault → List ℕ → Type 0
-SurveysOn registers t (Ok survey) bytes =
-    (events : List Placed) × Document events bytes × IsSurveyOn registers t events survey
-SurveysOn registers t (Err fault) bytes = Explains fault bytes

@@ -1,6 +1,7 @@
 //! Checking the bytes of a document for named terminals.
 
-ghost use Rattle.std.specs.Prelude.{◌≡◌, IfOk, IsTrue};
+ghost use Rattle.std.specs.Prelude.{◌≡◌, ℕ, IfOk, IsTrue, List};
+ghost use Rattle.sixel_omissions.specs.Seen.{HasSeenBare};
 ghost use Rattle.sixel_model.specs.Profiles.{count_of};
 ghost use Rattle.sixel_judge.specs.Growth.{MayGrowIn};
 ghost use Rattle.sixel_check.specs.Checking.{IsWhole};
@@ -8,15 +9,17 @@ ghost use Rattle.sixel_survey.specs.Reads.{ReadsDocument};
 ghost use Rattle.sixel_emulator_check.specs.Answers.{AnswersOutcomeOn};
 ghost use Rattle.sixel_emulator_check.specs.Checking.{HaveTakenAll};
 ghost use Rattle.sixel_emulator_check.specs.Laws.{none};
+ghost use Rattle.sixel_emulator_check.specs.Written.{IsBareOn};
 
-use crate::joining::join_outcome;
+use crate::joining::{add_bare, join_outcome};
 use crate::verdict::NamedOutcome;
 use sixel_check::outcome_with;
-use sixel_emulator_rules::{Asking, Terminals};
-use sixel_grammar::{Both, InputFault, follow_source};
+use sixel_emulator_rules::{AskedRule, Asking, Terminals};
+use sixel_grammar::{Both, InputFault};
 use sixel_io::{PIECE, Source};
 use sixel_judge::Checker;
 use sixel_model::Profile;
+use sixel_omissions::{BareSelects, follow_noting};
 use sixel_plane::CoverPlane;
 use std::alloc::Global;
 
@@ -27,7 +30,26 @@ pub(crate) fn are_none(terminals: Terminals) -> bool
     terminals == Terminals::none()
 }
 
-/// Reads a source to its end. Returns a checker and an asking that have taken the events of the document.
+/// What is known of a document that was read.
+#[derive(Drop)]
+struct Checked {
+    /// A checker and an asking that have taken its events.
+    both: Both<Checker<CoverPlane>, Asking>,
+    bare: BareSelects,
+}
+
+/// Where `Bare` is broken first, if one of the terminals asks for it.
+pub(crate) fn bare_for(terminals: Terminals, bare: &BareSelects) -> Option<u64>
+    ensures { (bytes : List ℕ) → HasSeenBare bare.now bytes → IsBareOn terminals bytes result }
+{
+    if terminals.asks_for(AskedRule::Bare) {
+        bare.first()
+    } else {
+        None
+    }
+}
+
+/// Reads a source to its end.
 #[inline(always)]
 fn read_document<S: Source>(
     alloc: Global,
@@ -35,16 +57,17 @@ fn read_document<S: Source>(
     terminals: Terminals,
     input: &mut S,
     piece: &mut [u8; PIECE],
-) -> Result<Both<Checker<CoverPlane>, Asking>, InputFault>
+) -> Result<Checked, InputFault>
     ensures reads { ReadsDocument (HaveTakenAll (count_of profile) terminals) (MayGrowIn (count_of profile)) result
         (S.state input.old) (S.state input.new) }
-    ensures whole { IfOk result (λ both. IsWhole both.one) }
+    ensures whole { IfOk result (λ checked. IsWhole checked.both.one) }
 {
     let one = Checker::new(alloc, profile);
     let other = Asking::new(terminals);
     let mut both = Both { one, other };
-    follow_source(input, piece, &mut both)?;
-    Ok(both)
+    let mut bare = BareSelects::new();
+    follow_noting(input, piece, &mut both, &mut bare)?;
+    Ok(Checked { both, bare })
 }
 
 /// Checks the document that the source gives, with the registers of the profile, by the rules of portable pictures and
@@ -64,7 +87,8 @@ pub fn outcome_on<S: Source>(
         let outcome = outcome_with(alloc, profile, input, piece)?;
         return Ok(join_outcome(outcome, None));
     }
-    let both = read_document(alloc, profile, terminals, input, piece)?;
+    let Checked { both, bare } = read_document(alloc, profile, terminals, input, piece)?;
     let asked = both.other.finding();
-    Ok(join_outcome(both.one.outcome(), asked))
+    let by_events = join_outcome(both.one.outcome(), asked);
+    Ok(add_bare(by_events, bare_for(terminals, &bare)))
 }

@@ -14,7 +14,7 @@ pub enum NamedRule {
 }
 
 /// How many there are.
-pub const NAMED_RULE_COUNT: usize = 22;
+pub const NAMED_RULE_COUNT: usize = 23;
 
 /// The rules, in order of number.
 pub const ALL_NAMED_RULES: [NamedRule; NAMED_RULE_COUNT] = [
@@ -40,10 +40,11 @@ pub const ALL_NAMED_RULES: [NamedRule; NAMED_RULE_COUNT] = [
     NamedRule::Asked(AskedRule::Hue),
     NamedRule::Asked(AskedRule::Far),
     NamedRule::Asked(AskedRule::Introducer),
+    NamedRule::Asked(AskedRule::Bare),
 ];
 
 impl NamedRule {
-    /// Its number, from 1 to 22.
+    /// Its number, from 1 to 23.
     pub fn number(self) -> u8
         ensures { result ≡ number_of_named self }
     {

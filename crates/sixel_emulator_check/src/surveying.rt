@@ -1,17 +1,20 @@
 //! Surveying the bytes of a document for named terminals.
 
-ghost use Rattle.std.specs.Prelude.{◌≡◌};
+ghost use Rattle.std.specs.Prelude.{◌≡◌, ◌++◌, ◌<◌, length};
+ghost use Rattle.std.specs.Option.{option_map, option_to_list};
 ghost use Rattle.sixel_model.specs.Profiles.{count_of};
 ghost use Rattle.sixel_survey.specs.Declaring.{DeclareBoxIn};
 ghost use Rattle.sixel_survey.specs.Reads.{ReadsDocument};
-ghost use Rattle.sixel_emulator_check.specs.Surveys.{SurveysOn, size_beside};
+ghost use Rattle.sixel_emulator_check.specs.Surveys.{size_beside};
+ghost use Rattle.sixel_emulator_check.specs.Written.{SurveysOn, bare_entry, size_unless};
 
-use crate::checking::are_none;
+use crate::checking::{are_none, bare_for};
 use arrayvec::ArrayVec;
-use sixel_emulator_rules::{AskedEntries, Tallying, Terminals};
-use sixel_grammar::{Both, InputFault, follow_source};
+use sixel_emulator_rules::{AskedEntries, AskedEntry, AskedRule, Tallying, Terminals};
+use sixel_grammar::{Both, InputFault};
 use sixel_io::{PIECE, Source};
 use sixel_model::{Profile, RULE_COUNT};
+use sixel_omissions::{BareSelects, follow_noting};
 use sixel_plane::CoverPlane;
 use sixel_survey::{Entry, Survey, Surveying, survey_with};
 use std::alloc::Global;
@@ -41,6 +44,33 @@ fn join_survey(survey: Survey, asked: AskedEntries) -> NamedSurvey
     }
 }
 
+/// The survey, with an entry of the rule `Bare` if it is broken: the offset where first, and how often.
+fn add_bare(survey: NamedSurvey, first: Option<u64>, count: u64) -> NamedSurvey
+    requires { length survey.asked.items < 10 }
+    ensures entries { result.entries ≡ survey.entries }
+    ensures asked { result.asked.items ≡ survey.asked.items ++ option_to_list (option_map (bare_entry count) first) }
+    ensures size { result.size ≡ size_unless first survey.size }
+{
+    let Some(place) = first else {
+        return survey;
+    };
+    let NamedSurvey {
+        entries,
+        mut asked,
+        ..
+    } = survey;
+    asked.push(AskedEntry {
+        rule: AskedRule::Bare,
+        count,
+        place,
+    });
+    NamedSurvey {
+        entries,
+        asked,
+        size: None,
+    }
+}
+
 /// Surveys by both lists of rules at once.
 fn survey_both<S: Source>(
     alloc: Global,
@@ -55,9 +85,11 @@ fn survey_both<S: Source>(
     let one: Surveying<CoverPlane> = Surveying::new(alloc, profile);
     let other = Tallying::new(terminals);
     let mut both = Both { one, other };
-    follow_source(input, piece, &mut both)?;
+    let mut bare = BareSelects::new();
+    follow_noting(input, piece, &mut both, &mut bare)?;
     let asked = both.other.entries();
-    Ok(join_survey(both.one.finish(), asked))
+    let by_events = join_survey(both.one.finish(), asked);
+    Ok(add_bare(by_events, bare_for(terminals, &bare), bare.count()))
 }
 
 /// Surveys the document that the source gives, by the rules of portable pictures and by those that the terminals ask

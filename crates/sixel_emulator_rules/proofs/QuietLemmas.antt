@@ -19,7 +19,7 @@ use Rattle.sixel_emulator_rules.specs.declared.notes.Notes.{Notes}
 use Rattle.sixel_emulator_rules.specs.declared.rule.AskedRule.{AskedRule}
 use Rattle.sixel_emulator_rules.specs.declared.rule.AskedRule.TheVariants.{RasterLate, Dropped, Stale, Large, Rows}
 use Rattle.sixel_emulator_rules.specs.declared.rule.AskedRule.TheVariants.{Past, Hue}
-use Rattle.sixel_emulator_rules.specs.declared.rule.AskedRule.TheVariants.{Far, Introducer}
+use Rattle.sixel_emulator_rules.specs.declared.rule.AskedRule.TheVariants.{Far, Introducer, Bare}
 use Rattle.sixel_emulator_rules.specs.declared.terminals.Terminals.{Terminals}
 
 find_none : {X : Type 0} (p : X → Bool) (xs : List X) → ((x : X) → p x ≡ false) → find p xs ≡ None
@@ -53,6 +53,7 @@ none_counts n r Past = selects_stay n r n.declared
 none_counts n r Hue = refl
 none_counts n r Far = refl
 none_counts n r Introducer = refl
+none_counts n r Bare = refl
 
 pub quiet_select : (t : Terminals) (n : Notes) (r : ℕ) → first_in t n (Step (Select r)) ≡ None
 quiet_select t n r = none_first t n (Step (Select r)) (λ rule. and_false (is_asked t rule) _ (none_counts n r rule))
@@ -75,6 +76,7 @@ return_counts n Past kept = return_stays n n.declared
 return_counts n Hue kept = refl
 return_counts n Far kept = refl
 return_counts n Introducer kept = refl
+return_counts n Bare kept = refl
 
 pub quiet_return : (t : Terminals) (n : Notes) → n.droppable ≡ false → first_in t n (Step CarriageReturn) ≡ None
 quiet_return t n kept =
@@ -95,6 +97,7 @@ line_counts n Past kept = line_stays n n.declared
 line_counts n Hue kept = refl
 line_counts n Far kept = refl
 line_counts n Introducer kept = refl
+line_counts n Bare kept = refl
 
 pub quiet_line : (t : Terminals) (n : Notes) → n.droppable ≡ false → first_in t n (Step NextLine) ≡ None
 quiet_line t n kept =
@@ -166,6 +169,7 @@ repeat_counts t n c b Far calm =
     let two = and_parts (fits_box_in n c) (nat_le (n.column + c) 32767) one.0 in
     and_false (is_asked t Far) _ (is_near n c b n.declared two.0 two.1)
 repeat_counts t n c b Introducer calm = and_false (is_asked t Introducer) false refl
+repeat_counts t n c b Bare calm = and_false (is_asked t Bare) false refl
 
 pub quiet_repeat : (t : Terminals) (n : Notes) (c b : ℕ) → is_calm_in t n c ≡ true
     → first_in t n (Step (Repeat c b)) ≡ None

@@ -32,7 +32,7 @@ use Rattle.sixel_emulator_rules.specs.declared.notes.Notes.{Notes}
 use Rattle.sixel_emulator_rules.specs.declared.rule.AskedRule.{AskedRule}
 use Rattle.sixel_emulator_rules.specs.declared.rule.AskedRule.TheVariants.{RasterLate, Dropped, Stale, Large, Rows}
 use Rattle.sixel_emulator_rules.specs.declared.rule.AskedRule.TheVariants.{Past, Hue}
-use Rattle.sixel_emulator_rules.specs.declared.rule.AskedRule.TheVariants.{Far, Introducer}
+use Rattle.sixel_emulator_rules.specs.declared.rule.AskedRule.TheVariants.{Far, Introducer, Bare}
 use Rattle.sixel_emulator_rules.specs.declared.tally.AskedEntry.{AskedEntry}
 use Rattle.sixel_emulator_rules.specs.declared.tallying.Tallying.{Tallying}
 use Rattle.sixel_emulator_rules.specs.declared.terminals.Terminals.{Terminals}
@@ -51,9 +51,9 @@ pub not_tallied : (t : Terminals) (n : Notes) (place : ℕ) (v : Event) (tallies
     (rule : AskedRule) → asked_in t n v rule ≡ false → tallied t n place v tallies rule ≡ tallies
 not_tallied t n place v tallies rule is = rw is (set_again tallies (number_of rule - 14))
 
--- ---- a list of nine
+-- ---- a list of ten
 
-record Nine {X : Type 0} (xs : List X) : Type 0 where
+record Ten {X : Type 0} (xs : List X) : Type 0 where
   a : X
   b : X
   c : X
@@ -63,43 +63,46 @@ record Nine {X : Type 0} (xs : List X) : Type 0 where
   g : X
   h : X
   i : X
-  are : xs ≡ a ∷ b ∷ c ∷ d ∷ e ∷ f ∷ g ∷ h ∷ i ∷ []
+  j : X
+  are : xs ≡ a ∷ b ∷ c ∷ d ∷ e ∷ f ∷ g ∷ h ∷ i ∷ j ∷ []
 
-nine : {X : Type 0} (xs : List X) → length xs ≡ 9 → Nine xs
-nine (a ∷ b ∷ c ∷ d ∷ e ∷ f ∷ g ∷ h ∷ i ∷ []) is =
-    record { a = a; b = b; c = c; d = d; e = e; f = f; g = g; h = h; i = i; are = refl }
-nine _ is = absurd (omega (arith, is))
+ten : {X : Type 0} (xs : List X) → length xs ≡ 10 → Ten xs
+ten (a ∷ b ∷ c ∷ d ∷ e ∷ f ∷ g ∷ h ∷ i ∷ j ∷ []) is =
+    record { a = a; b = b; c = c; d = d; e = e; f = f; g = g; h = h; i = i; j = j; are = refl }
+ten _ is = absurd (omega (arith, is))
 
 -- each rule's tally after one more event
-each_of : (t : Terminals) (n : Notes) (place : ℕ) (v : Event) (a b c d e f g h i : Option AskedEntry) (rule : AskedRule)
-    → (let tallies : List (Option AskedEntry) = a ∷ b ∷ c ∷ d ∷ e ∷ f ∷ g ∷ h ∷ i ∷ [] in
+each_of : (t : Terminals) (n : Notes) (place : ℕ) (v : Event) (a b c d e f g h i j : Option AskedEntry)
+    (rule : AskedRule)
+    → (let tallies : List (Option AskedEntry) = a ∷ b ∷ c ∷ d ∷ e ∷ f ∷ g ∷ h ∷ i ∷ j ∷ [] in
     tally_in (tallied_each t n place v tallies) rule
     ≡ next_tally rule place (asked_in t n v rule) (tally_in tallies rule))
-each_of t n place v a b c d e f g h i RasterLate = refl
-each_of t n place v a b c d e f g h i Dropped = refl
-each_of t n place v a b c d e f g h i Stale = refl
-each_of t n place v a b c d e f g h i Large = refl
-each_of t n place v a b c d e f g h i Rows = refl
-each_of t n place v a b c d e f g h i Past = refl
-each_of t n place v a b c d e f g h i Hue = refl
-each_of t n place v a b c d e f g h i Far = refl
-each_of t n place v a b c d e f g h i Introducer = refl
+each_of t n place v a b c d e f g h i j RasterLate = refl
+each_of t n place v a b c d e f g h i j Dropped = refl
+each_of t n place v a b c d e f g h i j Stale = refl
+each_of t n place v a b c d e f g h i j Large = refl
+each_of t n place v a b c d e f g h i j Rows = refl
+each_of t n place v a b c d e f g h i j Past = refl
+each_of t n place v a b c d e f g h i j Hue = refl
+each_of t n place v a b c d e f g h i j Far = refl
+each_of t n place v a b c d e f g h i j Introducer = refl
+each_of t n place v a b c d e f g h i j Bare = refl
 
 each_after : (t : Terminals) (n : Notes) (place : ℕ) (v : Event) (tallies : List (Option AskedEntry))
-    → length tallies ≡ 9 → (rule : AskedRule)
+    → length tallies ≡ 10 → (rule : AskedRule)
     → tally_in (tallied_each t n place v tallies) rule
     ≡ next_tally rule place (asked_in t n v rule) (tally_in tallies rule)
 each_after t n place v tallies is rule =
-    let s = nine tallies is in
+    let s = ten tallies is in
     subst (λ (l : List (Option AskedEntry)). tally_in (tallied_each t n place v l) rule
     ≡ next_tally rule place (asked_in t n v rule) (tally_in l rule)) (sym s.are)
-    (each_of t n place v s.a s.b s.c s.d s.e s.f s.g s.h s.i rule)
+    (each_of t n place v s.a s.b s.c s.d s.e s.f s.g s.h s.i s.j rule)
 
 length_after : (t : Terminals) (n : Notes) (place : ℕ) (v : Event) (tallies : List (Option AskedEntry))
-    → length tallies ≡ 9 → length (tallied_each t n place v tallies) ≡ 9
+    → length tallies ≡ 10 → length (tallied_each t n place v tallies) ≡ 10
 length_after t n place v tallies is =
-    let s = nine tallies is in
-    subst (λ (l : List (Option AskedEntry)). length (tallied_each t n place v l) ≡ 9) (sym s.are) refl
+    let s = ten tallies is in
+    subst (λ (l : List (Option AskedEntry)). length (tallied_each t n place v l) ≡ 10) (sym s.are) refl
 
 -- ---- one more event
 
@@ -266,16 +269,16 @@ none_yet : (t : Terminals) (rule : AskedRule) (o : Option AskedEntry) → o ≡ 
 none_yet t rule None is = λ asked i h. cc h.here
 none_yet t rule (Some tally) is = cc
 
-none_in : (rule : AskedRule) → tally_in (replicate 9 None) rule ≡ None
+none_in : (rule : AskedRule) → tally_in (replicate 10 None) rule ≡ None
 none_in RasterLate = refl
 none_in _ = refl
 
 pub tallied_none : (t : Terminals) (n : Notes) → IsNotesAfter n []
-    → HasTallied (record { terminals = t; notes = n; tallies = replicate 9 None }) []
+    → HasTallied (record { terminals = t; notes = n; tallies = replicate 10 None }) []
 tallied_none t n s = record {
   notes_are = s;
   rules = refl;
-  each = λ rule. none_yet t rule (tally_in (replicate 9 None) rule) (none_in rule);
+  each = λ rule. none_yet t rule (tally_in (replicate 10 None) rule) (none_in rule);
 }
 
 -- ---- the entries
@@ -299,10 +302,10 @@ entry_of_tally : {placed : List Placed} {bytes : List ℕ} (t : Terminals) (rule
 entry_of_tally t rule None d is = is
 entry_of_tally t rule (Some tally) d is = (is.0, is.1, is.2, exact d is.3)
 
-kept_by_rule : (tallies : List (Option AskedEntry)) → length tallies ≡ 9
+kept_by_rule : (tallies : List (Option AskedEntry)) → length tallies ≡ 10
     → filter_map (λ tally. tally) tallies ≡ filter_map (tally_in tallies) in_order
 kept_by_rule tallies is =
-    let s = nine tallies is in
+    let s = ten tallies is in
     subst (λ (l : List (Option AskedEntry)). filter_map (λ tally. tally) l ≡ filter_map (tally_in l) in_order)
     (sym s.are) refl
 

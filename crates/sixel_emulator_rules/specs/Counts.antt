@@ -12,7 +12,7 @@ use Rattle.sixel_emulator_rules.specs.declared.notes.Notes.{Notes}
 use Rattle.sixel_emulator_rules.specs.declared.rule.AskedRule.{AskedRule}
 use Rattle.sixel_emulator_rules.specs.declared.rule.AskedRule.TheVariants.{RasterLate, Dropped, Stale, Large, Rows}
 use Rattle.sixel_emulator_rules.specs.declared.rule.AskedRule.TheVariants.{Past, Hue}
-use Rattle.sixel_emulator_rules.specs.declared.rule.AskedRule.TheVariants.{Far, Introducer}
+use Rattle.sixel_emulator_rules.specs.declared.rule.AskedRule.TheVariants.{Far, Introducer, Bare}
 use Rattle.sixel_emulator_rules.specs.declared.terminals.Terminals.{Terminals}
 
 -- ---- where a data command stands
@@ -62,6 +62,7 @@ counts_in n e Past = past_in n e
 counts_in n e Hue = breaks_hue e
 counts_in n e Far = far_in n e
 counts_in n e Introducer = breaks_introducer e
+counts_in n e Bare = false
 
 -- a terminal of the set asks for the rule, and the event breaks it
 abbrev pub asked_in : Terminals → Notes → Event → AskedRule → Bool
@@ -69,7 +70,7 @@ asked_in t n e rule = is_asked t rule && counts_in n e rule
 
 -- the rules in order of number
 abbrev pub in_order : List AskedRule
-in_order = RasterLate ∷ Dropped ∷ Stale ∷ Large ∷ Rows ∷ Past ∷ Hue ∷ Far ∷ Introducer ∷ []
+in_order = RasterLate ∷ Dropped ∷ Stale ∷ Large ∷ Rows ∷ Past ∷ Hue ∷ Far ∷ Introducer ∷ Bare ∷ []
 
 abbrev pub first_in : Terminals → Notes → Event → Option AskedRule
 first_in t n e = find (asked_in t n e) in_order

@@ -3,7 +3,7 @@ use Rattle.std.specs.Prelude.{ℕ, List, codes}
 use Rattle.sixel_emulator_rules.specs.declared.rule.AskedRule.{AskedRule}
 use Rattle.sixel_emulator_rules.specs.declared.rule.AskedRule.TheVariants.{RasterLate, Dropped, Stale, Large, Rows}
 use Rattle.sixel_emulator_rules.specs.declared.rule.AskedRule.TheVariants.{Past, Hue}
-use Rattle.sixel_emulator_rules.specs.declared.rule.AskedRule.TheVariants.{Far, Introducer}
+use Rattle.sixel_emulator_rules.specs.declared.rule.AskedRule.TheVariants.{Far, Introducer, Bare}
 
 abbrev pub name_of : AskedRule → List ℕ
 name_of RasterLate = codes "RasterLate"
@@ -15,3 +15,4 @@ name_of Past = codes "Past"
 name_of Hue = codes "Hue"
 name_of Far = codes "Far"
 name_of Introducer = codes "Introducer"
+name_of Bare = codes "Bare"

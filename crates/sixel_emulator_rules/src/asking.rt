@@ -92,6 +92,8 @@ impl Asking {
             Some(AskedRule::Far)
         } else if self.breaks(AskedRule::Introducer, event) {
             Some(AskedRule::Introducer)
+        } else if self.breaks(AskedRule::Bare, event) {
+            Some(AskedRule::Bare)
         } else {
             None
         }

@@ -25,6 +25,8 @@ pub enum AskedRule {
     Far,
     /// xterm and mlterm: an introducer with a first number above 9, or by which mlterm may mix colours.
     Introducer,
+    /// xterm and mlterm: a select without a number. No event tells, so `Asking` and `Tallying` find none.
+    Bare,
 }
 
 impl AskedRule {
@@ -42,6 +44,7 @@ impl AskedRule {
             AskedRule::Hue => 20,
             AskedRule::Far => 21,
             AskedRule::Introducer => 22,
+            AskedRule::Bare => 23,
         }
     }
 
@@ -60,6 +63,7 @@ impl AskedRule {
             AskedRule::Hue => "Hue",
             AskedRule::Far => "Far",
             AskedRule::Introducer => "Introducer",
+            AskedRule::Bare => "Bare",
         }
     }
 }

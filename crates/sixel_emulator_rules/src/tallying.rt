@@ -90,6 +90,7 @@ impl Tallying {
         self.count(AskedRule::Hue, place, event);
         self.count(AskedRule::Far, place, event);
         self.count(AskedRule::Introducer, place, event);
+        self.count(AskedRule::Bare, place, event);
     }
 
     /// Takes the next event.

@@ -47,7 +47,7 @@ impl Terminals {
         match rule {
             AskedRule::Large | AskedRule::Hue => self.xterm,
             AskedRule::Far => self.mlterm,
-            AskedRule::Introducer => self.xterm || self.mlterm,
+            AskedRule::Introducer | AskedRule::Bare => self.xterm || self.mlterm,
             AskedRule::Stale => self.foot,
             AskedRule::RasterLate | AskedRule::Dropped => self.konsole,
             AskedRule::Rows | AskedRule::Past => self.konsole,

@@ -24,7 +24,7 @@ use Rattle.sixel_emulator_rules.specs.Asked.{breaks_dropped, breaks_far, breaks_
 use Rattle.sixel_emulator_rules.specs.Asked.{breaks_past}
 use Rattle.sixel_emulator_rules.specs.Asked.{breaks_raster_late, breaks_rows, leaves_box, leaves_far}
 use Rattle.sixel_emulator_rules.specs.declared.rule.AskedRule.TheVariants.{RasterLate, Dropped, Large, Rows, Past, Hue}
-use Rattle.sixel_emulator_rules.specs.declared.rule.AskedRule.TheVariants.{Far, Introducer}
+use Rattle.sixel_emulator_rules.specs.declared.rule.AskedRule.TheVariants.{Far, Introducer, Bare}
 use Rattle.sixel_emulator_rules_laws.specs.Laws.{BreaksNoneOf, CanonSuitsFoot, CanonSuitsKonsole, CanonSuitsMlTerm}
 use Rattle.sixel_emulator_rules_laws.specs.Laws.{CanonSuitsXTerm}
 use Rattle.sixel_emulator_rules_laws.specs.Laws.{HasNoHue}
@@ -258,12 +258,14 @@ far_nowhere registers p picture i at =
 mlterm_none : (registers : ℕ) (p : PictureValue) → IsPicture registers p → BreaksNoneOf MlTerm (listed p)
 mlterm_none registers p picture Far asked = far_nowhere registers p picture
 mlterm_none registers p picture Introducer asked = introducer_nowhere p
+mlterm_none registers p picture Bare asked = λ i h. h.holds
 mlterm_none registers p picture _ asked = absurd cc
 
 xterm_none : (p : PictureValue) → p.width ≤ 1000 → p.height ≤ 996 → HasNoHue p → BreaksNoneOf XTerm (listed p)
 xterm_none p across down none Large asked = large_nowhere p across down
 xterm_none p across down none Hue asked = hue_nowhere p none
 xterm_none p across down none Introducer asked = introducer_nowhere p
+xterm_none p across down none Bare asked = λ i h. h.holds
 xterm_none p across down none _ asked = absurd cc
 
 konsole_none : (registers : ℕ) (p : PictureValue) → IsPicture registers p → p.height % 6 ≡ 0

@@ -37,7 +37,7 @@ use Rattle.sixel_emulator_rules_laws.specs.Witnesses.{EachRuleHasAWitness, asker
 use Rattle.sixel_emulator_rules.specs.declared.rule.AskedRule.{AskedRule}
 use Rattle.sixel_emulator_rules.specs.declared.rule.AskedRule.TheVariants.{RasterLate, Dropped, Stale, Large, Rows}
 use Rattle.sixel_emulator_rules.specs.declared.rule.AskedRule.TheVariants.{Past, Hue}
-use Rattle.sixel_emulator_rules.specs.declared.rule.AskedRule.TheVariants.{Far, Introducer}
+use Rattle.sixel_emulator_rules.specs.declared.rule.AskedRule.TheVariants.{Far, Introducer, Bare}
 
 -- ---- more registers
 
@@ -81,6 +81,7 @@ unbroken_16 Past = second_of (broken_or_none 16 (witness_of Past)) refl
 unbroken_16 Hue = second_of (broken_or_none 16 (witness_of Hue)) refl
 unbroken_16 Far = second_of (broken_or_none 16 (witness_of Far)) refl
 unbroken_16 Introducer = second_of (broken_or_none 16 (witness_of Introducer)) refl
+unbroken_16 Bare = second_of (broken_or_none 16 (witness_of Bare)) refl
 
 -- ---- the others
 
@@ -149,30 +150,35 @@ alone_past Dropped other asked = nowhere breaks_dropped (witness_of Past) refl
 alone_past Rows other asked = nowhere (λ before e. breaks_rows e) (witness_of Past) refl
 alone_past _ other asked = absurd cc
 
-alone_elsewhere : (rule m : AskedRule) → m ≢ rule → IsTrue (asks (asker_of rule) m)
+alone_elsewhere : (rule m : AskedRule) → rule ≢ Bare → m ≢ rule → IsTrue (asks (asker_of rule) m)
     → HoldsNowhere (BreaksAsked m) (witness_of rule)
 unfolding breaks_large breaks_hue breaks_far breaks_introducer any_at any_below passes_at raster_before earliest band column
     since
-alone_elsewhere RasterLate m other asked = alone_late m other asked
-alone_elsewhere Dropped m other asked = alone_dropped m other asked
-alone_elsewhere Rows m other asked = alone_rows m other asked
-alone_elsewhere Past m other asked = alone_past m other asked
-alone_elsewhere Stale Stale other asked = absurd (other refl)
-alone_elsewhere Stale _ other asked = absurd cc
-alone_elsewhere Large Large other asked = absurd (other refl)
-alone_elsewhere Large Hue other asked = nowhere (λ before e. breaks_hue e) (witness_of Large) refl
-alone_elsewhere Large Introducer other asked = nowhere (λ before e. breaks_introducer e) (witness_of Large) refl
-alone_elsewhere Large _ other asked = absurd cc
-alone_elsewhere Hue Hue other asked = absurd (other refl)
-alone_elsewhere Hue Large other asked = nowhere (λ before e. breaks_large e) (witness_of Hue) refl
-alone_elsewhere Hue Introducer other asked = nowhere (λ before e. breaks_introducer e) (witness_of Hue) refl
-alone_elsewhere Hue _ other asked = absurd cc
-alone_elsewhere Far Far other asked = absurd (other refl)
-alone_elsewhere Far Introducer other asked = nowhere (λ before e. breaks_introducer e) (witness_of Far) refl
-alone_elsewhere Far _ other asked = absurd cc
-alone_elsewhere Introducer Introducer other asked = absurd (other refl)
-alone_elsewhere Introducer Far other asked = nowhere breaks_far (witness_of Introducer) refl
-alone_elsewhere Introducer _ other asked = absurd cc
+alone_elsewhere RasterLate m told other asked = alone_late m other asked
+alone_elsewhere Dropped m told other asked = alone_dropped m other asked
+alone_elsewhere Rows m told other asked = alone_rows m other asked
+alone_elsewhere Past m told other asked = alone_past m other asked
+alone_elsewhere Stale Stale told other asked = absurd (other refl)
+alone_elsewhere Stale _ told other asked = absurd cc
+alone_elsewhere Large Large told other asked = absurd (other refl)
+alone_elsewhere Large Hue told other asked = nowhere (λ before e. breaks_hue e) (witness_of Large) refl
+alone_elsewhere Large Introducer told other asked = nowhere (λ before e. breaks_introducer e) (witness_of Large) refl
+alone_elsewhere Large Bare told other asked = λ i h. h.holds
+alone_elsewhere Large _ told other asked = absurd cc
+alone_elsewhere Hue Hue told other asked = absurd (other refl)
+alone_elsewhere Hue Large told other asked = nowhere (λ before e. breaks_large e) (witness_of Hue) refl
+alone_elsewhere Hue Introducer told other asked = nowhere (λ before e. breaks_introducer e) (witness_of Hue) refl
+alone_elsewhere Hue Bare told other asked = λ i h. h.holds
+alone_elsewhere Hue _ told other asked = absurd cc
+alone_elsewhere Far Far told other asked = absurd (other refl)
+alone_elsewhere Far Introducer told other asked = nowhere (λ before e. breaks_introducer e) (witness_of Far) refl
+alone_elsewhere Far Bare told other asked = λ i h. h.holds
+alone_elsewhere Far _ told other asked = absurd cc
+alone_elsewhere Introducer Introducer told other asked = absurd (other refl)
+alone_elsewhere Introducer Far told other asked = nowhere breaks_far (witness_of Introducer) refl
+alone_elsewhere Introducer Bare told other asked = λ i h. h.holds
+alone_elsewhere Introducer _ told other asked = absurd cc
+alone_elsewhere Bare m told other asked = absurd (told refl)
 
 -- ---- the rule itself
 
@@ -186,24 +192,27 @@ position_of Past = 5
 position_of Hue = 2
 position_of Far = 6
 position_of Introducer = 0
+position_of Bare = 0
 
-broken_there : (rule : AskedRule) → HoldsAtPosition (BreaksAsked rule) (witness_of rule) (position_of rule)
+broken_there : (rule : AskedRule) → rule ≢ Bare
+    → HoldsAtPosition (BreaksAsked rule) (witness_of rule) (position_of rule)
 unfolding breaks_raster_late breaks_dropped breaks_large breaks_rows breaks_past breaks_hue breaks_far breaks_introducer
     known colour_of definition_of colour_at_select last_at last_below at_position any_at any_below passes_at
     raster_before earliest latest band column since
-broken_there RasterLate = record { item = Step (Raster 1 1 1 6); here = refl; holds = refl }
-broken_there Dropped = record { item = Step CarriageReturn; here = refl; holds = refl }
-broken_there Stale = record {
+broken_there RasterLate told = record { item = Step (Raster 1 1 1 6); here = refl; holds = refl }
+broken_there Dropped told = record { item = Step CarriageReturn; here = refl; holds = refl }
+broken_there Stale told = record {
   item = Step (Sixel 1);
   here = refl;
   holds = record { register = 0; painting = refl; is_known = refl; differs = λ same. cc };
 }
-broken_there Large = record { item = Step (Raster 1 1 1001 1); here = refl; holds = refl }
-broken_there Rows = record { item = Step (Raster 1 1 1 1); here = refl; holds = refl }
-broken_there Past = record { item = Step (Sixel 0); here = refl; holds = refl }
-broken_there Hue = record { item = Step (Define 0 1 30 50 100); here = refl; holds = refl }
-broken_there Far = record { item = Step (Repeat 2 0); here = refl; holds = refl }
-broken_there Introducer = record { item = Start false (record { items = 0 ∷ 5 ∷ [] }); here = refl; holds = refl }
+broken_there Large told = record { item = Step (Raster 1 1 1001 1); here = refl; holds = refl }
+broken_there Rows told = record { item = Step (Raster 1 1 1 1); here = refl; holds = refl }
+broken_there Past told = record { item = Step (Sixel 0); here = refl; holds = refl }
+broken_there Hue told = record { item = Step (Define 0 1 30 50 100); here = refl; holds = refl }
+broken_there Far told = record { item = Step (Repeat 2 0); here = refl; holds = refl }
+broken_there Introducer told = record { item = Start false (record { items = 0 ∷ 5 ∷ [] }); here = refl; holds = refl }
+broken_there Bare told = absurd (told refl)
 
 -- ---- all
 
@@ -217,6 +226,7 @@ asked_there Past = refl
 asked_there Hue = refl
 asked_there Far = refl
 asked_there Introducer = refl
+asked_there Bare = refl
 
 whole_of : (rule : AskedRule) → AreWhole (witness_of rule)
 whole_of RasterLate = refl
@@ -228,13 +238,14 @@ whole_of Past = refl
 whole_of Hue = refl
 whole_of Far = refl
 whole_of Introducer = refl
+whole_of Bare = refl
 
 pub each_rule_has_a_witness : EachRuleHasAWitness
-each_rule_has_a_witness rule = record {
+each_rule_has_a_witness rule told = record {
   asked = asked_there rule;
   whole = whole_of rule;
   unbroken = λ registers le. none_less registers (witness_of rule) le (unbroken_16 rule);
   position = position_of rule;
-  broken = broken_there rule;
-  alone = alone_elsewhere rule;
+  broken = broken_there rule told;
+  alone = λ m other. alone_elsewhere rule m told other;
 }

@@ -37,7 +37,7 @@ use Rattle.sixel_judge.specs.Portable.{IsInBoxOn, Shows}
 use Rattle.sixel_emulator_rules.specs.declared.rule.AskedRule.{AskedRule}
 use Rattle.sixel_emulator_rules.specs.declared.rule.AskedRule.TheVariants.{RasterLate, Dropped, Stale, Large, Rows}
 use Rattle.sixel_emulator_rules.specs.declared.rule.AskedRule.TheVariants.{Past, Hue}
-use Rattle.sixel_emulator_rules.specs.declared.rule.AskedRule.TheVariants.{Far, Introducer}
+use Rattle.sixel_emulator_rules.specs.declared.rule.AskedRule.TheVariants.{Far, Introducer, Bare}
 use Rattle.sixel_emulator_rules_laws.specs.Witnesses.{witness_of}
 use Rattle.sixel_emulator_rules_laws.proofs.WitnessLemmas.{none_below}
 use Rattle.sixel_emulator_rules_laws.specs.Laws.{EachWitnessIsShownWrong, IsShownOn, IsShownRight}
@@ -268,13 +268,14 @@ unsaid_wrong named registers events unsaid right =
     (omega arith) (omega arith)).said)
 
 pub each_witness_is_shown_wrong : EachWitnessIsShownWrong
-each_witness_is_shown_wrong RasterLate registers le right = raster_late_wrong registers right
-each_witness_is_shown_wrong Dropped registers le right = dropped_wrong registers le right
-each_witness_is_shown_wrong Stale registers le right = stale_wrong registers le right
-each_witness_is_shown_wrong Large registers le right = large_wrong registers le right
-each_witness_is_shown_wrong Rows registers le right = rows_wrong registers right
-each_witness_is_shown_wrong Past registers le right = past_wrong registers right
-each_witness_is_shown_wrong Hue registers le right = hue_wrong registers le right
-each_witness_is_shown_wrong Far registers le right = unsaid_wrong MlTerm registers (witness_of Far) far_unsaid right
-each_witness_is_shown_wrong Introducer registers le right =
+each_witness_is_shown_wrong RasterLate registers told le right = raster_late_wrong registers right
+each_witness_is_shown_wrong Dropped registers told le right = dropped_wrong registers le right
+each_witness_is_shown_wrong Stale registers told le right = stale_wrong registers le right
+each_witness_is_shown_wrong Large registers told le right = large_wrong registers le right
+each_witness_is_shown_wrong Rows registers told le right = rows_wrong registers right
+each_witness_is_shown_wrong Past registers told le right = past_wrong registers right
+each_witness_is_shown_wrong Hue registers told le right = hue_wrong registers le right
+each_witness_is_shown_wrong Far registers told le right = unsaid_wrong MlTerm registers (witness_of Far) far_unsaid right
+each_witness_is_shown_wrong Introducer registers told le right =
     unsaid_wrong MlTerm registers (witness_of Introducer) introducer_unsaid right
+each_witness_is_shown_wrong Bare registers told le right = absurd (told refl)

@@ -13,7 +13,7 @@ use Rattle.sixel_emulator_rules.specs.Asked.{BreaksAsked, asks}
 use Rattle.sixel_emulator_rules.specs.declared.rule.AskedRule.{AskedRule}
 use Rattle.sixel_emulator_rules.specs.declared.rule.AskedRule.TheVariants.{RasterLate, Dropped, Stale, Large, Rows}
 use Rattle.sixel_emulator_rules.specs.declared.rule.AskedRule.TheVariants.{Past, Hue}
-use Rattle.sixel_emulator_rules.specs.declared.rule.AskedRule.TheVariants.{Far, Introducer}
+use Rattle.sixel_emulator_rules.specs.declared.rule.AskedRule.TheVariants.{Far, Introducer, Bare}
 
 -- the terminal asks for the rule, and the document breaks it; it breaks no rule of portable pictures, and none of the
 -- others that the terminal asks for
@@ -58,6 +58,8 @@ witness_of Far =
 witness_of Introducer =
     Start false (record { items = 0 ∷ 5 ∷ [] }) ∷ Step (Raster 1 1 1 1) ∷ black ∷ select ∷ Step (Sixel 1)
     ∷ Finish false ∷ []
+-- no list of events breaks it: this one breaks nothing
+witness_of Bare = introducer ∷ Step (Raster 1 1 1 1) ∷ black ∷ select ∷ Step (Sixel 1) ∷ Finish false ∷ []
 
 -- a terminal that asks for it, and shows the list otherwise
 abbrev pub asker_of : AskedRule → Named
@@ -70,9 +72,10 @@ asker_of Past = Konsole
 asker_of Hue = XTerm
 asker_of Far = MlTerm
 asker_of Introducer = MlTerm
+asker_of Bare = XTerm
 
 -- ---- the law
 
--- the other rules don't imply it
+-- the other rules don't imply it: a rule of which events tell
 abbrev pub EachRuleHasAWitness : Type 0
-EachRuleHasAWitness = (rule : AskedRule) → IsWitness (asker_of rule) rule (witness_of rule)
+EachRuleHasAWitness = (rule : AskedRule) → rule ≢ Bare → IsWitness (asker_of rule) rule (witness_of rule)

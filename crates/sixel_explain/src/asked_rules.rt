@@ -25,6 +25,7 @@ pub fn asked_rule_named(name: &str) -> Option<AskedRule>
         "hue" => Some(AskedRule::Hue),
         "far" => Some(AskedRule::Far),
         "introducer" => Some(AskedRule::Introducer),
+        "bare" => Some(AskedRule::Bare),
         _ => None,
     }
 }
@@ -44,6 +45,7 @@ pub fn of_asked_rule(rule: AskedRule) -> &'static str
         AskedRule::Hue => HUE,
         AskedRule::Far => FAR,
         AskedRule::Introducer => INTRODUCER,
+        AskedRule::Bare => BARE,
     }
 }
 
@@ -166,4 +168,17 @@ String: ESC P 10;1q\"1;1;1;6#0;2;0;0;0#0~ ESC \\
 Output of check --on xterm: broken Introducer 0
 
 Fix: begin with ESC P q or ESC P 0;1q, as sixel mend does.
+";
+
+const BARE: &str = "Bare: a selection without a number
+
+Broken on xterm and mlterm by # that no digit and no ; follows. xterm ends the
+string there, and draws nothing of what comes after it. mlterm selects nothing,
+and swallows the next byte, whatever it is, the ESC of the terminator too. Of
+this string xterm draws nothing.
+
+String: ESC P q \"1;1;1;6#0;2;0;0;0#~ ESC \\
+Output of check --on xterm: broken Bare 21
+
+Fix: write the number, #0 for register 0, as sixel mend does.
 ";

@@ -177,6 +177,7 @@ Past: blanks right of the box or below it
 Hue: a colour of hue, lightness and saturation
 Far: sixels right of the box, far below it or past column 32,767
 Introducer: an introducer by which xterm draws nothing or mlterm may mix colours
+Bare: a selection without a number
 NotSixel: input that doesn't start like a sixel string
 BadByte: unexpected byte
 NumberTooLarge: a number above 65,535

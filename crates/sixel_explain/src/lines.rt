@@ -192,7 +192,7 @@ fn edits(alloc: Global, name: &str, word: &str) -> Result<usize, AllocError>
 }
 
 /// The listed names.
-const NAMES: [&str; 46] = [
+const NAMES: [&str; 47] = [
     "RasterFirst",
     "RasterTwice",
     "Ratio",
@@ -215,6 +215,7 @@ const NAMES: [&str; 46] = [
     "Hue",
     "Far",
     "Introducer",
+    "Bare",
     "NotSixel",
     "BadByte",
     "NumberTooLarge",

@@ -85,7 +85,7 @@ fn hint_line(profile: Profile, cause: Cause) -> Hint
 
 /// How many there are: thirteen rules of portable pictures, nine that named terminals ask for, and nine reasons for no
 /// sixel text.
-const CAUSE_COUNT: usize = 31;
+const CAUSE_COUNT: usize = 32;
 
 /// What was found wrong, each once, in the order in which it was found first.
 #[derive(Drop)]

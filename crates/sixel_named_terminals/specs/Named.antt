@@ -1,5 +1,5 @@
 -- The named terminals: the model of each, the plain terminal that draws what its reading gives, and what is shown.
-use Rattle.std.specs.Prelude.{◌≡◌, ℕ, List, [], Result, Ok, Err, ⊤, max}
+use Rattle.std.specs.Prelude.{◌≡◌, ℕ, Bool, true, false, List, [], Result, Ok, Err, ⊤, max}
 use Rattle.std.specs.Option.{option_map_or}
 use Rattle.sixel_grammar.specs.declared.command.Event.{Event}
 use Rattle.sixel_grammar.specs.declared.command.Placed.{Placed}
@@ -18,6 +18,7 @@ use Rattle.sixel_foot.specs.Foot.{foot_model}
 use Rattle.sixel_konsole.specs.Konsole.{konsole_model}
 use Rattle.sixel_mlterm.specs.MlTerm.{mlterm_model}
 use Rattle.sixel_xterm.specs.XTerm.{xterm_model}
+use Rattle.sixel_emulator.specs.Heard.{heard_in}
 use Rattle.sixel_emulator.specs.Modelled.{EndsAtPlace}
 use Rattle.sixel_emulator.specs.Readings.{IsReading, IsSaid, Model}
 use Rattle.sixel_foot.specs.Settings.{foot_display}
@@ -30,6 +31,17 @@ model_of XTerm = xterm_model
 model_of MlTerm = mlterm_model
 model_of Foot = foot_model
 model_of Konsole = konsole_model
+
+-- the terminal hears a select without a number as raster attributes of zeros
+abbrev pub hears_bare : Named → Bool
+hears_bare XTerm = true
+hears_bare MlTerm = true
+hears_bare Foot = false
+hears_bare Konsole = false
+
+-- the events of the document of these bytes, as the terminal hears them
+abbrev pub heard_on : Named → List ℕ → List Placed → List Placed
+heard_on named bytes placed = heard_in (hears_bare named) bytes placed
 
 -- the height of a sixel pixel that raster attributes among these events give, those that are drawn before the first
 -- event of a string; it is at least 1, and 1 without any
@@ -58,20 +70,23 @@ pub record IsScreenOn (named : Named) (background : Parts) (sides : ℕ × ℕ) 
 abbrev pub ShowsOn : Named → Parts → ℕ × ℕ → List Event → List ℕ → Result Shown ShowFault → Type 0
 ShowsOn named background sides opening bytes (Ok screen) =
     (placed : List Placed) × Document placed bytes
-    × (opening ≡ (model_of named).opening (events_of placed)
-    → IsScreenOn named background sides (events_of placed) screen)
+    × (opening ≡ (model_of named).opening (events_of (heard_on named bytes placed))
+    → IsScreenOn named background sides (events_of (heard_on named bytes placed)) screen)
 ShowsOn named background sides opening bytes (Err (Grammar fault)) = IsFaultOf bytes fault
 ShowsOn named background sides opening bytes (Err (Unmodelled place)) =
-    (placed : List Placed) × Document placed bytes × EndsAtPlace (model_of named) placed place
+    (placed : List Placed) × Document placed bytes
+    × EndsAtPlace (model_of named) (heard_on named bytes placed) place
 ShowsOn named background sides opening bytes (Err OutOfMemory) = ⊤
 
 -- what is shown of the document of these bytes. There is one: so they have no fault
 abbrev pub ShowsDocument : Named → Parts → ℕ × ℕ → List ℕ → Result Shown ShowFault → Type 0
 ShowsDocument named background sides bytes (Ok screen) =
-    (placed : List Placed) × Document placed bytes × IsScreenOn named background sides (events_of placed) screen
+    (placed : List Placed) × Document placed bytes
+    × IsScreenOn named background sides (events_of (heard_on named bytes placed)) screen
 ShowsDocument named background sides bytes (Err (Grammar fault)) = ⊥
 ShowsDocument named background sides bytes (Err (Unmodelled place)) =
-    (placed : List Placed) × Document placed bytes × EndsAtPlace (model_of named) placed place
+    (placed : List Placed) × Document placed bytes
+    × EndsAtPlace (model_of named) (heard_on named bytes placed) place
 ShowsDocument named background sides bytes (Err OutOfMemory) = ⊤
 
 -- the terminal's model draws nothing before the first event
@@ -81,6 +96,8 @@ DrawsNothingFirst named = (events : List Event) → (model_of named).opening eve
 -- what is given of the document of these bytes: its screen, or the offset of the event at which the model ends
 abbrev pub GivesScreen : Named → Parts → ℕ × ℕ → List ℕ → Result Shown ℕ → Type 0
 GivesScreen named background sides bytes (Ok screen) =
-    (placed : List Placed) × Document placed bytes × IsScreenOn named background sides (events_of placed) screen
+    (placed : List Placed) × Document placed bytes
+    × IsScreenOn named background sides (events_of (heard_on named bytes placed)) screen
 GivesScreen named background sides bytes (Err place) =
-    (placed : List Placed) × Document placed bytes × EndsAtPlace (model_of named) placed place
+    (placed : List Placed) × Document placed bytes
+    × EndsAtPlace (model_of named) (heard_on named bytes placed) place

@@ -5,7 +5,6 @@ ghost use Rattle.sixel_grammar.specs.declared.fault.InputFault.TheVariants.{Read
 ghost use Rattle.sixel_grammar.specs.Reading.{Explains, NoFaultBefore, failures_after};
 ghost use Rattle.sixel_model.specs.declared.colour.Parts.{Parts as SomeParts};
 ghost use Rattle.sixel_terminal.specs.Limits.{is_screen_side};
-ghost use Rattle.sixel_named_terminals.specs.declared.named.Named.{Named as AName};
 ghost use Rattle.sixel_emulator.specs.FirstPiece.{IsFirst, with_first};
 ghost use Rattle.sixel_emulator.specs.Modelled.{HasFollowed};
 ghost use Rattle.sixel_named_terminals.specs.Named.{DrawsNothingFirst, GivesScreen, model_of, terminal_on};
@@ -21,16 +20,18 @@ use sixel_terminal::{Drawing, Screen};
 use sixel_xterm::{as_xterm, xterm_terminal};
 use std::alloc::Global;
 
-/// Reads the source, whose first bytes are the first `read` of `piece`, to its end. Gives the screen of what a model makes
-/// of its document, or the offset of the event at which the model ends. `modelled` has taken no event.
+/// Reads the source, whose first bytes are the first `read` of `piece`, to its end. Gives the screen of what the
+/// terminal's model makes of its document, or the offset of the event at which the model ends. `modelled` has taken no
+/// event.
 fn show_source<S: Source, R: Reading + Drop>(
+    named: Named,
     input: &mut S,
     piece: &mut [u8; PIECE],
     read: usize,
     modelled: Modelled<R>,
 ) -> Result<Result<Screen, u64>, InputFault>
     requires { IsFirst piece.old read (S.state input.old).remaining }
-    ensures shown { (named : AName) (background : SomeParts) (sides : ℕ × ℕ) → DrawsNothingFirst named
+    ensures shown { (background : SomeParts) (sides : ℕ × ℕ) → DrawsNothingFirst named
         → R.model ≡ model_of named → HasFollowed R.model R.has_seen modelled [] []
         → modelled.progress.drawing.terminal ≡ terminal_on named background [] sides
         → IfOk result (λ given. IfSome (with_first piece.old read (S.state input.old).remaining) (λ bytes.
@@ -43,7 +44,7 @@ fn show_source<S: Source, R: Reading + Drop>(
         (NoFaultBefore (S.state input.new).remaining) }
     ensures memory { result ≢ Err InputFault.OutOfMemory }
 {
-    match draw(input, piece, read, modelled)? {
+    match draw(input, piece, read, named.hears_bare(), modelled)? {
         Ok(drawing) => Ok(Ok(drawing.finish())),
         Err(place) => Ok(Err(place)),
     }
@@ -79,15 +80,15 @@ pub fn show_at_once<S: Source>(
     match named {
         Named::XTerm => {
             let drawing = Drawing::new(alloc, xterm_terminal(alloc, background, width, height)?)?;
-            show_source(input, piece, read, as_xterm(drawing))
+            show_source(Named::XTerm, input, piece, read, as_xterm(drawing))
         }
         Named::MlTerm => {
             let drawing = Drawing::new(alloc, mlterm_terminal(alloc, background, width, height)?)?;
-            show_source(input, piece, read, as_mlterm(drawing))
+            show_source(Named::MlTerm, input, piece, read, as_mlterm(drawing))
         }
         Named::Foot => {
             let drawing = Drawing::new(alloc, foot_terminal(alloc, background, width, height)?)?;
-            show_source(input, piece, read, as_foot(alloc, drawing)?)
+            show_source(Named::Foot, input, piece, read, as_foot(alloc, drawing)?)
         }
         Named::Konsole => unreachable!(),
     }

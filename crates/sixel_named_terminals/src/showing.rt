@@ -4,7 +4,6 @@ ghost use Rattle.std.specs.Prelude.{◌≡◌, ◌&&◌, ◌<◌, [], ℕ, IsTru
 ghost use Rattle.sixel_grammar.specs.declared.command.Event.{Event as AnEvent};
 ghost use Rattle.sixel_model.specs.declared.colour.Parts.{Parts as SomeParts};
 ghost use Rattle.sixel_terminal.specs.Limits.{is_screen_side};
-ghost use Rattle.sixel_named_terminals.specs.declared.named.Named.{Named as AName};
 ghost use Rattle.sixel_emulator.specs.Modelled.{HasFollowed, opening_of};
 ghost use Rattle.sixel_named_terminals.specs.Named.{ShowsOn, model_of, tall_in, terminal_on};
 
@@ -41,14 +40,18 @@ impl From<AllocError> for ShowFault {
     }
 }
 
-/// The screen of what a model makes of the document of these bytes. `modelled` has taken no event.
-fn show_bytes<R: Reading + Drop>(bytes: &[u8], modelled: Modelled<R>) -> Result<Screen, ShowFault>
-    ensures { (named : AName) (background : SomeParts) (sides : ℕ × ℕ) (opening : List AnEvent)
+/// The screen of what the terminal's model makes of the document of these bytes. `modelled` has taken no event.
+fn show_bytes<R: Reading + Drop>(
+    named: Named,
+    bytes: &[u8],
+    modelled: Modelled<R>,
+) -> Result<Screen, ShowFault>
+    ensures { (background : SomeParts) (sides : ℕ × ℕ) (opening : List AnEvent)
         → R.model ≡ model_of named → HasFollowed R.model R.has_seen modelled opening []
         → modelled.progress.drawing.terminal ≡ terminal_on named background opening sides
         → ShowsOn named background sides opening bytes.now result }
 {
-    match draw_bytes(bytes, modelled) {
+    match draw_bytes(bytes, named.hears_bare(), modelled) {
         Ok(Ok(drawing)) => Ok(drawing.finish()),
         Ok(Err(place)) => Err(ShowFault::Unmodelled(place)),
         Err(fault) => Err(ShowFault::Grammar(fault)),
@@ -67,7 +70,11 @@ fn show_on_xterm(
     ensures { ShowsOn Named.XTerm background (width, height) [] bytes.now result }
 {
     let terminal = xterm_terminal(alloc, background, width, height)?;
-    show_bytes(bytes, as_xterm(Drawing::new(alloc, terminal)?))
+    show_bytes(
+        Named::XTerm,
+        bytes,
+        as_xterm(Drawing::new(alloc, terminal)?),
+    )
 }
 
 /// What mlterm shows.
@@ -82,7 +89,11 @@ fn show_on_mlterm(
     ensures { ShowsOn Named.MlTerm background (width, height) [] bytes.now result }
 {
     let terminal = mlterm_terminal(alloc, background, width, height)?;
-    show_bytes(bytes, as_mlterm(Drawing::new(alloc, terminal)?))
+    show_bytes(
+        Named::MlTerm,
+        bytes,
+        as_mlterm(Drawing::new(alloc, terminal)?),
+    )
 }
 
 /// What foot shows.
@@ -97,7 +108,11 @@ fn show_on_foot(
     ensures { ShowsOn Named.Foot background (width, height) [] bytes.now result }
 {
     let terminal = foot_terminal(alloc, background, width, height)?;
-    show_bytes(bytes, as_foot(alloc, Drawing::new(alloc, terminal)?)?)
+    show_bytes(
+        Named::Foot,
+        bytes,
+        as_foot(alloc, Drawing::new(alloc, terminal)?)?,
+    )
 }
 
 /// The height of a sixel pixel that konsole's rectangle gives. It is at least 1.
@@ -125,7 +140,11 @@ fn show_on_konsole(
     ensures { ShowsOn Named.Konsole background (width, height) (opening_of opening) bytes.now result }
 {
     let terminal = konsole_terminal(alloc, background, tall_in(opening), width, height)?;
-    show_bytes(bytes, as_konsole(Drawing::new(alloc, terminal)?, opening))
+    show_bytes(
+        Named::Konsole,
+        bytes,
+        as_konsole(Drawing::new(alloc, terminal)?, opening),
+    )
 }
 
 /// What a named terminal shows of the document of these bytes. Its whole screen has the background before; its width

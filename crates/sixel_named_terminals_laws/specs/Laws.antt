@@ -7,9 +7,13 @@ use Rattle.sixel_grammar.specs.declared.command.Command.TheVariants.{CarriageRet
 use Rattle.sixel_grammar.specs.declared.command.Command.TheVariants.{Define, NextLine}
 use Rattle.sixel_grammar.specs.declared.command.Event.{Event}
 use Rattle.sixel_grammar.specs.declared.command.Event.TheVariants.{Start, Step, Finish}
+use Rattle.sixel_grammar.specs.declared.command.Placed.{Placed}
+use Rattle.sixel_grammar.specs.Document.{events_of}
 use Rattle.sixel_emulator.specs.declared.reading.Reads.{Reads}
 use Rattle.sixel_emulator.specs.declared.reading.Reads.TheVariants.{Nothing, Draws, DrawsTwo, Stops, Unsaid}
 use Rattle.sixel_emulator.specs.declared.course.Course.TheVariants.{Goes, Stopped, Ended}
+use Rattle.sixel_emulator.specs.Heard.{zeros}
+use Rattle.sixel_emulator.specs.Modelled.{placed_at}
 use Rattle.sixel_emulator.specs.Readings.{EndsAt, IsReading, IsSaid, Model, Rule, read_at, reading_below}
 use Rattle.sixel_emulator.specs.Courses.{IsCourse}
 use Rattle.sixel_model.specs.declared.colour.Parts.{Parts}
@@ -17,7 +21,8 @@ use Rattle.sixel_model.specs.Events.{raster_of}
 use Rattle.sixel_model.specs.Geometry.{band, band_rows}
 use Rattle.sixel_terminal.specs.Screens.{Shown}
 use Rattle.sixel_named_terminals.specs.declared.named.Named.{Named}
-use Rattle.sixel_named_terminals.specs.Named.{IsScreenOn, model_of}
+use Rattle.sixel_named_terminals.specs.declared.named.Named.TheVariants.{MlTerm, XTerm}
+use Rattle.sixel_named_terminals.specs.Named.{IsScreenOn, heard_on, model_of}
 use Rattle.sixel_foot.specs.Foot.{foot, foot_size}
 use Rattle.sixel_konsole.specs.Konsole.{konsole_drawing, konsole_model, konsole_opening}
 use Rattle.sixel_mlterm.specs.MlTerm.{mlterm}
@@ -26,6 +31,36 @@ use Rattle.sixel_xterm.specs.XTerm.{xterm}
 -- whatever comes next
 abbrev pub ReadsAs : Rule → List Event → Event → Reads → Type 0
 ReadsAs rule before e reads = (next : Option Event) → rule before e next ≡ reads
+
+-- ---- a select without a number
+
+-- #1~#~
+abbrev pub bare_bytes : List ℕ
+bare_bytes = 35 ∷ 49 ∷ 126 ∷ 35 ∷ 126 ∷ []
+
+-- its events, with their offsets
+abbrev pub bare_placed : List Placed
+bare_placed =
+    placed_at 0 (Step (Select 1)) ∷ placed_at 2 (Step (Sixel 63)) ∷ placed_at 3 (Step (Select 0))
+    ∷ placed_at 4 (Step (Sixel 63)) ∷ []
+
+-- this is heard in place of the second select
+abbrev pub BareIsHeardAs : Named → Event → Type 0
+BareIsHeardAs named e =
+    events_of (heard_on named bare_bytes bare_placed)
+    ≡ Step (Select 1) ∷ Step (Sixel 63) ∷ e ∷ Step (Sixel 63) ∷ []
+
+-- it ends xterm's string, wherever it stands
+abbrev pub BareSelectStops : Type 0
+BareSelectStops = BareIsHeardAs XTerm zeros × ((before : List Event) → ReadsAs xterm before zeros Stops)
+
+-- and mlterm's model
+abbrev pub BareSelectIsUnsaid : Type 0
+BareSelectIsUnsaid = BareIsHeardAs MlTerm zeros × ((before : List Event) → ReadsAs mlterm before zeros Unsaid)
+
+-- on the others it is #0
+abbrev pub BareSelectIsZero : Named → Type 0
+BareSelectIsZero named = BareIsHeardAs named (Step (Select 0))
 
 -- ---- xterm
 

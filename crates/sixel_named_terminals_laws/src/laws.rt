@@ -1,6 +1,8 @@
 //! Laws about the rules. Each function's contract is the law.
 
-ghost use Rattle.sixel_named_terminals_laws.specs.Laws.{BandsAreTheHeight, BlankSixelIsFirst, ChanceIsUnsaid};
+ghost use Rattle.sixel_named_terminals.specs.declared.named.Named.{Named as AName};
+ghost use Rattle.sixel_named_terminals_laws.specs.Laws.{BandsAreTheHeight, BareSelectIsUnsaid, BareSelectIsZero};
+ghost use Rattle.sixel_named_terminals_laws.specs.Laws.{BareSelectStops, BlankSixelIsFirst, ChanceIsUnsaid};
 ghost use Rattle.sixel_named_terminals_laws.specs.Laws.{CornerIsUnsaid};
 ghost use Rattle.sixel_named_terminals_laws.specs.Laws.{DataPastTheWidthIsCut, DroppedRasterOpensNothing};
 ghost use Rattle.sixel_named_terminals_laws.specs.Laws.{DroppedSelectOpens};
@@ -31,6 +33,7 @@ pub fn xterm_on_strings()
     ensures far_sixel { FarSixelStops }
     ensures last_band_sixel { LastBandEndsAtASixel }
     ensures last_band_repeat { LastBandReturnsAtARepeat }
+    ensures bare_select { BareSelectStops }
 {}
 
 /// What foot makes of strings that were shown on it.
@@ -41,6 +44,7 @@ pub fn foot_on_strings()
     ensures past_the_width { DataPastTheWidthIsCut }
     ensures late_box { LateBoxIsUnsaid }
     ensures pen { PenKeepsItsColour }
+    ensures bare_select { BareSelectIsZero AName.Foot }
 {}
 
 /// What mlterm makes of strings that were shown on it.
@@ -53,6 +57,7 @@ pub fn mlterm_on_strings()
     ensures far_blank { FarBlankIsUnsaid }
     ensures two_boxes { TwoBoxesBelowAreUnsaid }
     ensures undefined { UndefinedIsDrawn }
+    ensures bare_select { BareSelectIsUnsaid }
 {}
 
 /// The rectangles that konsole fills for strings that were shown on it.
@@ -62,6 +67,7 @@ pub fn konsole_on_strings()
     ensures dropped_raster { DroppedRasterOpensNothing }
     ensures tall { RatioIsTall }
     ensures unknown_system { UnknownSystemSticks }
+    ensures bare_select { BareSelectIsZero AName.Konsole }
 {}
 
 /// What a reading makes of an event, with the events before it and the one after, is what its model makes of the event

@@ -15,7 +15,8 @@ use Rattle.sixel_judge.specs.Verdicts.{IsVerdict}
 use Rattle.sixel_judge.proofs.VerdictLemmas.{verdict_once}
 use Rattle.sixel_emulator_rules.specs.declared.terminals.Terminals.{Terminals}
 use Rattle.sixel_emulator_check.specs.Answers.{AnswersOutcomeOn}
-use Rattle.sixel_emulator_check.specs.Verdicts.{IsVerdictOn, named_outcome_of}
+use Rattle.sixel_emulator_check.specs.Verdicts.{named_outcome_of}
+use Rattle.sixel_emulator_check.specs.Written.{IsVerdictOf}
 use Rattle.sixel_emulator_check.specs.declared.verdict.NamedOutcome.{NamedOutcome}
 use Rattle.sixel_emulator_check.specs.declared.verdict.NamedVerdict.{NamedVerdict}
 use Rattle.sixel_emulator_check.specs.declared.verdict.NamedVerdict.TheVariants.{Portable, Broken, Asked}
@@ -25,7 +26,7 @@ use Rattle.sixel_report.specs.declared.task.Status.{Status}
 use Rattle.sixel_report.specs.Conversions.{of_input}
 use Rattle.sixel_run.specs.Outputs.{CheckGives, outcome_status, status_of}
 use Rattle.sixel_report.specs.Texts.{Text, item_line, item_of, items_text, named_verdict_line}
-use Rattle.sixel_emulator_check.proofs.OneVerdictLemmas.{verdict_on_exists, verdict_on_once}
+use Rattle.sixel_emulator_check.proofs.WrittenLemmas.{verdict_of_exists, verdict_of_once}
 use Rattle.sixel_report.proofs.OutputLemmas.{both_are}
 
 -- two verdicts on one document are the same
@@ -36,14 +37,15 @@ same_verdict registers bytes d e v w p q a b =
 
 -- the same for named terminals
 pub same_verdict_on : (registers : ℕ) (t : Terminals) (bytes : List ℕ) (d e : List Placed) (v w : NamedVerdict)
-    → Document d bytes → Document e bytes → IsVerdictOn registers t d v → IsVerdictOn registers t e w → v ≡ w
+    → Document d bytes → Document e bytes → IsVerdictOf registers t bytes d v → IsVerdictOf registers t bytes e w
+    → v ≡ w
 same_verdict_on registers t bytes d e v w p q a b =
-    verdict_on_once _ t e v w
-    (subst (λ (l : List Placed). IsVerdictOn registers t l v) (document_once bytes d e p q) a) b
+    verdict_of_once _ t bytes e v w
+    (subst (λ (l : List Placed). IsVerdictOf registers t bytes l v) (document_once bytes d e p q) a) b
 
 -- the line and the status of the verdict on a document
 of_document : (registers : ℕ) (t : Terminals) (bytes : List ℕ) (d : List Placed) (v : NamedVerdict)
-    → Document d bytes → IsVerdictOn registers t d v → (text : Text) (a : Result Status RunFault)
+    → Document d bytes → IsVerdictOf registers t bytes d v → (text : Text) (a : Result Status RunFault)
     → CheckGives registers t bytes text a → (text ≡ named_verdict_line v) × (a ≡ Ok (status_of v))
 of_document registers t bytes d v doc is text (Ok s) g =
     let same = same_verdict_on registers t bytes g.0 d g.2.0 v g.1 doc g.2.1 is in
@@ -63,7 +65,7 @@ pub check-once : (registers : ℕ) (t : Terminals) (bytes : List ℕ) (first sec
     → CheckGives registers t bytes first a → CheckGives registers t bytes second b → (first ≡ second) × (a ≡ b)
 check-once registers t bytes first second a b g h = elim (judged bytes) [
   | inl d ↦
-      let v = verdict_on_exists registers t d.0 in
+      let v = verdict_of_exists registers t bytes d.0 in
       let gives = of_document registers t bytes d.0 v.0 d.1 v.1 in
       both_are first second a b (gives first a g) (gives second b h)
   | inr f ↦
@@ -75,7 +77,7 @@ pub check-gives : (registers : ℕ) (t : Terminals) (bytes : List ℕ)
 check-gives registers t bytes =
     elim (judged bytes) [
       | inl d ↦
-          let v = verdict_on_exists registers t d.0 in
+          let v = verdict_of_exists registers t bytes d.0 in
           (named_verdict_line v.0, Ok (status_of v.0), (d.0, d.1, (v.0, v.1, refl, refl)))
       | inr f ↦ ([], Err (Grammar f.0), (refl, f.1))
     ]

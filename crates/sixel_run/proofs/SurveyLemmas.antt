@@ -13,14 +13,13 @@ use Rattle.sixel_model.specs.declared.profile.Profile.{Profile}
 use Rattle.sixel_model.proofs.PictureLemmas.{at_most_256}
 use Rattle.sixel_emulator_rules.specs.declared.terminals.Terminals.{Terminals}
 use Rattle.sixel_emulator_check.specs.Laws.{verdict_with}
-use Rattle.sixel_emulator_check.specs.Surveys.{IsSurveyOn, SurveysOn}
-use Rattle.sixel_emulator_check.specs.Verdicts.{IsVerdictOn}
+use Rattle.sixel_emulator_check.specs.Written.{IsSurveyOf, IsVerdictOf, SurveysOn}
 use Rattle.sixel_emulator_check.specs.declared.surveying.NamedSurvey.{NamedSurvey}
 use Rattle.sixel_emulator_check.specs.declared.verdict.NamedFinding.{NamedFinding}
 use Rattle.sixel_emulator_check.specs.declared.verdict.NamedFinding.TheVariants as finding
 use Rattle.sixel_emulator_check.specs.declared.verdict.NamedVerdict.{NamedVerdict}
 use Rattle.sixel_emulator_check.specs.declared.verdict.NamedVerdict.TheVariants.{Portable}
-use Rattle.sixel_emulator_check.proofs.SurveyLawLemmas.{empty_if_none_on, first_is_verdict_on}
+use Rattle.sixel_emulator_check.proofs.WrittenLawLemmas.{empty_if_none_of, first_is_verdict_of}
 use Rattle.sixel_report.specs.declared.fault.RunFault.{RunFault}
 use Rattle.sixel_report.specs.declared.fault.RunFault.TheVariants.{Grammar}
 use Rattle.sixel_report.specs.declared.task.Status.{Status}
@@ -33,21 +32,20 @@ use Rattle.sixel_report.specs.Texts.{Text, survey_text}
 use Rattle.sixel_report.specs.declared.rule_set.RuleSet.{RuleSet}
 use Rattle.sixel_report.proofs.OutputLemmas.{both_are}
 use Rattle.sixel_run.proofs.CheckLemmas.{same_verdict_on}
-use Rattle.sixel_emulator_check.proofs.OneSurveyLemmas.{survey_on_exists, survey_on_once}
-use Rattle.sixel_emulator_check.proofs.OneVerdictLemmas.{verdict_on_exists}
+use Rattle.sixel_emulator_check.proofs.WrittenLemmas.{survey_of_exists, survey_of_once, verdict_of_exists}
 
 -- ---- one output
 
 -- two surveys of one document are the same
 same_survey : (registers : ℕ) (t : Terminals) (bytes : List ℕ) (d e : List Placed) (s u : NamedSurvey)
-    → Document d bytes → Document e bytes → IsSurveyOn registers t d s → IsSurveyOn registers t e u → s ≡ u
+    → Document d bytes → Document e bytes → IsSurveyOf registers t bytes d s → IsSurveyOf registers t bytes e u → s ≡ u
 same_survey registers t bytes d e s u p q a b =
-    survey_on_once registers t e s u
-    (subst (λ (l : List Placed). IsSurveyOn registers t l s) (document_once bytes d e p q) a) b
+    survey_of_once registers t bytes e s u
+    (subst (λ (l : List Placed). IsSurveyOf registers t bytes l s) (document_once bytes d e p q) a) b
 
 -- the lines of the survey of a document, and the status of its verdict
 of_document : (registers : ℕ) (t : Terminals) (bytes : List ℕ) (d : List Placed) (s : NamedSurvey) (v : NamedVerdict)
-    → Document d bytes → IsSurveyOn registers t d s → IsVerdictOn registers t d v
+    → Document d bytes → IsSurveyOf registers t bytes d s → IsVerdictOf registers t bytes d v
     → (text : Text) (a : Result Status RunFault) → SurveyGives registers t bytes text a
     → (text ≡ survey_text s) × (a ≡ Ok (survey_status s v))
 of_document registers t bytes d s v doc is rules text (Ok r) g =
@@ -73,8 +71,8 @@ pub survey-once : (registers : ℕ) (t : Terminals) (bytes : List ℕ) (first se
     → SurveyGives registers t bytes first a → SurveyGives registers t bytes second b → (first ≡ second) × (a ≡ b)
 survey-once registers t bytes first second a b g h = elim (judged bytes) [
   | inl d ↦
-      let s = survey_on_exists registers t d.0 in
-      let v = verdict_on_exists registers t d.0 in
+      let s = survey_of_exists registers t bytes d.0 in
+      let v = verdict_of_exists registers t bytes d.0 in
       let gives = of_document registers t bytes d.0 s.0 v.0 d.1 s.1 v.1 in
       both_are first second a b (gives first a g) (gives second b h)
   | inr f ↦
@@ -86,8 +84,8 @@ pub survey-gives : (registers : ℕ) (t : Terminals) (bytes : List ℕ)
 survey-gives registers t bytes =
     elim (judged bytes) [
       | inl d ↦
-          let s = survey_on_exists registers t d.0 in
-          let v = verdict_on_exists registers t d.0 in
+          let s = survey_of_exists registers t bytes d.0 in
+          let v = verdict_of_exists registers t bytes d.0 in
           (survey_text s.0, Ok (survey_status s.0 v.0), (d.0, d.1, (s.0, s.1, refl, (v.0, v.1, refl))))
       | inr f ↦ ([], Err (Grammar f.0), (refl, f.1))
     ]
@@ -104,14 +102,25 @@ first_status survey (finding.Asked f) = refl
 
 -- the status after a survey is that of the verdict
 status_is : (profile : Profile) (t : Terminals) (bytes : List ℕ) (events : List Placed) (survey : NamedSurvey)
-    (s : Status) → Document events bytes → IsSurveyOn (count_of profile) t events survey → IsStatusOf survey s
-    → (verdict : NamedVerdict) × IsVerdictOn (count_of profile) t events verdict × (s ≡ survey_status survey verdict)
+    (s : Status) → Document events bytes → IsSurveyOf (count_of profile) t bytes events survey → IsStatusOf survey s
+    → (verdict : NamedVerdict) × IsVerdictOf (count_of profile) t bytes events verdict
+    × (s ≡ survey_status survey verdict)
 status_is profile t bytes events survey Done doc is none =
-    let unbroken = (empty_if_none_on (count_of profile) (at_most_256 profile) t events survey is).0 none in
-    (Portable (picture_left (count_of profile) (events_of events)), (unbroken.0, unbroken.1, refl), refl)
+    let unbroken = (empty_if_none_of (count_of profile) (at_most_256 profile) t bytes events survey is).0 none in
+    let picture : NamedVerdict = Portable (picture_left (count_of profile) (events_of events)) in (
+      picture,
+      record {
+        by_events = picture;
+        is = (unbroken.0, unbroken.1, refl);
+        bare = None;
+        bare_is = unbroken.2;
+        verdict_is = refl;
+      },
+      refl,
+    )
 status_is profile t bytes events survey (status.Surveyed f rules) doc is given = (
   verdict_with f,
-  first_is_verdict_on (count_of profile) (at_most_256 profile) t events bytes survey f doc is given.0,
+  first_is_verdict_of (count_of profile) (at_most_256 profile) t events bytes survey f doc is given.0,
   ap (λ (set : RuleSet). status.Surveyed f set) given.1 ∙ first_status survey f,
 )
 status_is profile t bytes events survey (status.Broken f) doc is never = absurd never

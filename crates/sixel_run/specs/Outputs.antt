@@ -18,8 +18,7 @@ use Rattle.sixel_judge.specs.Verdicts.{IsVerdict}
 use Rattle.sixel_encode.specs.Canon.{canon_text}
 use Rattle.sixel_survey.specs.Declaring.{DeclareBoxIn}
 use Rattle.sixel_emulator_rules.specs.declared.terminals.Terminals.{Terminals}
-use Rattle.sixel_emulator_check.specs.Surveys.{IsSurveyOn}
-use Rattle.sixel_emulator_check.specs.Verdicts.{IsVerdictOn}
+use Rattle.sixel_emulator_check.specs.Written.{IsSurveyOf, IsVerdictOf}
 use Rattle.sixel_emulator_check.specs.declared.surveying.NamedSurvey.{NamedSurvey}
 use Rattle.sixel_emulator_check.specs.declared.verdict.NamedFinding.TheVariants as finding
 use Rattle.sixel_emulator_check.specs.declared.verdict.NamedOutcome.{NamedOutcome}
@@ -65,7 +64,7 @@ status_of (named.Asked finding) = status.Asked finding
 abbrev pub CheckGives : ℕ → Terminals → List ℕ → Text → Result Status RunFault → Type 0
 CheckGives registers terminals bytes text (Ok status) =
     (events : List Placed) × Document events bytes
-    × ((verdict : NamedVerdict) × IsVerdictOn registers terminals events verdict × (text ≡ named_verdict_line verdict)
+    × ((verdict : NamedVerdict) × IsVerdictOf registers terminals bytes events verdict × (text ≡ named_verdict_line verdict)
     × (status ≡ status_of verdict))
 CheckGives registers terminals bytes text (Err (Grammar fault)) = (text ≡ []) × IsFaultOf bytes fault
 CheckGives registers terminals bytes text (Err fault) = ⊥
@@ -89,8 +88,8 @@ survey_status survey (named.Asked f) = Surveyed (finding.Asked f) (rules_of surv
 abbrev pub SurveyGives : ℕ → Terminals → List ℕ → Text → Result Status RunFault → Type 0
 SurveyGives registers terminals bytes text (Ok status) =
     (events : List Placed) × Document events bytes
-    × ((survey : NamedSurvey) × IsSurveyOn registers terminals events survey × (text ≡ survey_text survey)
-    × ((verdict : NamedVerdict) × IsVerdictOn registers terminals events verdict
+    × ((survey : NamedSurvey) × IsSurveyOf registers terminals bytes events survey × (text ≡ survey_text survey)
+    × ((verdict : NamedVerdict) × IsVerdictOf registers terminals bytes events verdict
     × (status ≡ survey_status survey verdict)))
 SurveyGives registers terminals bytes text (Err (Grammar fault)) = (text ≡ []) × IsFaultOf bytes fault
 SurveyGives registers terminals bytes text (Err fault) = ⊥

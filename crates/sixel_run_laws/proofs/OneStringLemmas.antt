@@ -1,6 +1,6 @@
 -- A scan of one string says what a check says.
 use Rattle.std.proofs.Common.{◌≡◌, ◌∙◌, ◌∷◌, ℕ, List, [], refl, sym, ap, subst, ◌+◌, Bool, true, false, ◌++◌, arith}
-use Rattle.std.proofs.Common.{codes}
+use Rattle.std.proofs.Common.{codes, Option, None}
 use Rattle.std.specs.Prelude.{Result, Ok}
 use Rattle.std.proofs.lemmas.List.{append-nil, take_all}
 use Rattle.sixel_grammar.specs.declared.command.Placed.{Placed}
@@ -12,6 +12,7 @@ use Rattle.sixel_judge.specs.declared.verdict.Verdict.TheVariants as judged
 use Rattle.sixel_judge.specs.Verdicts.{IsVerdict}
 use Rattle.sixel_emulator_check.specs.Laws.{named_verdict, none}
 use Rattle.sixel_emulator_check.specs.Verdicts.{IsVerdictOn}
+use Rattle.sixel_emulator_check.specs.Written.{IsVerdictOf, with_bare}
 use Rattle.sixel_emulator_check.specs.declared.verdict.NamedVerdict.{NamedVerdict}
 use Rattle.sixel_emulator_check.specs.declared.verdict.NamedVerdict.TheVariants.{Portable, Broken, Asked}
 use Rattle.sixel_report.specs.declared.fault.RunFault.{RunFault}
@@ -40,6 +41,14 @@ pub verdict_alone : (registers : ℕ) (placed : List Placed) (v : NamedVerdict) 
 verdict_alone registers placed (Portable p) is = (judged.Portable p, (is.0, is.2), refl)
 verdict_alone registers placed (Broken f) is = (judged.Broken f, (is.0, (is.1).finding), refl)
 verdict_alone registers placed (Asked f) is = absurd ((none_asked (events_of placed)) f.rule (is.1).first.asked is.0 (is.1).first.broken)
+
+-- for no terminal it is that on the events
+events_alone : (registers : ℕ) (bytes : List ℕ) (placed : List Placed) (v : NamedVerdict)
+    → IsVerdictOf registers none bytes placed v → IsVerdictOn registers none placed v
+events_alone registers bytes placed v is =
+    let none_bare : is.bare ≡ None = is.bare_is in
+    let same : v ≡ is.by_events = is.verdict_is ∙ ap (λ (o : Option ℕ). with_bare o is.by_events) none_bare in
+    subst (IsVerdictOn registers none placed) (sym same) is.is
 
 -- the report of one string with this verdict
 abbrev alone : Verdict → Scanned
@@ -113,8 +122,9 @@ one_given registers eight events bytes more document v starts bare is =
 pub scan_is_check : ScanIsCheck
 scan_is_check profile eight events bytes more document text status starts bare given =
     let v = given.2.0 in
-    let is = subst (λ (l : List Placed). IsVerdictOn (count_of profile) none l v)
+    let is : IsVerdictOf (count_of profile) none bytes events v =
+    subst (λ (l : List Placed). IsVerdictOf (count_of profile) none bytes l v)
     (document_once bytes given.0 events given.1 document) given.2.1 in
-    let plain = verdict_alone (count_of profile) events v is in
+    let plain = verdict_alone (count_of profile) events v (events_alone (count_of profile) bytes events v is) in
     rw (given.2.2, given.2.3, plain.2, same_line plain.0)
     (one_given (count_of profile) eight events bytes more document plain.0 starts bare plain.1)

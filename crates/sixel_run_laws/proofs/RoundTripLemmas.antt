@@ -1,5 +1,5 @@
 -- The text of a picture, checked.
-use Rattle.std.specs.Prelude.{Ok, Err}
+use Rattle.std.specs.Prelude.{Ok, Err, None}
 use Rattle.std.proofs.Common.{◌≤◌, arith, ◌≡◌, ◌∙◌, ◌+◌, ℕ, List, [], ◌∷◌, length, refl, sym, ap, subst}
 use Rattle.sixel_grammar.specs.declared.command.Event.{Event}
 use Rattle.sixel_grammar.specs.declared.command.Placed.{Placed}
@@ -21,6 +21,8 @@ use Rattle.sixel_model.specs.Profiles.{count_of}
 use Rattle.sixel_model.specs.declared.profile.Profile.{Profile}
 use Rattle.sixel_model.proofs.PictureLemmas.{at_most_256}
 use Rattle.sixel_run_laws.specs.Laws.{EncodedAnswers, EncodedChecks, EncodedIsPortable}
+use Rattle.sixel_emulator_check.specs.Laws.{none}
+use Rattle.sixel_emulator_check.specs.Written.{IsVerdictOf}
 use Rattle.sixel_emulator_check.proofs.NoneLemmas.{none_asked}
 use Rattle.sixel_run.proofs.CheckLemmas.{same_verdict}
 
@@ -57,4 +59,13 @@ encoded_answers profile p (Err (Grammar fault)) is answers =
 
 pub encoded_checks : (profile : Profile) → EncodedChecks (count_of profile)
 encoded_checks profile p is =
-    let found = encoded_is_portable profile p is in (found.0, found.1, (named.Portable p, (found.2.0, none_asked _, found.2.1), refl, refl))
+    let found = encoded_is_portable profile p is in
+    let verdict : IsVerdictOf (count_of profile) none (canon_text p) found.0 (named.Portable p) =
+    record {
+      by_events = named.Portable p;
+      is = (found.2.0, none_asked (events_of found.0), found.2.1);
+      bare = None;
+      bare_is = refl;
+      verdict_is = refl;
+    } in
+    (found.0, found.1, (named.Portable p, verdict, refl, refl))

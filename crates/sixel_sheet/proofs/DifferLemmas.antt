@@ -17,7 +17,7 @@ use Rattle.sixel_model.specs.Pictures.{is_side, most_side}
 use Rattle.sixel_terminal.specs.Drawing.{height_of, touches_on}
 use Rattle.sixel_named_terminals.specs.declared.named.Named.{Named}
 use Rattle.sixel_named_terminals.specs.declared.named.Named.TheVariants.{XTerm, MlTerm, Foot, Konsole}
-use Rattle.sixel_named_terminals.specs.Named.{model_of}
+use Rattle.sixel_named_terminals.specs.Named.{heard_on, model_of}
 use Rattle.sixel_named_terminals.proofs.NamedLemmas.{said_does_not_end, screen_once, shows_or_ends}
 use Rattle.sixel_mend.specs.declared.mending.Mending.{Mending}
 use Rattle.sixel_mend.specs.Screens.{mending_terminal}
@@ -153,8 +153,8 @@ pub views_once : (background : Parts) (bytes : List ℕ) (v w : Views) → AreVi
     → AreViews background bytes w → v ≡ w
 views_once background bytes v w p q =
     views_are v w sides.0 down (λ named.
-    view_once named background (w.width, w.height) q.placed (view_in v named) (view_in w named) (moved named)
-    (q.views named))
+    view_once named background (w.width, w.height) (heard_on named bytes q.placed) (view_in v named) (view_in w named)
+    (moved named) (q.views named))
   where
     sides : (v.width ≡ w.width) × (p.height ≡ q.height)
     sides = sizes_once some_mending bytes p.placed q.placed v.width p.height w.width q.height p.document q.document
@@ -163,12 +163,14 @@ views_once background bytes v w p q =
     down : v.height ≡ w.height
     down = bands_once q.height v.height w.height (subst (λ (h : ℕ). IsInBands h v.height) sides.1 p.banded) q.banded
 
-    moved : (named : Named) → IsView named background (w.width, w.height) q.placed (view_in v named)
+    moved : (named : Named)
+        → IsView named background (w.width, w.height) (heard_on named bytes q.placed) (view_in v named)
     moved named =
-        subst (λ (l : List Placed). IsView named background (w.width, w.height) l (view_in v named))
+        let heard = heard_on named bytes p.placed in
+        subst (λ (l : List Placed). IsView named background (w.width, w.height) (heard_on named bytes l) (view_in v named))
         (document_once bytes p.placed q.placed p.document q.document)
-        (subst (λ (n : ℕ). IsView named background (w.width, n) p.placed (view_in v named)) down
-        (subst (λ (n : ℕ). IsView named background (n, v.height) p.placed (view_in v named)) sides.0 (p.views named)))
+        (subst (λ (n : ℕ). IsView named background (w.width, n) heard (view_in v named)) down
+        (subst (λ (n : ℕ). IsView named background (n, v.height) heard (view_in v named)) sides.0 (p.views named)))
 
 some_view : (named : Named) (background : Parts) (sides : ℕ × ℕ) (d : List Placed)
     → (view : View) × IsView named background sides d view
@@ -178,29 +180,29 @@ some_view named background sides d =
       | inr s ↦ (Screen s.0, s.1)
     ]
 
-abbrev views_on : Parts → ℕ × ℕ → List Placed → Views
-views_on background sides d = record {
+abbrev views_on : Parts → ℕ × ℕ → List ℕ → List Placed → Views
+views_on background sides bytes d = record {
   width = sides.0;
   height = sides.1;
-  xterm = (some_view XTerm background sides d).0;
-  mlterm = (some_view MlTerm background sides d).0;
-  foot = (some_view Foot background sides d).0;
-  konsole = (some_view Konsole background sides d).0;
+  xterm = (some_view XTerm background sides (heard_on XTerm bytes d)).0;
+  mlterm = (some_view MlTerm background sides (heard_on MlTerm bytes d)).0;
+  foot = (some_view Foot background sides (heard_on Foot bytes d)).0;
+  konsole = (some_view Konsole background sides (heard_on Konsole bytes d)).0;
 }
 
-is_view_on : (background : Parts) (sides : ℕ × ℕ) (d : List Placed) (named : Named)
-    → IsView named background sides d (view_in (views_on background sides d) named)
-is_view_on background sides d XTerm = (some_view XTerm background sides d).1
-is_view_on background sides d MlTerm = (some_view MlTerm background sides d).1
-is_view_on background sides d Foot = (some_view Foot background sides d).1
-is_view_on background sides d Konsole = (some_view Konsole background sides d).1
+is_view_on : (background : Parts) (sides : ℕ × ℕ) (bytes : List ℕ) (d : List Placed) (named : Named)
+    → IsView named background sides (heard_on named bytes d) (view_in (views_on background sides bytes d) named)
+is_view_on background sides bytes d XTerm = (some_view XTerm background sides (heard_on XTerm bytes d)).1
+is_view_on background sides bytes d MlTerm = (some_view MlTerm background sides (heard_on MlTerm bytes d)).1
+is_view_on background sides bytes d Foot = (some_view Foot background sides (heard_on Foot bytes d)).1
+is_view_on background sides bytes d Konsole = (some_view Konsole background sides (heard_on Konsole bytes d)).1
 
 some_views : (background : Parts) (bytes : List ℕ) (d : List Placed) (w h : ℕ) → Document d bytes
     → ((m : Mending) → IsSize m (events_of d) w h) → IsTrue (is_side w && is_side h)
     → (v : Views) × AreViews background bytes v
 some_views background bytes d w h doc size sides =
     let b = bands_of h in (
-      views_on background (w, b.0) d,
+      views_on background (w, b.0) bytes d,
       record {
         placed = d;
         document = doc;
@@ -208,7 +210,7 @@ some_views background bytes d w h doc size sides =
         size = size;
         sides = sides;
         banded = b.1;
-        views = λ named. is_view_on background (w, b.0) d named;
+        views = λ named. is_view_on background (w, b.0) bytes d named;
       },
     )
 

@@ -25,7 +25,7 @@ use Rattle.sixel_named_terminals.specs.declared.named.Named.TheVariants.{XTerm, 
 use Rattle.sixel_named_terminals.specs.declared.showing.ShowFault.{ShowFault}
 use Rattle.sixel_named_terminals.specs.declared.showing.ShowFault.TheVariants as show
 use Rattle.sixel_emulator.specs.Modelled.{EndsAtPlace}
-use Rattle.sixel_named_terminals.specs.Named.{GivesScreen, IsScreenOn, ShowsDocument, ShowsOn, model_of, terminal_on}
+use Rattle.sixel_named_terminals.specs.Named.{GivesScreen, IsScreenOn, ShowsDocument, ShowsOn, heard_on, model_of, terminal_on}
 use Rattle.sixel_emulator.specs.Readings.{EndsAt, IsSaid, Model}
 use Rattle.sixel_named_terminals.proofs.NamedLemmas.{ends_somewhere, one_end, said_does_not_end}
 use Rattle.sixel_named_terminals.proofs.NamedLemmas.{said_or_ends, screen_once, shows_or_ends}
@@ -48,20 +48,34 @@ Sides = ℕ × ℕ
 
 -- ---- the document, read in another way
 
-moved_end : (m : Model) (bytes : List ℕ) (d e : List Placed) (place : ℕ) → Document d bytes → Document e bytes
-    → EndsAtPlace m e place → EndsAtPlace m d place
-moved_end m bytes d e place p q is =
-    subst (λ (l : List Placed). EndsAtPlace m l place) (document_once bytes e d q p) is
+moved_end : (named : Named) (bytes : List ℕ) (d e : List Placed) (place : ℕ) → Document d bytes → Document e bytes
+    → EndsAtPlace (model_of named) (heard_on named bytes e) place
+    → EndsAtPlace (model_of named) (heard_on named bytes d) place
+moved_end named bytes d e place p q is =
+    subst (λ (l : List Placed). EndsAtPlace (model_of named) (heard_on named bytes l) place)
+    (document_once bytes e d q p) is
 
-moved_said : (m : Model) (bytes : List ℕ) (d e : List Placed) → Document d bytes → Document e bytes
-    → IsSaid m (events_of e) → IsSaid m (events_of d)
-moved_said m bytes d e p q is =
-    subst (λ (l : List Placed). IsSaid m (events_of l)) (document_once bytes e d q p) is
+moved_said : (named : Named) (bytes : List ℕ) (d e : List Placed) → Document d bytes → Document e bytes
+    → IsSaid (model_of named) (events_of (heard_on named bytes e))
+    → IsSaid (model_of named) (events_of (heard_on named bytes d))
+moved_said named bytes d e p q is =
+    subst (λ (l : List Placed). IsSaid (model_of named) (events_of (heard_on named bytes l)))
+    (document_once bytes e d q p) is
 
-said_and_ends : (m : Model) (bytes : List ℕ) (d e : List Placed) (place : ℕ) → Document d bytes → Document e bytes
-    → EndsAtPlace m d place → IsSaid m (events_of e) → ⊥
-said_and_ends m bytes d e place p q ends said =
-    said_does_not_end m (events_of d) ends.at (moved_said m bytes d e p q said) ends.ends
+said_and_ends : (named : Named) (bytes : List ℕ) (d e : List Placed) (place : ℕ) → Document d bytes → Document e bytes
+    → EndsAtPlace (model_of named) (heard_on named bytes d) place
+    → IsSaid (model_of named) (events_of (heard_on named bytes e)) → ⊥
+said_and_ends named bytes d e place p q ends said =
+    said_does_not_end (model_of named) (events_of (heard_on named bytes d)) ends.at
+    (moved_said named bytes d e p q said) ends.ends
+
+-- what is drawn before the first event doesn't hang on what is heard
+opening_heard : (named : Named) (bytes : List ℕ) (placed : List Placed)
+    → (model_of named).opening (events_of placed) ≡ (model_of named).opening (events_of (heard_on named bytes placed))
+opening_heard XTerm bytes placed = refl
+opening_heard MlTerm bytes placed = refl
+opening_heard Foot bytes placed = refl
+opening_heard Konsole bytes placed = refl
 
 moved_sides : (area : Area) (bytes : List ℕ) (d e : List Placed) (o : Option Sides) → Document d bytes
     → Document e bytes → sides_in area (events_of e) ≡ o → sides_in area (events_of d) ≡ o
@@ -75,48 +89,48 @@ sides_or_none area bytes d e sides p q none is =
 
 one_screen : (named : Named) (background : Parts) (area : Area) (bytes : List ℕ) (d e : List Placed) (a b : Sides)
     (screen other : Shown) → Document d bytes → Document e bytes → sides_in area (events_of d) ≡ Some a
-    → sides_in area (events_of e) ≡ Some b → IsScreenOn named background a (events_of d) screen
-    → IsScreenOn named background b (events_of e) other → (b ≡ a) × (other ≡ screen)
+    → sides_in area (events_of e) ≡ Some b → IsScreenOn named background a (events_of (heard_on named bytes d)) screen
+    → IsScreenOn named background b (events_of (heard_on named bytes e)) other → (b ≡ a) × (other ≡ screen)
 one_screen named background area bytes d e a b screen other p q is are on there =
     let whole : Some b ≡ Some a = sym (moved_sides area bytes d e (Some b) p q are) ∙ is in
     let same : b ≡ a = cc in
-    let here : IsScreenOn named background b (events_of d) other =
-    subst (λ (l : List Placed). IsScreenOn named background b (events_of l) other) (document_once bytes e d q p) there in
-    let now : IsScreenOn named background a (events_of d) other =
-    subst (λ (s : Sides). IsScreenOn named background s (events_of d) other) same here in
-    (same, screen_once named background a (events_of d) other screen now on)
+    let here : IsScreenOn named background b (events_of (heard_on named bytes d)) other =
+    subst (λ (l : List Placed). IsScreenOn named background b (events_of (heard_on named bytes l)) other) (document_once bytes e d q p) there in
+    let now : IsScreenOn named background a (events_of (heard_on named bytes d)) other =
+    subst (λ (s : Sides). IsScreenOn named background s (events_of (heard_on named bytes d)) other) same here in
+    (same, screen_once named background a (events_of (heard_on named bytes d)) other screen now on)
 
 -- ---- at most one output
 
 -- the output of a document at which the model ends
 of_ended : (named : Named) (background : Parts) (area : Area) (bytes : List ℕ) (d : List Placed) (place : ℕ)
-    → Document d bytes → EndsAtPlace (model_of named) d place → (text : Text) (a : Result Status RunFault)
+    → Document d bytes → EndsAtPlace (model_of named) (heard_on named bytes d) place → (text : Text) (a : Result Status RunFault)
     → ShowOnGives named background area bytes text a → (text ≡ []) × (a ≡ Err (Unmodelled place))
 of_ended named background area bytes d place doc is text (Ok s) g =
-    absurd (said_and_ends (model_of named) bytes d g.0 place doc g.1 is g.2.2.1.said)
+    absurd (said_and_ends named bytes d g.0 place doc g.1 is g.2.2.1.said)
 of_ended named background area bytes d place doc is text (Err NotRgb) g =
-    absurd (said_and_ends (model_of named) bytes d g.1.0 place doc g.1.1 is g.1.2.2.1.said)
+    absurd (said_and_ends named bytes d g.1.0 place doc g.1.1 is g.1.2.2.1.said)
 of_ended named background area bytes d place doc is text (Err (Unmodelled p)) g = (
   g.0,
-  ap (λ (k : ℕ). Err (Unmodelled k)) (one_end (model_of named) d p place
-      (moved_end (model_of named) bytes d g.1.0 p doc g.1.1 g.1.2) is),
+  ap (λ (k : ℕ). Err (Unmodelled k)) (one_end (model_of named) (heard_on named bytes d) p place
+      (moved_end named bytes d g.1.0 p doc g.1.1 g.1.2) is),
 )
 of_ended named background area bytes d place doc is text (Err NoBox) g =
-    absurd (said_and_ends (model_of named) bytes d g.1.0 place doc g.1.1 is g.1.2)
+    absurd (said_and_ends named bytes d g.1.0 place doc g.1.1 is g.1.2)
 of_ended named background area bytes d place doc is text (Err (Grammar f)) g =
     absurd (fault_no_document bytes f g.1 (d, doc))
 of_ended named background area bytes d place doc is text (Err other) g = absurd g
 
 -- the output of a document of which the model says all, if no screen has the sides
 of_unsized : (named : Named) (background : Parts) (area : Area) (bytes : List ℕ) (d : List Placed) → Document d bytes
-    → IsSaid (model_of named) (events_of d) → sides_in area (events_of d) ≡ None → (text : Text)
+    → IsSaid (model_of named) (events_of (heard_on named bytes d)) → sides_in area (events_of d) ≡ None → (text : Text)
     (a : Result Status RunFault) → ShowOnGives named background area bytes text a → (text ≡ []) × (a ≡ Err NoBox)
 of_unsized named background area bytes d doc said none text (Ok s) g =
     absurd (sides_or_none area bytes d g.0 g.2.0 doc g.1 none g.2.1)
 of_unsized named background area bytes d doc said none text (Err NotRgb) g =
     absurd (sides_or_none area bytes d g.1.0 g.1.2.0 doc g.1.1 none g.1.2.1)
 of_unsized named background area bytes d doc said none text (Err (Unmodelled p)) g =
-    absurd (said_and_ends (model_of named) bytes g.1.0 d p g.1.1 doc g.1.2 said)
+    absurd (said_and_ends named bytes g.1.0 d p g.1.1 doc g.1.2 said)
 of_unsized named background area bytes d doc said none text (Err NoBox) g = (g.0, refl)
 of_unsized named background area bytes d doc said none text (Err (Grammar f)) g =
     absurd (fault_no_document bytes f g.1 (d, doc))
@@ -125,7 +139,7 @@ of_unsized named background area bytes d doc said none text (Err other) g = absu
 -- the output of a document with a screen
 of_screen : (named : Named) (background : Parts) (area : Area) (bytes : List ℕ) (d : List Placed) (sides : Sides)
     (screen : Shown) → Document d bytes → sides_in area (events_of d) ≡ Some sides
-    → IsScreenOn named background sides (events_of d) screen → (rgb : Bool) → are_rgb screen.colours ≡ rgb
+    → IsScreenOn named background sides (events_of (heard_on named bytes d)) screen → (rgb : Bool) → are_rgb screen.colours ≡ rgb
     → (text : Text) (a : Result Status RunFault) → ShowOnGives named background area bytes text a
     → (text ≡ if rgb then ppm_text sides.0 sides.1 screen.colours else [])
     × (a ≡ if rgb then Ok Done else Err NotRgb)
@@ -143,7 +157,7 @@ of_screen named background area bytes d sides screen doc is on true e text (Err 
     absurd (not-both _ _ (ap (λ (w : Shown). are_rgb w.colours) (sym same.1)) e g.1.2.2.2)
 of_screen named background area bytes d sides screen doc is on false e text (Err NotRgb) g = (g.0, refl)
 of_screen named background area bytes d sides screen doc is on rgb e text (Err (Unmodelled p)) g =
-    absurd (said_and_ends (model_of named) bytes g.1.0 d p g.1.1 doc g.1.2 on.said)
+    absurd (said_and_ends named bytes g.1.0 d p g.1.1 doc g.1.2 on.said)
 of_screen named background area bytes d sides screen doc is on rgb e text (Err NoBox) g =
     absurd (sides_or_none area bytes g.1.0 d sides g.1.1 doc g.1.3 is)
 of_screen named background area bytes d sides screen doc is on rgb e text (Err (Grammar f)) g =
@@ -175,9 +189,9 @@ HasOnly named background area bytes =
     (text : Text) × (answer : Result Status RunFault) × IsOnly named background area bytes text answer
 
 only_ended : (named : Named) (background : Parts) (area : Area) (bytes : List ℕ) (d : List Placed) (i : ℕ)
-    → Document d bytes → EndsAt (model_of named) (events_of d) i → HasOnly named background area bytes
+    → Document d bytes → EndsAt (model_of named) (events_of (heard_on named bytes d)) i → HasOnly named background area bytes
 only_ended named background area bytes d i doc ends =
-    let p = ends_somewhere (model_of named) d i ends in (
+    let p = ends_somewhere (model_of named) (heard_on named bytes d) i ends in (
       [],
       Err (Unmodelled p.0),
       record { given = (refl, (d, doc, p.1)); once = of_ended named background area bytes d p.0 doc p.1 },
@@ -185,7 +199,7 @@ only_ended named background area bytes d i doc ends =
 
 only_screen : (named : Named) (background : Parts) (area : Area) (bytes : List ℕ) (d : List Placed) (sides : Sides)
     (screen : Shown) → Document d bytes → sides_in area (events_of d) ≡ Some sides
-    → IsScreenOn named background sides (events_of d) screen → (rgb : Bool) → are_rgb screen.colours ≡ rgb
+    → IsScreenOn named background sides (events_of (heard_on named bytes d)) screen → (rgb : Bool) → are_rgb screen.colours ≡ rgb
     → HasOnly named background area bytes
 only_screen named background area bytes d sides screen doc is on true e = (
   ppm_text sides.0 sides.1 screen.colours,
@@ -207,12 +221,12 @@ only_screen named background area bytes d sides screen doc is on false e = (
 only_sized : (named : Named) (background : Parts) (area : Area) (bytes : List ℕ) (d : List Placed) (o : Option Sides)
     → Document d bytes → sides_in area (events_of d) ≡ o → HasOnly named background area bytes
 only_sized named background area bytes d (Some sides) doc is =
-    elim (shows_or_ends named background sides (events_of d)) [
+    elim (shows_or_ends named background sides (events_of (heard_on named bytes d))) [
       | inl e ↦ only_ended named background area bytes d e.0 doc e.1
       | inr s ↦ only_screen named background area bytes d sides s.0 doc is s.1 (are_rgb s.0.colours) refl
     ]
 only_sized named background area bytes d None doc is =
-    elim (said_or_ends (model_of named) (events_of d)) [
+    elim (said_or_ends (model_of named) (events_of (heard_on named bytes d))) [
       | inl e ↦ only_ended named background area bytes d e.0 doc e.1
       | inr s ↦ (
         [],
@@ -261,7 +275,8 @@ shown_in named background area bytes d sides opening screen doc first is g =
       (
         sides,
         subst (λ (l : List Placed). sides_in area (events_of l) ≡ Some sides) same is,
-        g.2 (first ∙ ap (λ (l : List Placed). (model_of named).opening (events_of l)) same),
+        g.2 (first ∙ opening_heard named bytes d
+            ∙ ap (λ (l : List Placed). (model_of named).opening (events_of (heard_on named bytes l))) same),
       ),
     )
 
@@ -271,7 +286,8 @@ pub boxless_in : (named : Named) (background : Parts) (area : Area) (bytes : Lis
     → ShowsIn named background area bytes (Err NoBox)
 boxless_in named background area bytes d sides opening screen doc first none g =
     let same : d ≡ g.0 = document_once bytes d g.0 doc g.1 in
-    let on = g.2 (first ∙ ap (λ (l : List Placed). (model_of named).opening (events_of l)) same) in
+    let on = g.2 (first ∙ opening_heard named bytes d
+    ∙ ap (λ (l : List Placed). (model_of named).opening (events_of (heard_on named bytes l))) same) in
     (g.0, g.1, on.said, subst (λ (l : List Placed). sides_in area (events_of l) ≡ None) same none)
 
 pub document_fault : (named : Named) (background : Parts) (width height : ℕ) (bytes : List ℕ) (fault : ShowFault)
@@ -309,7 +325,7 @@ written : {A : Type 0} (named : Named) (background : Parts) (area : Area) (bytes
     → WroteBy (ShowOnGives named background area bytes) WroteNothing (Ok Done) had.taken has.taken
 written {A} named background area bytes screen x had has g put =
     let sides = g.2.0 in
-    let s = screen_sides named background sides (events_of g.0) screen g.2.2 in
+    let s = screen_sides named background sides (events_of (heard_on named bytes g.0)) screen g.2.2 in
     let wrote : WritesPpm {A = A} (Ok x) had has sides.0 sides.1 screen.colours =
     sized (Ok x) had has screen.width screen.height sides.0 sides.1 screen.colours s.0 s.1 put in (
       ppm_text sides.0 sides.1 screen.colours,
@@ -346,7 +362,7 @@ unwritten : (A : Type 0) (named : Named) (background : Parts) (area : Area) (byt
     → WritesPpm {A = A} (Err fault) had has screen.width screen.height screen.colours
     → WroteBy (ShowOnGives named background area bytes) WroteNothing (Err (of_ppm fault)) had.taken has.taken
 unwritten A named background area bytes screen fault had has g put =
-    let s = screen_sides named background g.2.0 (events_of g.0) screen g.2.2 in
+    let s = screen_sides named background g.2.0 (events_of (heard_on named bytes g.0)) screen g.2.2 in
     unwritten_of A named background area bytes screen fault had has g
     (sized {A = A} (Err fault) had has screen.width screen.height g.2.0.0 g.2.0.1 screen.colours s.0 s.1 put)
 

@@ -16,7 +16,7 @@ use Rattle.sixel_konsole.specs.Konsole.{StaysLow, konsole_model}
 use Rattle.sixel_konsole.specs.KonsoleSeen.{HasSeenKonsole}
 use Rattle.sixel_konsole.specs.Measuring.{HasTakenAll}
 use Rattle.sixel_emulator.specs.Modelled.{EndsAtPlace, HasFollowed, opening_of}
-use Rattle.sixel_named_terminals.specs.Named.{IsScreenOn, model_of}
+use Rattle.sixel_named_terminals.specs.Named.{IsScreenOn, heard_on, model_of}
 use Rattle.sixel_emulator.specs.Readings.{IsSaid}
 use Rattle.sixel_terminal.specs.Screens.{Shown}
 use Rattle.sixel_report.specs.declared.fault.RunFault.{RunFault}
@@ -49,11 +49,11 @@ abbrev pub ShowsIn : Named → Parts → Area → List ℕ → Result Shown RunF
 ShowsIn named background area bytes (Ok screen) =
     (placed : List Placed) × Document placed bytes
     × ((sides : ℕ × ℕ) × (sides_in area (events_of placed) ≡ Some sides)
-    × IsScreenOn named background sides (events_of placed) screen)
+    × IsScreenOn named background sides (events_of (heard_on named bytes placed)) screen)
 ShowsIn named background area bytes (Err (Unmodelled place)) =
-    (placed : List Placed) × Document placed bytes × EndsAtPlace (model_of named) placed place
+    (placed : List Placed) × Document placed bytes × EndsAtPlace (model_of named) (heard_on named bytes placed) place
 ShowsIn named background area bytes (Err NoBox) =
-    (placed : List Placed) × Document placed bytes × IsSaid (model_of named) (events_of placed)
+    (placed : List Placed) × Document placed bytes × IsSaid (model_of named) (events_of (heard_on named bytes placed))
     × (sides_in area (events_of placed) ≡ None)
 ShowsIn named background area bytes (Err (Grammar fault)) = IsFaultOf bytes fault
 ShowsIn named background area bytes (Err OutOfMemory) = ⊤

@@ -12,7 +12,7 @@ use Rattle.sixel_terminal.specs.Drawing.{screen_on}
 use Rattle.sixel_terminal.specs.Screens.{Shown}
 use Rattle.sixel_named_terminals.specs.declared.named.Named.{Named}
 use Rattle.sixel_emulator.specs.Modelled.{EndsAtPlace}
-use Rattle.sixel_named_terminals.specs.Named.{IsScreenOn, model_of}
+use Rattle.sixel_named_terminals.specs.Named.{IsScreenOn, heard_on, model_of}
 use Rattle.sixel_emulator.specs.Readings.{IsSaid}
 use Rattle.sixel_report.specs.declared.fault.RunFault.{RunFault}
 use Rattle.sixel_report.specs.declared.fault.RunFault.TheVariants.{Grammar, NotRgb, NoBox, Unmodelled}
@@ -62,17 +62,17 @@ abbrev pub ShowOnGives : Named → Parts → Area → List ℕ → Text → Resu
 ShowOnGives named background area bytes text (Ok status) =
     (placed : List Placed) × Document placed bytes
     × ((sides : ℕ × ℕ) × (sides_in area (events_of placed) ≡ Some sides)
-    × ((screen : Shown) × IsScreenOn named background sides (events_of placed) screen
+    × ((screen : Shown) × IsScreenOn named background sides (events_of (heard_on named bytes placed)) screen
     × IsTrue (are_rgb screen.colours) × (text ≡ ppm_text sides.0 sides.1 screen.colours) × (status ≡ Done)))
 ShowOnGives named background area bytes text (Err NotRgb) = (text ≡ [])
     × ((placed : List Placed) × Document placed bytes
     × ((sides : ℕ × ℕ) × (sides_in area (events_of placed) ≡ Some sides)
-    × ((screen : Shown) × IsScreenOn named background sides (events_of placed) screen
+    × ((screen : Shown) × IsScreenOn named background sides (events_of (heard_on named bytes placed)) screen
     × IsFalse (are_rgb screen.colours))))
 ShowOnGives named background area bytes text (Err (Unmodelled place)) = (text ≡ [])
-    × ((placed : List Placed) × Document placed bytes × EndsAtPlace (model_of named) placed place)
+    × ((placed : List Placed) × Document placed bytes × EndsAtPlace (model_of named) (heard_on named bytes placed) place)
 ShowOnGives named background area bytes text (Err NoBox) = (text ≡ [])
-    × ((placed : List Placed) × Document placed bytes × IsSaid (model_of named) (events_of placed)
+    × ((placed : List Placed) × Document placed bytes × IsSaid (model_of named) (events_of (heard_on named bytes placed))
     × (sides_in area (events_of placed) ≡ None))
 ShowOnGives named background area bytes text (Err (Grammar fault)) = (text ≡ []) × IsFaultOf bytes fault
 ShowOnGives named background area bytes text (Err fault) = ⊥

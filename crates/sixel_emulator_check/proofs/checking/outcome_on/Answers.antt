@@ -16,9 +16,11 @@ returns-then-are_none g c =
 pub returns : goal.returns
 returns g c =
     let asked = c.finding-asked.result in
-    rw c.join_outcome-2.ensures
-    (reads_on c.in_ok-both.both _ (g.S.Source.state c.args.input.now) _
+    rw (c.add_bare.ensures, c.join_outcome-by_events.ensures)
+    (reads_on _ _ (g.S.Source.state c.args.input.now) _
     (λ bytes h.
-    answers_outcome _ _ h.0 bytes _ asked (at_most_256 c.args.profile) h.1 (c.outcome.ensures _ h.0 h.2.seen)
-    (subst (λ (t : Terminals). IsAnswer t h.0 asked) h.2.terminals (c.finding-asked.ensures h.0 h.2.asked)))
+    answers_outcome _ _ h.0 bytes _ asked c.bare_for.result (at_most_256 c.args.profile) h.1
+    (c.outcome.ensures _ h.0 h.2.seen)
+    (subst (λ (t : Terminals). IsAnswer t h.0 asked) h.2.terminals (c.finding-asked.ensures h.0 h.2.asked))
+    (c.bare_for.ensures bytes h.3))
     c.in_ok-both.ensures.reads)

@@ -1,8 +1,7 @@
 use Rattle.std.proofs.Common.{◌∙◌, [], refl}
-use Rattle.sixel_named_terminals.specs.declared.named.Named.TheVariants.{Foot}
 use Rattle.sixel_named_terminals.proofs.showing.show_on_foot.Goals as goal
 
 pub returns : goal.returns
 returns c =
-    c.show_bytes.ensures Foot c.args.background (c.args.width, c.args.height) [] refl c.in_ok-as_foot.ensures.followed
+    c.show_bytes.ensures c.args.background (c.args.width, c.args.height) [] refl c.in_ok-as_foot.ensures.followed
     (c.in_ok-as_foot.ensures.terminal ∙ c.in_ok-new.ensures.terminal ∙ c.in_ok-terminal.ensures)

@@ -1,8 +1,7 @@
 use Rattle.std.proofs.Common.{◌∙◌, [], refl}
-use Rattle.sixel_named_terminals.specs.declared.named.Named.TheVariants.{MlTerm}
 use Rattle.sixel_named_terminals.proofs.showing.show_on_mlterm.Goals as goal
 
 pub returns : goal.returns
 returns c =
-    c.show_bytes.ensures MlTerm c.args.background (c.args.width, c.args.height) [] refl c.as_mlterm.ensures.followed
+    c.show_bytes.ensures c.args.background (c.args.width, c.args.height) [] refl c.as_mlterm.ensures.followed
     (c.as_mlterm.ensures.terminal ∙ c.in_ok-new.ensures.terminal ∙ c.in_ok-terminal.ensures)

@@ -1,8 +1,7 @@
 use Rattle.std.proofs.Common.{◌∙◌, [], refl}
-use Rattle.sixel_named_terminals.specs.declared.named.Named.TheVariants.{XTerm}
 use Rattle.sixel_named_terminals.proofs.showing.show_on_xterm.Goals as goal
 
 pub returns : goal.returns
 returns c =
-    c.show_bytes.ensures XTerm c.args.background (c.args.width, c.args.height) [] refl c.as_xterm.ensures.followed
+    c.show_bytes.ensures c.args.background (c.args.width, c.args.height) [] refl c.as_xterm.ensures.followed
     (c.as_xterm.ensures.terminal ∙ c.in_ok-new.ensures.terminal ∙ c.in_ok-terminal.ensures)

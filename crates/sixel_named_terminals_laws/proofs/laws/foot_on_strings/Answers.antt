@@ -27,3 +27,6 @@ returns-clause-late_box c = refl
 pub returns-clause-pen : goal.returns-clause-pen
 unfolding after_each after_first band column latest since
 returns-clause-pen c = (λ next. refl, λ next. refl)
+
+pub returns-clause-bare_select : goal.returns-clause-bare_select
+returns-clause-bare_select c = refl

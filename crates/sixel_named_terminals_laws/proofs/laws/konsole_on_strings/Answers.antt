@@ -15,4 +15,5 @@ returns c = record {
   dropped_raster = refl;
   tall = refl;
   unknown_system = refl;
+  bare_select = refl;
 }

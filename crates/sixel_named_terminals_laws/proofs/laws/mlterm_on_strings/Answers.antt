@@ -16,4 +16,5 @@ returns c = record {
   far_blank = λ next. refl;
   two_boxes = λ next. refl;
   undefined = λ next. refl;
+  bare_select = (refl, λ before next. refl);
 }

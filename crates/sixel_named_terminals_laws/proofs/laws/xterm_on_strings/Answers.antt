@@ -1,4 +1,6 @@
-use Rattle.std.proofs.Common.{refl}
+use Rattle.std.proofs.Common.{◌≡◌, Bool, true, false, refl}
+use Rattle.std.specs.Prelude.{if◌then◌else◌}
+use Rattle.sixel_emulator.specs.declared.reading.Reads.TheVariants.{Stops}
 use Rattle.sixel_model.specs.Geometry.{band}
 use Rattle.sixel_model.specs.Positions.{latest}
 use Rattle.sixel_emulator.specs.Words.{after_each, after_first, greatest}
@@ -48,3 +50,10 @@ returns-clause-last_band_sixel c = (λ next. refl, λ next. refl)
 pub returns-clause-last_band_repeat : goal.returns-clause-last_band_repeat
 unfolding band greatest latest xterm_pen after_each after_first
 returns-clause-last_band_repeat c = (λ next. refl, λ next. refl)
+
+both_stop : (b : Bool) → (if b then Stops else Stops) ≡ Stops
+both_stop true = refl
+both_stop false = refl
+
+pub returns-clause-bare_select : goal.returns-clause-bare_select
+returns-clause-bare_select c = (refl, λ before next. both_stop (xterm_pen before).ended)

@@ -2,7 +2,7 @@ use Rattle.sixel_model.specs.Profiles.{count_of}
 use Rattle.sixel_ppm.specs.PpmReading.{NoPpmFaultBefore, ppm_read}
 use Rattle.sixel_sheet.specs.Outputs.{DifferGives, sheet_output}
 use Rattle.sixel_run.specs.Outputs.{EncodeGives, MendGives, RenderGives, mending}
-use Rattle.sixel_show.specs.Outputs.{ShowBoxGives, ShowGives}
+use Rattle.sixel_show.specs.Outputs.{ShowBoxGives, ShowGives, ShowOnGives}
 use Rattle.sixel_show.specs.Screens.{screen_terminal, show_choices, show_terminal}
 use Rattle.sixel_run.proofs.LineTaskLemmas.{plain_wrote}
 use Rattle.sixel_run.proofs.RunLemmas.{unread, unread_by}
@@ -80,3 +80,11 @@ returns-in-DifferSheet-clause-wrote g c =
     (g.S.Source.state c.args.input.now).remaining (g.S.Source.state c.differ_sheet.new.input).remaining
     (g.K.Sink.state c.args.output.now).taken (g.K.Sink.state c.differ_sheet.new.output).taken c.differ_sheet.result
     c.differ_sheet.ensures.wrote c.differ_sheet.ensures.unread)
+
+pub returns-in-ShowOn-clause-wrote : goal.returns-in-ShowOn-clause-wrote
+returns-in-ShowOn-clause-wrote g c =
+    rw c.in-ShowOn.is
+    (unread (λ bytes. ShowOnGives c.in-ShowOn.named c.in-ShowOn.background c.in-ShowOn.area bytes)
+    (g.S.Source.state c.args.input.now).remaining (g.S.Source.state c.show_on.new.input).remaining
+    (g.K.Sink.state c.args.output.now).taken (g.K.Sink.state c.show_on.new.output).taken c.show_on.result
+    c.show_on.ensures.wrote c.show_on.ensures.unread)

@@ -1,0 +1,3 @@
+pub mod BareLemmas
+pub mod FirstBareLemmas
+pub mod OpenEndedLemmas

@@ -1,0 +1,2 @@
+pub mod Omissions
+pub mod Seen
