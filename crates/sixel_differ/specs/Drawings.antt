@@ -1,5 +1,5 @@
 -- The drawings of the named terminals while a document is read. Only contracts of private functions cite these.
-use Rattle.std.specs.Prelude.{◌≡◌, ℕ, List, [], Option}
+use Rattle.std.specs.Prelude.{◌≡◌, ℕ, List, []}
 use Rattle.sixel_grammar.specs.declared.command.Event.{Event}
 use Rattle.sixel_grammar.specs.declared.command.Placed.{Placed}
 use Rattle.sixel_grammar.specs.Document.{events_of}
@@ -10,9 +10,10 @@ use Rattle.sixel_konsole.specs.declared.konsole.Konsole.{Konsole as KonsoleReadi
 use Rattle.sixel_konsole.specs.declared.measuring.Measuring.{Measuring}
 use Rattle.sixel_mlterm.specs.declared.mlterm.MlTerm.{MlTerm as MlTermReading}
 use Rattle.sixel_emulator.specs.declared.hearing.Hearing.{Hearing}
+use Rattle.sixel_emulator.specs.declared.hearing.Omitted.{Omitted}
 use Rattle.sixel_emulator.specs.declared.modelled.Modelled.{Modelled}
 use Rattle.sixel_named_terminals.specs.declared.named.Named.{Named}
-use Rattle.sixel_named_terminals.specs.declared.named.Named.TheVariants.{XTerm, MlTerm, Foot}
+use Rattle.sixel_named_terminals.specs.declared.named.Named.TheVariants.{XTerm, MlTerm, Foot, Konsole}
 use Rattle.sixel_xterm.specs.declared.xterm.XTerm.{XTerm as XTermReading}
 use Rattle.sixel_foot.specs.FootSeen.{HasSeenFoot}
 use Rattle.sixel_konsole.specs.Konsole.{konsole_model}
@@ -44,28 +45,37 @@ pub record HasDrawnKonsole (background : Parts) (sides : ℕ × ℕ) (w : OnKons
   pub followed : HasFollowed konsole_model HasSeenKonsole w.one [] placed
   pub measured : HasTakenAll w.other (events_of placed)
 
--- all have taken these events; xterm and mlterm hear others
-pub record HaveDrawn (background : Parts) (sides : ℕ × ℕ) (d : Drawings) (heard placed : List Placed) : Type 0 where
-  pub xterm : HasDrawn XTerm HasSeenXTerm background sides d.one.one heard
-  pub mlterm : HasDrawn MlTerm HasSeenMlTerm background sides d.one.other heard
-  pub foot : HasDrawn Foot HasSeenFoot background sides d.other.one placed
-  pub konsole : HasDrawnKonsole background sides d.other.other placed
+-- each has taken the events that its terminal hears
+pub record HaveDrawn (background : Parts) (sides : ℕ × ℕ) (d : Drawings) (heard : Named → List Placed) : Type 0 where
+  pub xterm : HasDrawn XTerm HasSeenXTerm background sides d.one.one (heard XTerm)
+  pub mlterm : HasDrawn MlTerm HasSeenMlTerm background sides d.one.other (heard MlTerm)
+  pub foot : HasDrawn Foot HasSeenFoot background sides d.other.one (heard Foot)
+  pub konsole : HasDrawnKonsole background sides d.other.other (heard Konsole)
+
+-- no event is heard
+abbrev pub nothing_heard : Named → List Placed
+nothing_heard named = []
 
 -- ---- while they are drawn
 
--- the same while they draw: xterm and mlterm may hear a select otherwise
+-- the same while they draw: all but foot may hear commands otherwise
 abbrev pub Hearings : Type 0
-Hearings = Both (Both (Hearing XTermReading) (Hearing MlTermReading)) (Both (Modelled FootReading) OnKonsole)
+Hearings =
+    Both (Both (Hearing (Modelled XTermReading)) (Hearing (Modelled MlTermReading)))
+    (Both (Modelled FootReading) (Hearing OnKonsole))
 
--- they hear the select at this offset otherwise
-abbrev pub hearing_all : Drawings → Option ℕ → Hearings
-hearing_all d bare = record {
+-- they hear these otherwise
+abbrev pub hearing_all : Drawings → Omitted → Omitted → Omitted → Hearings
+hearing_all d xterm mlterm konsole = record {
   one = record {
-    one = record { modelled = d.one.one; bare = bare };
-    other = record { modelled = d.one.other; bare = bare };
+    one = record { listener = d.one.one; omitted = xterm };
+    other = record { listener = d.one.other; omitted = mlterm };
   };
-  other = d.other;
+  other = record { one = d.other.one; other = record { listener = d.other.other; omitted = konsole } };
 }
 
 abbrev pub drawings_in : Hearings → Drawings
-drawings_in h = record { one = record { one = h.one.one.modelled; other = h.one.other.modelled }; other = h.other }
+drawings_in h = record {
+  one = record { one = h.one.one.listener; other = h.one.other.listener };
+  other = record { one = h.other.one; other = h.other.other.listener };
+}

@@ -1,27 +1,27 @@
 //! The named terminals draw a document in one reading.
 
-ghost use Rattle.std.specs.Prelude.{◌≡◌, ◌&&◌, [], ℕ, IfErr, IfOk, IsTrue, List, true};
+ghost use Rattle.std.specs.Prelude.{◌≡◌, ◌&&◌, [], ℕ, IfErr, IfOk, IsTrue, List};
 ghost use Rattle.sixel_grammar.specs.declared.command.Placed.{Placed as Place};
 ghost use Rattle.sixel_grammar.specs.Document.{Document};
 ghost use Rattle.sixel_model.specs.declared.colour.Parts.{Parts as SomeParts};
 ghost use Rattle.sixel_terminal.specs.Limits.{is_screen_side};
 ghost use Rattle.sixel_named_terminals.specs.declared.named.Named.{Named as ANamed};
-ghost use Rattle.sixel_emulator.specs.Heard.{heard_in};
 ghost use Rattle.sixel_foot.specs.FootSeen.{HasSeenFoot};
 ghost use Rattle.sixel_mlterm.specs.MlTermSeen.{HasSeenMlTerm};
 ghost use Rattle.sixel_named_terminals.specs.Named.{DrawsNothingFirst, heard_on, model_of};
 ghost use Rattle.sixel_xterm.specs.XTermSeen.{HasSeenXTerm};
 ghost use Rattle.sixel_differ.specs.Drawings.{HasDrawn, HasDrawnKonsole, HaveDrawn, drawings_in, hearing_all};
+ghost use Rattle.sixel_differ.specs.Drawings.{nothing_heard};
 ghost use Rattle.sixel_differ.specs.Faults.{IsReadingFault};
 ghost use Rattle.sixel_differ.specs.Views.{IsView, view_in};
 
 use crate::apart::Apart;
 use crate::fault::DifferFault;
 use crate::view::{View, Views};
-use sixel_emulator::{Hearing, Modelled, Reading, bare_in};
+use sixel_emulator::{Hearing, Modelled, Omitted, Reading, omitted_in};
 use sixel_foot::{Foot, as_foot, foot_terminal};
 use sixel_grammar::{Both, follow_document};
-use sixel_konsole::{Konsole, Measuring, as_konsole_at_once, konsole_terminal};
+use sixel_konsole::{OnKonsole, as_konsole_at_once, konsole_terminal};
 use sixel_mlterm::{MlTerm, as_mlterm, mlterm_terminal};
 use sixel_model::Colour;
 use sixel_named_terminals::{Named, ShowFault, konsole_screen};
@@ -29,11 +29,11 @@ use sixel_terminal::Drawing;
 use sixel_xterm::{XTerm, as_xterm, xterm_terminal};
 use std::alloc::{AllocError, Global};
 
-/// A drawing by konsole's model, without its rectangle, and a measure of that.
-type OnKonsole = Both<Modelled<Konsole>, Measuring>;
-
 /// The drawings while they take events.
-type Hearings = Both<Both<Hearing<XTerm>, Hearing<MlTerm>>, Both<Modelled<Foot>, OnKonsole>>;
+type Hearings = Both<
+    Both<Hearing<Modelled<XTerm>>, Hearing<Modelled<MlTerm>>>,
+    Both<Modelled<Foot>, Hearing<OnKonsole>>,
+>;
 
 /// A drawing by the model of each terminal.
 pub(crate) type Drawings = Both<
@@ -108,7 +108,7 @@ pub(crate) fn begin(
     height: u32,
 ) -> Result<Drawings, AllocError>
     requires { IsTrue (is_screen_side width && is_screen_side height) }
-    ensures { IfOk result (λ drawings. HaveDrawn background (width, height) drawings [] []) }
+    ensures { IfOk result (λ drawings. HaveDrawn background (width, height) drawings nothing_heard) }
 {
     let xterm = begin_xterm(alloc, background, width, height)?;
     let mlterm = begin_mlterm(alloc, background, width, height)?;
@@ -126,23 +126,29 @@ pub(crate) fn begin(
     })
 }
 
-/// The drawings while they take events: xterm and mlterm hear the select at this offset otherwise.
-fn hearing_all(drawings: Drawings, bare: Option<u64>) -> Hearings
-    ensures { result ≡ hearing_all drawings bare }
+/// The drawings while they take events: xterm, mlterm and konsole hear these otherwise.
+fn hearing_all(drawings: Drawings, xterm: Omitted, mlterm: Omitted, konsole: Omitted) -> Hearings
+    ensures { result ≡ hearing_all drawings xterm mlterm konsole }
 {
     let Both { one, other } = drawings;
     Both {
         one: Both {
             one: Hearing {
-                modelled: one.one,
-                bare,
+                listener: one.one,
+                omitted: xterm,
             },
             other: Hearing {
-                modelled: one.other,
-                bare,
+                listener: one.other,
+                omitted: mlterm,
             },
         },
-        other,
+        other: Both {
+            one: other.one,
+            other: Hearing {
+                listener: other.other,
+                omitted: konsole,
+            },
+        },
     }
 }
 
@@ -153,22 +159,28 @@ fn drawings_in(hearings: Hearings) -> Drawings
     let Both { one, other } = hearings;
     Both {
         one: Both {
-            one: one.one.modelled,
-            other: one.other.modelled,
+            one: one.one.listener,
+            other: one.other.listener,
         },
-        other,
+        other: Both {
+            one: other.one,
+            other: other.other.listener,
+        },
     }
 }
 
 /// The drawings after the document of these bytes. `drawings` have taken no event.
 pub(crate) fn draw_all(bytes: &[u8], drawings: Drawings) -> Result<Drawings, DifferFault>
     ensures drawn { IfOk result (λ drawn. (placed : List Place) × Document placed bytes.now
-        × ((background : SomeParts) (sides : ℕ × ℕ) → HaveDrawn background sides drawings [] []
-        → HaveDrawn background sides drawn (heard_in true bytes.now placed) placed)) }
+        × ((background : SomeParts) (sides : ℕ × ℕ) → HaveDrawn background sides drawings nothing_heard
+        → HaveDrawn background sides drawn (λ named. heard_on named bytes.now placed))) }
     ensures refused { IfErr result (IsReadingFault bytes.now) }
 {
+    let xterm = omitted_in(Named::XTerm.hears(), bytes);
+    let mlterm = omitted_in(Named::MlTerm.hears(), bytes);
+    let konsole = omitted_in(Named::Konsole.hears(), bytes);
     let mut apart = Apart {
-        follower: hearing_all(drawings, bare_in(true, bytes)),
+        follower: hearing_all(drawings, xterm, mlterm, konsole),
     };
     follow_document(bytes, &mut apart)?;
     Ok(drawings_in(apart.follower))
@@ -198,9 +210,9 @@ fn konsole_view(
 ) -> Result<View, DifferFault>
     requires sides { IsTrue (is_screen_side width && is_screen_side height) }
     requires drawn { (placed : List Place) × Document placed bytes.now
-        × HasDrawnKonsole background (width, height) drawing placed }
+        × HasDrawnKonsole background (width, height) drawing (heard_on Named.Konsole bytes.now placed) }
     ensures view { IfOk result (λ view. (placed : List Place) → Document placed bytes.now
-        → IsView Named.Konsole background (width, height) placed view) }
+        → IsView Named.Konsole background (width, height) (heard_on Named.Konsole bytes.now placed) view) }
     ensures refused { IfErr result (IsReadingFault bytes.now) }
 {
     match konsole_screen(alloc, background, width, height, drawing, bytes) {
@@ -222,7 +234,7 @@ pub(crate) fn views_of(
 ) -> Result<Views, DifferFault>
     requires sides { IsTrue (is_screen_side width && is_screen_side height) }
     requires drawn { (placed : List Place) × Document placed bytes.now
-        × HaveDrawn background (width, height) drawings (heard_in true bytes.now placed) placed }
+        × HaveDrawn background (width, height) drawings (λ named. heard_on named bytes.now placed) }
     ensures width { IfOk result (λ views. views.width ≡ width) }
     ensures height { IfOk result (λ views. views.height ≡ height) }
     ensures views { IfOk result (λ views. (named : ANamed) (placed : List Place) → Document placed bytes.now

@@ -6,3 +6,4 @@ pub mod Modelled
 pub mod FirstPiece
 pub mod Settings
 pub mod Heard
+pub mod Looking

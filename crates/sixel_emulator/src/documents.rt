@@ -12,7 +12,8 @@ ghost use Rattle.sixel_emulator.specs.Heard.{heard_in};
 ghost use Rattle.sixel_emulator.specs.Modelled.{HasFollowed, ModelGives};
 
 use crate::heard_source::hear_rest;
-use crate::hearing::{Hearing, bare_in};
+use crate::hearing::{Hearing, Hears, Omitted};
+use crate::looking::omitted_in;
 use crate::modelled::Modelled;
 use crate::reading::Reading;
 use sixel_grammar::{Fault, InputFault, follow_document};
@@ -20,13 +21,12 @@ use sixel_io::{PIECE, Source};
 use sixel_terminal::Drawing;
 
 /// Reads the source, whose first bytes are the first `read` of `piece`, to its end. Gives the drawing of its document, or
-/// the offset of the event at which the model ends. `modelled` has taken no event. Its terminal may hear the first select
-/// without a number as raster attributes of zeros.
+/// the offset of the event at which the model ends. `modelled` has taken no event.
 pub fn draw<S: Source, R: Reading + Drop>(
     input: &mut S,
     piece: &mut [u8; PIECE],
     read: usize,
-    hears: bool,
+    hears: Hears,
     modelled: Modelled<R>,
 ) -> Result<Result<Drawing, u64>, InputFault>
     requires { IsFirst piece.old read (S.state input.old).remaining }
@@ -44,17 +44,17 @@ pub fn draw<S: Source, R: Reading + Drop>(
     ensures memory { result ≢ Err InputFault.OutOfMemory }
 {
     let mut hearing = Hearing {
-        modelled,
-        bare: None,
+        listener: modelled,
+        omitted: Omitted::nothing(),
     };
     hear_rest(input, piece, read, hears, &mut hearing)?;
-    Ok(hearing.modelled.finish())
+    Ok(hearing.listener.finish())
 }
 
 /// The same for a document that is in memory. `Fault`: the bytes are no document.
 pub fn draw_bytes<R: Reading + Drop>(
     bytes: &[u8],
-    hears: bool,
+    hears: Hears,
     modelled: Modelled<R>,
 ) -> Result<Result<Drawing, u64>, Fault>
     ensures terminal { IfOk result (λ given. IfOk given (λ d. d.terminal ≡ modelled.progress.drawing.terminal)) }
@@ -64,9 +64,9 @@ pub fn draw_bytes<R: Reading + Drop>(
     ensures refused { IfErr result (IsFaultOf bytes.now) }
 {
     let mut hearing = Hearing {
-        modelled,
-        bare: bare_in(hears, bytes),
+        listener: modelled,
+        omitted: omitted_in(hears, bytes),
     };
     follow_document(bytes, &mut hearing)?;
-    Ok(hearing.modelled.finish())
+    Ok(hearing.listener.finish())
 }

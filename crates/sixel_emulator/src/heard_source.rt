@@ -1,36 +1,37 @@
-//! Draws what a model makes of a source whose first bytes are read already.
+//! Hears a source whose first bytes are read already.
 
-ghost use Rattle.std.specs.Prelude.{◌≡◌, [], Err, IfErr, IfSome, None, OnOk};
+ghost use Rattle.std.specs.Prelude.{◌≡◌, [], Err, IfErr, IfSome, OnOk};
 ghost use Rattle.sixel_grammar.specs.Reading.{Explains, NoFaultBefore};
 ghost use Rattle.sixel_grammar.specs.Source.{failures_of, fault_of_source};
 ghost use Rattle.sixel_grammar.specs.declared.source.SourceHalt.TheVariants.{Read as SourceRead};
 ghost use Rattle.sixel_emulator.specs.FirstPiece.{IsFirst, with_first};
-ghost use Rattle.sixel_emulator.specs.Heard.{HasHeard};
+ghost use Rattle.sixel_emulator.specs.Heard.{HasHeard, nothing_omitted};
 
-use crate::hearing::{Hearing, bare_heard};
-use crate::reading::Reading;
+use crate::hearing::{Hearing, Hears};
+use crate::listener::Listener;
+use crate::looking::Looking;
 use sixel_grammar::{Reader, SourceHalt, follow_bytes};
 use sixel_io::{PIECE, Source};
-use sixel_omissions::BareSelects;
 use std::convert::Infallible;
 
-/// Reads a source to its end, and draws what a model makes of its document. Its first bytes are read already: they are
+/// Reads a source to its end, and takes what is heard of its document. Its first bytes are read already: they are
 /// the first `read` of `piece`, and `read` is 0 only at its end. `piece` is also the room for the bytes that are read at
 /// once.
 ///
-/// The bytes of each piece are looked at before their events are taken, for selects without a number, if the terminal
-/// `hears` them otherwise. The source isn't read after a fault or after its end.
+/// The bytes of each piece are looked at before their events are taken, for what the terminal `hears` otherwise. The
+/// source isn't read after a fault or after its end.
 #[inline(always)]
-pub fn hear_rest<S: Source, R: Reading>(
+pub fn hear_rest<S: Source, F: Listener>(
     input: &mut S,
     piece: &mut [u8; PIECE],
     read: usize,
-    hears: bool,
-    hearing: &mut Hearing<R>,
+    hears: Hears,
+    hearing: &mut Hearing<F>,
 ) -> Result<(), SourceHalt<Infallible>>
     requires first { IsFirst piece.old read (S.state input.old).remaining }
-    requires unheard { hearing.old.bare ≡ None }
-    ensures heard { OnOk result (HasHeard R.model R.has_seen hears hearing.old.modelled hearing.new.modelled
+    requires unheard { hearing.old.omitted ≡ nothing_omitted }
+    requires untaken { F.has_taken hearing.old.listener hearing.old.listener [] }
+    ensures heard { OnOk result (HasHeard F.has_taken hears hearing.old.listener hearing.new.listener
         (with_first piece.old read (S.state input.old).remaining)) }
     ensures refused { IfErr result (λ halt. IfSome (with_first piece.old read (S.state input.old).remaining)
         (Explains (fault_of_source halt))) }
@@ -40,11 +41,11 @@ pub fn hear_rest<S: Source, R: Reading>(
         (NoFaultBefore (S.state input.new).remaining) }
 {
     let mut reader = Reader::new();
-    let mut bare = BareSelects::new();
+    let mut looking = Looking::new(hears);
     let mut count = read;
     while count > 0 {
-        bare.look(&piece[..count]);
-        hearing.bare = bare_heard(hears, &bare);
+        looking.look(&piece[..count]);
+        hearing.omitted = looking.omitted();
         follow_bytes(&mut reader, hearing, &piece[..count])?;
         count = input.fill(piece)?;
     }

@@ -1,18 +1,25 @@
 -- The named terminals show a picture for which no rule is broken.
-use Rattle.std.proofs.Common.{◌≡◌, ◌≤◌, ℕ, Bool, true, false, List, None, Option, arith, refl, subst, sym}
-use Rattle.std.specs.Prelude.{◌&&◌, ◌||◌, IsTrue}
+use Rattle.std.proofs.Common.{◌≡◌, ◌∙◌, ◌==◌, ◌≤◌, ℕ, Bool, true, false, List, None, Option, Some, ap, arith, not, refl}
+use Rattle.std.proofs.Common.{subst, sym, take}
+use Rattle.std.specs.Prelude.{◌&&◌, ◌||◌, IsTrue, nat_le, slice_get}
+use Rattle.std.specs.Option.{option_map}
 use Rattle.std.proofs.lemmas.Bool.{and_from, or_left, or_right}
+use Rattle.std.proofs.lemmas.Bool.Decides.{nat_tests}
+use Rattle.std.proofs.lemmas.Option.{slice_get-map}
+use Rattle.sixel_grammar.specs.declared.command.Command.TheVariants.{Raster}
+use Rattle.sixel_grammar.specs.declared.command.Event.TheVariants.{Step}
 use Rattle.sixel_grammar.specs.Document.{AreWhole, events_of}
 use Rattle.sixel_grammar.specs.declared.command.Event.{Event}
 use Rattle.sixel_grammar.specs.declared.command.Placed.{Placed}
 use Rattle.sixel_omissions.specs.Omissions.{IsFirstBare}
 use Rattle.sixel_model.specs.declared.colour.Parts.{Parts}
-use Rattle.sixel_model.specs.Pictures.{PictureValue}
-use Rattle.sixel_model.specs.Rules.{BreaksNone, last_rule, picture_left}
+use Rattle.sixel_model.specs.Pictures.{PictureValue, is_side, most_side}
+use Rattle.sixel_model.specs.Rules.{BreaksNone, breaks_box_size, last_rule, picture_left}
+use Rattle.sixel_model.proofs.RuleLemmas.{Keeps, keeps_at, none_drawn}
 use Rattle.sixel_named_terminals.specs.declared.named.Named.{Named}
 use Rattle.sixel_named_terminals.specs.declared.named.Named.TheVariants.{XTerm, MlTerm, Foot, Konsole}
-use Rattle.sixel_named_terminals.specs.Named.{heard_on}
-use Rattle.sixel_emulator.proofs.HeardLemmas.{heard_bareless}
+use Rattle.sixel_named_terminals.specs.Named.{heard_on, hears_on}
+use Rattle.sixel_emulator.proofs.HeardLemmas.{HasHeight, heard_boxes, heard_whole}
 use Rattle.sixel_emulator_rules.specs.Asked.{BreaksNoneAsked, asks, is_asked}
 use Rattle.sixel_emulator_rules.specs.declared.rule.AskedRule.{AskedRule}
 use Rattle.sixel_emulator_rules.specs.declared.rule.AskedRule.TheVariants.{Bare}
@@ -72,18 +79,49 @@ bare_if : (b : Bool) (bytes : List ℕ) (o : Option ℕ) → IsTrue b → IsBare
 bare_if true bytes o is bare = bare
 bare_if false bytes o is bare = cc
 
--- if no select lacks its number where that matters, what is heard are the events
-heard_by : (t : Terminals) (named : Named) (bytes : List ℕ) (placed : List Placed) → IsNamed t named
-    → IsBareOn t bytes None → heard_on named bytes placed ≡ placed
-heard_by t XTerm bytes placed is bare =
-    heard_bareless true bytes placed (bare_if (is_asked t Bare) bytes None (asked_by t XTerm Bare is refl) bare)
-heard_by t MlTerm bytes placed is bare =
-    heard_bareless true bytes placed (bare_if (is_asked t Bare) bytes None (asked_by t MlTerm Bare is refl) bare)
-heard_by t Foot bytes placed is bare = refl
-heard_by t Konsole bytes placed is bare = refl
+side_of : (across one most : Bool) → not (across && (one && most)) ≡ false → one ≡ true
+side_of true true most is = refl
+side_of true false most is = cc
+side_of false one most is = cc
 
-pub shown_on_each : (t : Terminals) (bytes : List ℕ) (placed : List Placed) (p : PictureValue)
-    → IsBareOn t bytes None → AreShown t (events_of placed) p → IsShownOnEach t bytes placed p
-shown_on_each t bytes placed p bare shown = λ named background width height is across down.
+not_zero : (n : ℕ) → nat_le 1 n ≡ true → (n == 0) ≡ false
+not_zero n some = grind (arith, nat_tests)
+
+has_height : (registers : ℕ) (before : List Event) (e : Event) → Keeps registers before e → HasHeight e
+unfolding breaks_box_size
+has_height registers before (Step (Raster pan pad width height)) keeps =
+    not_zero height (side_of (is_side width) (nat_le 1 height) (nat_le height most_side) keeps.box_size)
+has_height registers before _ keeps = tt
+
+-- if no rule is broken, raster attributes have a height
+have_heights : (registers : ℕ) (placed : List Placed) → BreaksNone registers last_rule (events_of placed) → (i : ℕ)
+    (p : Placed) → slice_get placed i ≡ Some p → HasHeight p.event
+have_heights registers placed none i p there =
+    let event : Placed → Event = λ q. q.event in
+    has_height registers (take i (events_of placed)) p.event
+    (keeps_at registers (events_of placed) (none_drawn registers (events_of placed) none) i p.event
+    (slice_get-map event placed i ∙ ap (option_map event) there))
+
+-- if no rule is broken and no select lacks its number, what is heard are the events
+pub heard_all : (registers : ℕ) (named : Named) (bytes : List ℕ) (placed : List Placed) → IsFirstBare bytes None
+    → BreaksNone registers last_rule (events_of placed) → heard_on named bytes placed ≡ placed
+heard_all registers named bytes placed bare none =
+    heard_whole (hears_on named) bytes placed bare (have_heights registers placed none)
+
+-- and where none lacks it of those that matter
+heard_by : (registers : ℕ) (t : Terminals) (named : Named) (bytes : List ℕ) (placed : List Placed) → IsNamed t named
+    → IsBareOn t bytes None → BreaksNone registers last_rule (events_of placed) → heard_on named bytes placed ≡ placed
+heard_by registers t XTerm bytes placed is bare none =
+    heard_all registers XTerm bytes placed (bare_if (is_asked t Bare) bytes None (asked_by t XTerm Bare is refl) bare) none
+heard_by registers t MlTerm bytes placed is bare none =
+    heard_all registers MlTerm bytes placed (bare_if (is_asked t Bare) bytes None (asked_by t MlTerm Bare is refl) bare) none
+heard_by registers t Foot bytes placed is bare none = refl
+heard_by registers t Konsole bytes placed is bare none = heard_boxes bytes placed (have_heights registers placed none)
+
+pub shown_on_each : (registers : ℕ) (t : Terminals) (bytes : List ℕ) (placed : List Placed) (p : PictureValue)
+    → IsBareOn t bytes None → BreaksNone registers last_rule (events_of placed) → AreShown t (events_of placed) p
+    → IsShownOnEach t bytes placed p
+shown_on_each registers t bytes placed p bare none shown = λ named background width height is across down.
     subst (λ (l : List Placed). IsShownOn named background (width, height) (events_of l) p)
-    (sym (heard_by t named bytes placed is bare)) (shown named background width height is across down)
+    (sym (heard_by registers t named bytes placed is bare none))
+    (shown named background width height is across down)

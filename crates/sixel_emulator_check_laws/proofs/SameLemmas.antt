@@ -25,10 +25,9 @@ use Rattle.sixel_terminal.specs.Drawing.{IsPainted, inked_on, screen_on, shown_o
 use Rattle.sixel_terminal.specs.Screens.{Shown}
 use Rattle.sixel_named_terminals.specs.declared.named.Named.{Named}
 use Rattle.sixel_named_terminals.specs.declared.named.Named.TheVariants.{XTerm, MlTerm, Foot, Konsole}
-use Rattle.sixel_named_terminals.specs.Named.{IsScreenOn, hears_bare, model_of, terminal_on}
+use Rattle.sixel_named_terminals.specs.Named.{IsScreenOn, heard_on, model_of, terminal_on}
 use Rattle.sixel_omissions.specs.Omissions.{IsFirstBare}
 use Rattle.sixel_emulator.specs.Readings.{IsSaid}
-use Rattle.sixel_emulator.proofs.HeardLemmas.{heard_bareless}
 use Rattle.sixel_named_terminals.proofs.NamedLemmas.{reading_once, said_does_not_end}
 use Rattle.sixel_mend.specs.Sizes.{IsSize}
 use Rattle.sixel_judge.specs.Portable.{IsInBoxOn, Shows}
@@ -49,7 +48,7 @@ use Rattle.sixel_differ_laws.proofs.OnceLemmas.{some_mending}
 use Rattle.sixel_differ.proofs.ShowingLemmas.{have_sides}
 use Rattle.sixel_emulator_check_laws.specs.Laws.{PortableOnAllIsTheSame, all_terminals}
 use Rattle.sixel_emulator_check_laws.specs.Shown.{IsNamed}
-use Rattle.sixel_emulator_check_laws.proofs.RightLemmas.{AreShown, shown_on_all}
+use Rattle.sixel_emulator_check_laws.proofs.RightLemmas.{AreShown, heard_all, shown_on_all}
 
 is_one : (named : Named) → IsNamed all_terminals named
 is_one XTerm = refl
@@ -205,38 +204,42 @@ room n background bytes v are none =
       down = omega (arith, high, size.1, are.banded.enough);
     }
 
+-- each terminal hears the events as they are
+abbrev AreHeard : List ℕ → List Placed → Type 0
+AreHeard bytes placed = (named : Named) → heard_on named bytes placed ≡ placed
+
 each_screen : (n : ℕ) (background : Parts) (bytes : List ℕ) (v : Views) (are : AreViews background bytes v)
-    → IsFirstBare bytes None → (named : Named)
+    → AreHeard bytes are.placed → (named : Named)
     → IsShownOn named background (v.width, v.height) (events_of are.placed) (picture_left n (events_of are.placed))
     → HasScreen background are.placed v named
-each_screen n background bytes v are bare named shown =
+each_screen n background bytes v are heard named shown =
     has_screen background are.placed v named (view_in v named) refl
     (subst (λ (l : List Placed). IsView named background (v.width, v.height) l (view_in v named))
-    (heard_bareless (hears_bare named) bytes are.placed bare) (are.views named))
+    (heard named) (are.views named))
     shown.said
 
 each_pixel : (n : ℕ) (background : Parts) (bytes : List ℕ) (v : Views) (are : AreViews background bytes v)
-    (bare : IsFirstBare bytes None) (named : Named)
+    (heard : AreHeard bytes are.placed) (named : Named)
     (shown : IsShownOn named background (v.width, v.height) (events_of are.placed)
     (picture_left n (events_of are.placed)))
     (x y : ℕ) → x < v.width → y < v.height
-    → colour_at (each_screen n background bytes v are bare named shown).screen x y
+    → colour_at (each_screen n background bytes v are heard named shown).screen x y
     ≡ picture_on (picture_left n (events_of are.placed)) background x y
-each_pixel n background bytes v are bare named shown x y right below =
-    let s = each_screen n background bytes v are bare named shown in
+each_pixel n background bytes v are heard named shown x y right below =
+    let s = each_screen n background bytes v are heard named shown in
     screen_at named background v.width v.height (events_of are.placed) (picture_left n (events_of are.placed)) s.screen
     x y shown s.is right below
 
 all_alike : (n : ℕ) (background : Parts) (bytes : List ℕ) (v : Views) (are : AreViews background bytes v)
-    → IsFirstBare bytes None → ((named : Named)
+    → AreHeard bytes are.placed → ((named : Named)
     → IsShownOn named background (v.width, v.height) (events_of are.placed) (picture_left n (events_of are.placed)))
     → AreAllAlike v
-all_alike n background bytes v are bare shown = record {
-  screen = λ named. (each_screen n background bytes v are bare named (shown named)).screen;
-  shows = λ named. (each_screen n background bytes v are bare named (shown named)).shows;
+all_alike n background bytes v are heard shown = record {
+  screen = λ named. (each_screen n background bytes v are heard named (shown named)).screen;
+  shows = λ named. (each_screen n background bytes v are heard named (shown named)).shows;
   alike = λ one other x y right below.
-      ap (option_map seen_of) (each_pixel n background bytes v are bare one (shown one) x y right below
-      ∙ sym (each_pixel n background bytes v are bare other (shown other) x y right below));
+      ap (option_map seen_of) (each_pixel n background bytes v are heard one (shown one) x y right below
+      ∙ sym (each_pixel n background bytes v are heard other (shown other) x y right below));
 }
 
 of_views : (n : ℕ) (background : Parts) (bytes : List ℕ) (v : Views) (are : AreViews background bytes v) → n ≤ 256
@@ -247,7 +250,7 @@ of_views n background bytes v are few none asked bare =
     let shown : AreShown all_terminals (events_of are.placed) (picture_left n (events_of are.placed)) =
     shown_on_all n all_terminals (events_of are.placed) _ few (document_whole are.placed bytes are.document) none asked
     refl in
-    all_alike n background bytes v are bare (λ named.
+    all_alike n background bytes v are (λ named. heard_all n named bytes are.placed bare none) (λ named.
     shown named background v.width v.height (is_one named) fits.across fits.down)
 
 pub portable_on_all : (n : ℕ) → n ≤ 256 → PortableOnAllIsTheSame n

@@ -23,7 +23,7 @@ verdicts_are_shown registers few t placed bytes picture document w =
     let alone = portable_alone w.by_events w.bare picture w.verdict_is in
     let is : IsVerdictOn registers t placed (Portable picture) =
     subst (IsVerdictOn registers t placed) (sym alone.1) w.is in
-    shown_on_each t bytes placed picture (subst (IsBareOn t bytes) alone.0 w.bare_is)
+    shown_on_each registers t bytes placed picture (subst (IsBareOn t bytes) alone.0 w.bare_is) is.0
     (shown_on_all registers t (events_of placed) picture few (document_whole placed bytes document) is.0 is.1 is.2)
 
 -- the sides of an outcome

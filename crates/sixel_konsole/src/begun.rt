@@ -27,7 +27,10 @@ pub fn as_konsole(drawing: Drawing, opening: Option<Command>) -> Modelled<Konsol
 }
 
 /// A drawing as konsole reads events, without its rectangle, which is measured meanwhile.
-pub fn as_konsole_at_once(drawing: Drawing) -> Both<Modelled<Konsole>, Measuring>
+pub type OnKonsole = Both<Modelled<Konsole>, Measuring>;
+
+/// Such a drawing, before any event.
+pub fn as_konsole_at_once(drawing: Drawing) -> OnKonsole
     requires { HasDrawn drawing [] }
     ensures terminal { result.one.progress.drawing.terminal ≡ drawing.terminal }
     ensures followed { HasFollowed konsole_model HasSeenKonsole result.one [] [] }

@@ -8,7 +8,7 @@ mod measuring;
 mod rectangle;
 mod settings;
 
-pub use begun::{as_konsole, as_konsole_at_once};
+pub use begun::{OnKonsole, as_konsole, as_konsole_at_once};
 pub use konsole::Konsole;
 pub use measuring::Measuring;
 pub use rectangle::KonsoleMeasure;

@@ -15,9 +15,9 @@ ghost use Rattle.sixel_emulator.specs.Modelled.{opening_of};
 
 use crate::konsole::{moves_or_ends, waits};
 use crate::rectangle::KonsoleMeasure;
-use sixel_emulator::words::{same, sixel};
-use sixel_grammar::{Command, Event, Follower, Placed};
-use std::convert::Infallible;
+use sixel_emulator::Listener;
+use sixel_emulator::words::sixel;
+use sixel_grammar::{Command, Event};
 
 /// A measure of konsole's rectangle. The event that came last waits for the next one.
 #[derive(Debug, Drop)]
@@ -165,36 +165,26 @@ impl Measuring {
     }
 }
 
-impl Follower for Measuring {
-    type Stop = Infallible;
-
+impl Listener for Measuring {
     ghost has_taken = { HasTakenOn };
 
-    ghost may_stop = { λ first now stop seen. ⊥ };
-
-    fn take(&mut self, placed: &Placed) -> Result<(), Infallible> {
-        self.push(same(&placed.event));
-        Ok(())
-    }
-
-    fn take_command(&mut self, _place: u64, command: Command) -> Result<(), Infallible> {
-        self.push(Event::Step(command));
-        Ok(())
-    }
-
-    fn take_select(&mut self, _place: u64, register: u16) -> Result<(), Infallible> {
-        self.push(Event::Step(Command::Select(register)));
-        Ok(())
+    #[inline(always)]
+    fn hear(&mut self, _place: u64, event: Event) {
+        self.push(event);
     }
 
     #[inline(always)]
-    fn take_repeat(&mut self, _place: u64, count: u16, bits: u8) -> Result<(), Infallible> {
-        self.push(Event::Step(Command::Repeat { count, bits }));
-        Ok(())
+    fn hear_select(&mut self, _place: u64, register: u16) {
+        self.push(Event::Step(Command::Select(register)));
     }
 
-    fn take_stretch(&mut self, _place: u64, bytes: &[u8], count: usize) -> Result<(), Infallible> {
-        self.push_stretch(&bytes[..count]);
-        Ok(())
+    #[inline(always)]
+    fn hear_repeat(&mut self, _place: u64, count: u16, bits: u8) {
+        self.push(Event::Step(Command::Repeat { count, bits }));
+    }
+
+    #[inline(always)]
+    fn hear_stretch(&mut self, _place: u64, bytes: &[u8]) {
+        self.push_stretch(bytes);
     }
 }

@@ -1,5 +1,5 @@
 -- The named terminals: the model of each, the plain terminal that draws what its reading gives, and what is shown.
-use Rattle.std.specs.Prelude.{◌≡◌, ℕ, Bool, true, false, List, [], Result, Ok, Err, ⊤, max}
+use Rattle.std.specs.Prelude.{◌≡◌, ℕ, List, [], Result, Ok, Err, ⊤, max}
 use Rattle.std.specs.Option.{option_map_or}
 use Rattle.sixel_grammar.specs.declared.command.Event.{Event}
 use Rattle.sixel_grammar.specs.declared.command.Placed.{Placed}
@@ -18,6 +18,8 @@ use Rattle.sixel_foot.specs.Foot.{foot_model}
 use Rattle.sixel_konsole.specs.Konsole.{konsole_model}
 use Rattle.sixel_mlterm.specs.MlTerm.{mlterm_model}
 use Rattle.sixel_xterm.specs.XTerm.{xterm_model}
+use Rattle.sixel_emulator.specs.declared.hearing.Hears.{Hears}
+use Rattle.sixel_emulator.specs.declared.hearing.Hears.TheVariants.{Boxes, Events, Selects, SelectsAndRasters}
 use Rattle.sixel_emulator.specs.Heard.{heard_in}
 use Rattle.sixel_emulator.specs.Modelled.{EndsAtPlace}
 use Rattle.sixel_emulator.specs.Readings.{IsReading, IsSaid, Model}
@@ -32,16 +34,16 @@ model_of MlTerm = mlterm_model
 model_of Foot = foot_model
 model_of Konsole = konsole_model
 
--- the terminal hears a select without a number as raster attributes of zeros
-abbrev pub hears_bare : Named → Bool
-hears_bare XTerm = true
-hears_bare MlTerm = true
-hears_bare Foot = false
-hears_bare Konsole = false
+-- what the terminal hears that the events don't say
+abbrev pub hears_on : Named → Hears
+hears_on XTerm = SelectsAndRasters
+hears_on MlTerm = Selects
+hears_on Foot = Events
+hears_on Konsole = Boxes
 
 -- the events of the document of these bytes, as the terminal hears them
 abbrev pub heard_on : Named → List ℕ → List Placed → List Placed
-heard_on named bytes placed = heard_in (hears_bare named) bytes placed
+heard_on named bytes placed = heard_in (hears_on named) bytes placed
 
 -- the height of a sixel pixel that raster attributes among these events give, those that are drawn before the first
 -- event of a string; it is at least 1, and 1 without any

@@ -44,7 +44,7 @@ fn show_source<S: Source, R: Reading + Drop>(
         (NoFaultBefore (S.state input.new).remaining) }
     ensures memory { result ≢ Err InputFault.OutOfMemory }
 {
-    match draw(input, piece, read, named.hears_bare(), modelled)? {
+    match draw(input, piece, read, named.hears(), modelled)? {
         Ok(drawing) => Ok(Ok(drawing.finish())),
         Err(place) => Ok(Err(place)),
     }

@@ -14,14 +14,13 @@ ghost use Rattle.sixel_konsole.specs.Konsole.{StaysLow, konsole_model};
 ghost use Rattle.sixel_konsole.specs.KonsoleSeen.{HasSeenKonsole};
 ghost use Rattle.sixel_konsole.specs.Measuring.{HasTakenAll};
 ghost use Rattle.sixel_emulator.specs.Modelled.{HasFollowed, opening_of};
-ghost use Rattle.sixel_named_terminals.specs.Named.{GivesScreen, ShowsDocument, tall_in};
+ghost use Rattle.sixel_named_terminals.specs.Named.{GivesScreen, ShowsDocument, heard_on, tall_in};
 ghost use Rattle.sixel_konsole.specs.Settings.{konsole_display};
 
 use crate::named::Named;
 use crate::showing::{ShowFault, show_on};
-use sixel_emulator::Modelled;
 use sixel_grammar::{Both, Command};
-use sixel_konsole::{Konsole, Measuring};
+use sixel_konsole::OnKonsole;
 use sixel_model::Colour;
 use sixel_terminal::{Drawing, Screen};
 use std::alloc::Global;
@@ -75,41 +74,43 @@ fn low_screen_over(drawing: Drawing, rectangle: Option<Command>) -> Screen
     }
 }
 
-/// The screen of konsole after a document that `both` has followed, and whose sixel pixels are one pixel high. `Err`: the
+/// The screen of konsole after a document that `konsole` has heard, and whose sixel pixels are one pixel high. `Err`: the
 /// offset of the event at which the model ends.
-pub fn low_konsole_screen(both: Both<Modelled<Konsole>, Measuring>) -> Result<Screen, u64>
-    requires binds { both.one.progress.drawing.terminal.choices.binds_at_showing ≡ true }
-    requires unclipped { both.one.progress.drawing.terminal.choices.clips ≡ false }
-    requires low { (events : List AnEvent) × HasTakenAll both.other events × StaysLow events }
+pub fn low_konsole_screen(konsole: OnKonsole) -> Result<Screen, u64>
+    requires binds { konsole.one.progress.drawing.terminal.choices.binds_at_showing ≡ true }
+    requires unclipped { konsole.one.progress.drawing.terminal.choices.clips ≡ false }
+    requires low { (events : List AnEvent) × HasTakenAll konsole.other events × StaysLow events }
     ensures { (background : SomeParts) (width height : ℕ) (placed : List Place) (bytes : List ℕ)
-        → both.one.progress.drawing.terminal ≡ konsole_display background 1 width height → Document placed bytes
-        → HasFollowed konsole_model HasSeenKonsole both.one [] placed → HasTakenAll both.other (events_of placed)
+        → konsole.one.progress.drawing.terminal ≡ konsole_display background 1 width height → Document placed bytes
+        → HasFollowed konsole_model HasSeenKonsole konsole.one [] (heard_on Named.Konsole bytes placed)
+        → HasTakenAll konsole.other (events_of (heard_on Named.Konsole bytes placed))
         → GivesScreen Named.Konsole background (width, height) bytes result }
 {
-    let Both { one, other } = both;
+    let Both { one, other } = konsole;
     match one.finish() {
         Ok(drawing) => Ok(low_screen_over(drawing, other.finish())),
         Err(place) => Err(place),
     }
 }
 
-/// The screen of konsole after the document of these bytes, which `both` has followed. If its sixel pixels are higher
+/// The screen of konsole after the document of these bytes, which `konsole` has heard. If its sixel pixels are higher
 /// than one pixel, the bytes are read once more.
 pub fn konsole_screen(
     alloc: Global,
     background: Colour,
     width: u32,
     height: u32,
-    both: Both<Modelled<Konsole>, Measuring>,
+    konsole: OnKonsole,
     bytes: &[u8],
 ) -> Result<Screen, ShowFault>
     requires sides { IsTrue (is_screen_side width && is_screen_side height) }
-    requires terminal { both.one.progress.drawing.terminal ≡ konsole_display background 1 width height }
+    requires terminal { konsole.one.progress.drawing.terminal ≡ konsole_display background 1 width height }
     requires taken { (placed : List Place) × Document placed bytes.now
-        × HasFollowed konsole_model HasSeenKonsole both.one [] placed × HasTakenAll both.other (events_of placed) }
+        × HasFollowed konsole_model HasSeenKonsole konsole.one [] (heard_on Named.Konsole bytes.now placed)
+        × HasTakenAll konsole.other (events_of (heard_on Named.Konsole bytes.now placed)) }
     ensures { ShowsDocument Named.Konsole background (width, height) bytes.now result }
 {
-    let Both { one, other } = both;
+    let Both { one, other } = konsole;
     let drawing = match one.finish() {
         Ok(drawing) => drawing,
         Err(place) => return Err(ShowFault::Unmodelled(place)),

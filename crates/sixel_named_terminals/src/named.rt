@@ -1,12 +1,15 @@
 //! The named terminals, and what each shows of a document.
 
 ghost use Rattle.std.specs.Prelude.{◌≡◌, List};
-ghost use Rattle.sixel_grammar.specs.declared.command.Event.{Event as AnEvent};
-ghost use Rattle.sixel_konsole.specs.Measuring.{HasTakenAll};
+ghost use Rattle.sixel_grammar.specs.declared.command.Placed.{Placed as Place};
+ghost use Rattle.sixel_grammar.specs.Document.{Document, IsDocument, events_of};
+ghost use Rattle.sixel_emulator.specs.Heard.{heard_in};
 ghost use Rattle.sixel_emulator.specs.Modelled.{opening_of};
-ghost use Rattle.sixel_named_terminals.specs.Named.{hears_bare, model_of};
+ghost use Rattle.sixel_konsole.specs.Konsole.{konsole_opening};
+ghost use Rattle.sixel_named_terminals.specs.Named.{heard_on, hears_on, model_of};
 
-use sixel_grammar::Command;
+use sixel_emulator::{Hearing, Hears, omitted_in};
+use sixel_grammar::{Command, Halt, follow_document};
 use sixel_konsole::Measuring;
 
 /// A named terminal. Its model says what it shows.
@@ -20,25 +23,45 @@ pub enum Named {
 }
 
 impl Named {
-    /// Whether the terminal hears a select without a number as raster attributes of zeros.
-    pub fn hears_bare(self) -> bool
-        ensures { result ≡ hears_bare self }
+    /// What the terminal hears that the events don't say.
+    pub fn hears(self) -> Hears
+        ensures { result ≡ hears_on self }
     {
         match self {
-            Named::XTerm | Named::MlTerm => true,
-            Named::Foot | Named::Konsole => false,
+            Named::XTerm => Hears::SelectsAndRasters,
+            Named::MlTerm => Hears::Selects,
+            Named::Foot => Hears::Events,
+            Named::Konsole => Hears::Boxes,
         }
     }
 
-    /// What the terminal's model draws before the first event, by all events: konsole's rectangle, and on the others
-    /// nothing.
-    pub fn opening(self, measuring: Measuring) -> Option<Command>
-        ensures { (events : List AnEvent) → HasTakenAll measuring events
-            → opening_of result ≡ (model_of self).opening events }
+    /// What the terminal's model draws before the first event, by all events of the document of these bytes: konsole's
+    /// rectangle, and on the others nothing.
+    pub fn opening_of(self, bytes: &[u8]) -> Option<Command>
+        requires { IsDocument bytes.now }
+        ensures { (placed : List Place) → Document placed bytes.now
+            → opening_of result ≡ (model_of self).opening (events_of (heard_on self bytes.now placed)) }
     {
         match self {
-            Named::Konsole => measuring.finish(),
+            Named::Konsole => rectangle_of(bytes),
             Named::XTerm | Named::MlTerm | Named::Foot => None,
         }
+    }
+}
+
+/// konsole's rectangle.
+fn rectangle_of(bytes: &[u8]) -> Option<Command>
+    requires { IsDocument bytes.now }
+    ensures { (placed : List Place) → Document placed bytes.now
+        → opening_of result ≡ konsole_opening (events_of (heard_in Hears.Boxes bytes.now placed)) }
+{
+    let mut hearing = Hearing {
+        listener: Measuring::new(),
+        omitted: omitted_in(Hears::Boxes, bytes),
+    };
+    match follow_document(bytes, &mut hearing) {
+        Ok(()) => hearing.listener.finish(),
+        Err(Halt::Refused(_)) => unreachable!(),
+        Err(Halt::Stopped(never)) => match never {},
     }
 }

@@ -51,7 +51,7 @@ fn show_bytes<R: Reading + Drop>(
         → modelled.progress.drawing.terminal ≡ terminal_on named background opening sides
         → ShowsOn named background sides opening bytes.now result }
 {
-    match draw_bytes(bytes, named.hears_bare(), modelled) {
+    match draw_bytes(bytes, named.hears(), modelled) {
         Ok(Ok(drawing)) => Ok(drawing.finish()),
         Ok(Err(place)) => Err(ShowFault::Unmodelled(place)),
         Err(fault) => Err(ShowFault::Grammar(fault)),

@@ -21,10 +21,10 @@ use Rattle.sixel_model.specs.Events.{raster_of}
 use Rattle.sixel_model.specs.Geometry.{band, band_rows}
 use Rattle.sixel_terminal.specs.Screens.{Shown}
 use Rattle.sixel_named_terminals.specs.declared.named.Named.{Named}
-use Rattle.sixel_named_terminals.specs.declared.named.Named.TheVariants.{MlTerm, XTerm}
+use Rattle.sixel_named_terminals.specs.declared.named.Named.TheVariants.{Konsole, MlTerm, XTerm}
 use Rattle.sixel_named_terminals.specs.Named.{IsScreenOn, heard_on, model_of}
 use Rattle.sixel_foot.specs.Foot.{foot, foot_size}
-use Rattle.sixel_konsole.specs.Konsole.{konsole_drawing, konsole_model, konsole_opening}
+use Rattle.sixel_konsole.specs.Konsole.{konsole, konsole_drawing, konsole_model, konsole_opening}
 use Rattle.sixel_mlterm.specs.MlTerm.{mlterm}
 use Rattle.sixel_xterm.specs.XTerm.{xterm}
 
@@ -63,6 +63,42 @@ abbrev pub BareSelectIsZero : Named → Type 0
 BareSelectIsZero named = BareIsHeardAs named (Step (Select 0))
 
 -- ---- xterm
+
+-- of these bytes and their events xterm hears these events
+abbrev pub XTermHears : List ℕ → List Placed → List Event → Type 0
+XTermHears bytes placed heard = events_of (heard_on XTerm bytes placed) ≡ heard
+
+-- "1;1~ and "1;1;2000~ are the sixel alone
+abbrev pub RatioIsNotHeard : Type 0
+RatioIsNotHeard =
+    XTermHears (34 ∷ 49 ∷ 59 ∷ 49 ∷ 126 ∷ [])
+    (placed_at 0 (Step (Raster 1 1 0 0)) ∷ placed_at 4 (Step (Sixel 63)) ∷ []) (Step (Sixel 63) ∷ [])
+    × XTermHears (34 ∷ 49 ∷ 59 ∷ 49 ∷ 59 ∷ 50 ∷ 48 ∷ 48 ∷ 48 ∷ 126 ∷ [])
+    (placed_at 0 (Step (Raster 1 1 2000 0)) ∷ placed_at 9 (Step (Sixel 63)) ∷ []) (Step (Sixel 63) ∷ [])
+
+-- "1;1;6;0~ ends the string: its height is written; "1;1;6;~ is the sixel alone
+abbrev pub WrittenHeightStops : Type 0
+WrittenHeightStops =
+    XTermHears (34 ∷ 49 ∷ 59 ∷ 49 ∷ 59 ∷ 54 ∷ 59 ∷ 48 ∷ 126 ∷ [])
+    (placed_at 0 (Step (Raster 1 1 6 0)) ∷ placed_at 8 (Step (Sixel 63)) ∷ []) (zeros ∷ Step (Sixel 63) ∷ [])
+    × XTermHears (34 ∷ 49 ∷ 59 ∷ 49 ∷ 59 ∷ 54 ∷ 59 ∷ 126 ∷ [])
+    (placed_at 0 (Step (Raster 1 1 6 0)) ∷ placed_at 7 (Step (Sixel 63)) ∷ []) (Step (Sixel 63) ∷ [])
+
+-- "1~ ends it: one number is no ratio
+abbrev pub OneNumberStops : Type 0
+OneNumberStops =
+    XTermHears (34 ∷ 49 ∷ 126 ∷ []) (placed_at 0 (Step (Raster 1 0 0 0)) ∷ placed_at 2 (Step (Sixel 63)) ∷ [])
+    (Step (Raster 1 0 0 0) ∷ Step (Sixel 63) ∷ [])
+    × ReadsAs xterm [] (Step (Raster 1 0 0 0)) Stops
+
+-- of "1;1~"1;1~ the model says nothing at the second one
+abbrev pub LaterRatioIsUnsaid : Type 0
+LaterRatioIsUnsaid =
+    XTermHears (34 ∷ 49 ∷ 59 ∷ 49 ∷ 126 ∷ 34 ∷ 49 ∷ 59 ∷ 49 ∷ 126 ∷ [])
+    (placed_at 0 (Step (Raster 1 1 0 0)) ∷ placed_at 4 (Step (Sixel 63)) ∷ placed_at 5 (Step (Raster 1 1 0 0))
+    ∷ placed_at 9 (Step (Sixel 63)) ∷ [])
+    (Step (Sixel 63) ∷ Step (Raster 1 1 0 0) ∷ Step (Sixel 63) ∷ [])
+    × ReadsAs xterm (Step (Sixel 63) ∷ []) (Step (Raster 1 1 0 0)) Unsaid
 
 -- q#1@"1;1;1001;6@ keeps the first sixel
 abbrev pub LargeSideStops : Type 0
@@ -226,6 +262,32 @@ UnknownSystemSticks =
     konsole_opening (Step (Define 1 3 100 0 0) ∷ Step (Sixel 63) ∷ Step (Select 2) ∷ Step (Sixel 63) ∷ Step NextLine
     ∷ Step (Repeat 40 63) ∷ Finish false ∷ [])
     ≡ Step (Raster 1 1 40 12) ∷ []
+
+-- of these bytes and their events konsole hears these events
+abbrev pub KonsoleHears : List ℕ → List Placed → List Event → Type 0
+KonsoleHears bytes placed heard = events_of (heard_on Konsole bytes placed) ≡ heard
+
+-- "2;1~ is a box of 8 by 6 with this ratio
+abbrev pub TwoNumbersAreABox : Type 0
+TwoNumbersAreABox =
+    KonsoleHears (34 ∷ 50 ∷ 59 ∷ 49 ∷ 126 ∷ [])
+    (placed_at 0 (Step (Raster 2 1 0 0)) ∷ placed_at 4 (Step (Sixel 63)) ∷ [])
+    (Step (Raster 2 1 8 6) ∷ Step (Sixel 63) ∷ [])
+    × (konsole_opening (Step (Raster 2 1 8 6) ∷ Step (Sixel 63) ∷ Finish false ∷ []) ≡ Step (Raster 2 1 8 12) ∷ [])
+
+-- of "1~, of "1;1;6~ and of "1;1;6;0~ the model says nothing
+abbrev pub OtherNumbersAreUnsaid : Type 0
+OtherNumbersAreUnsaid =
+    KonsoleHears (34 ∷ 49 ∷ 126 ∷ []) (placed_at 0 (Step (Raster 1 0 0 0)) ∷ placed_at 2 (Step (Sixel 63)) ∷ [])
+    (Step (Raster 1 0 0 0) ∷ Step (Sixel 63) ∷ [])
+    × KonsoleHears (34 ∷ 49 ∷ 59 ∷ 49 ∷ 59 ∷ 54 ∷ 126 ∷ [])
+    (placed_at 0 (Step (Raster 1 1 6 0)) ∷ placed_at 6 (Step (Sixel 63)) ∷ [])
+    (Step (Raster 1 1 6 0) ∷ Step (Sixel 63) ∷ [])
+    × KonsoleHears (34 ∷ 49 ∷ 59 ∷ 49 ∷ 59 ∷ 54 ∷ 59 ∷ 48 ∷ 126 ∷ [])
+    (placed_at 0 (Step (Raster 1 1 6 0)) ∷ placed_at 8 (Step (Sixel 63)) ∷ [])
+    (Step (Raster 1 1 6 0) ∷ Step (Sixel 63) ∷ [])
+    × (konsole [] (Step (Raster 1 0 0 0)) (Some (Step (Sixel 63))) ≡ Unsaid)
+    × (konsole [] (Step (Raster 1 1 6 0)) (Some (Step (Sixel 63))) ≡ Unsaid)
 
 -- ---- any model
 

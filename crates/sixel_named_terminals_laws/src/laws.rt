@@ -12,6 +12,9 @@ ghost use Rattle.sixel_named_terminals_laws.specs.Laws.{GreatSideDoesNotCount, H
 ghost use Rattle.sixel_named_terminals_laws.specs.Laws.{GoesToTheEnd, GreatestSidesFill, KonsoleIsRead, LargeSideStops};
 ghost use Rattle.sixel_named_terminals_laws.specs.Laws.{LastBandEndsAtASixel, LastBandReturnsAtARepeat};
 ghost use Rattle.sixel_named_terminals_laws.specs.Laws.{LastPositionIsRead, LateBoxIsUnsaid, LateRasterDoesNotCount};
+ghost use Rattle.sixel_named_terminals_laws.specs.Laws.{LaterRatioIsUnsaid, OneNumberStops, OtherNumbersAreUnsaid};
+ghost use Rattle.sixel_named_terminals_laws.specs.Laws.{RatioIsNotHeard, TwoNumbersAreABox};
+ghost use Rattle.sixel_named_terminals_laws.specs.Laws.{WrittenHeightStops};
 ghost use Rattle.sixel_named_terminals_laws.specs.Laws.{NarrowBoxDoesNotCount, NoWidthStops, PenKeepsItsColour};
 ghost use Rattle.sixel_named_terminals_laws.specs.Laws.{PositionsAreRead};
 ghost use Rattle.sixel_named_terminals_laws.specs.Laws.{RatioIsTall, SamplesAreUnsaid, ShownDoesNotEnd, ShowsOneScreen};
@@ -34,6 +37,10 @@ pub fn xterm_on_strings()
     ensures last_band_sixel { LastBandEndsAtASixel }
     ensures last_band_repeat { LastBandReturnsAtARepeat }
     ensures bare_select { BareSelectStops }
+    ensures ratio { RatioIsNotHeard }
+    ensures written_height { WrittenHeightStops }
+    ensures one_number { OneNumberStops }
+    ensures later_ratio { LaterRatioIsUnsaid }
 {}
 
 /// What foot makes of strings that were shown on it.
@@ -68,6 +75,8 @@ pub fn konsole_on_strings()
     ensures tall { RatioIsTall }
     ensures unknown_system { UnknownSystemSticks }
     ensures bare_select { BareSelectIsZero AName.Konsole }
+    ensures two_numbers { TwoNumbersAreABox }
+    ensures other_numbers { OtherNumbersAreUnsaid }
 {}
 
 /// What a reading makes of an event, with the events before it and the one after, is what its model makes of the event

@@ -18,7 +18,7 @@ get_left [] ys i lt = absurd (omega (arith, lt))
 get_left (x ∷ xs) ys zero lt = refl
 get_left (x ∷ xs) ys (suc i) lt = get_left xs ys i (omega (arith, lt))
 
-get_right : (xs ys : List ℕ) (j : ℕ) → slice_get (xs ++ ys) (length xs + j) ≡ slice_get ys j
+pub get_right : (xs ys : List ℕ) (j : ℕ) → slice_get (xs ++ ys) (length xs + j) ≡ slice_get ys j
 get_right [] ys j = ap (λ (n : ℕ). slice_get ys n) zero_plus
   where
     zero_plus : 0 + j ≡ j
@@ -136,7 +136,7 @@ first_append xs ys y None None inner is f g = first_behind xs ys y inner f (sym 
 -- ---- how many there are
 
 -- one of the numbers, and those after it
-filter_cons : (p : ℕ → Bool) (x : ℕ) (xs : List ℕ)
+pub filter_cons : (p : ℕ → Bool) (x : ℕ) (xs : List ℕ)
     → length (filter p (x ∷ xs)) ≡ cond (p x) 1 0 + length (filter p xs)
 filter_cons p x xs = by (p x)
   where

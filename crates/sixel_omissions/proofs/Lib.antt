@@ -1,3 +1,5 @@
 pub mod BareLemmas
 pub mod FirstBareLemmas
 pub mod OpenEndedLemmas
+pub mod RasterLemmas
+pub mod RasterPieceLemmas

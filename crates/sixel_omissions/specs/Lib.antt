@@ -1,2 +1,3 @@
 pub mod Omissions
+pub mod Rasters
 pub mod Seen

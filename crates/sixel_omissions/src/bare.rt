@@ -8,7 +8,7 @@ ghost use Rattle.sixel_omissions.specs.Seen.{HasSeenBare, left_bare, one_if, ope
 /// Whether a byte may stand in the numbers of a command. All of it is worked out, so that the loops below have no branch,
 /// and take 16 bytes at once.
 #[inline(always)]
-fn is_numeric(byte: u8) -> bool
+pub(crate) fn is_numeric(byte: u8) -> bool
     ensures { result ≡ numeric_test byte }
 {
     ((b'0' <= byte) & (byte <= b'9')) | (byte == b';')

@@ -4,6 +4,8 @@
 
 mod bare;
 mod noting;
+mod raster;
 
 pub use bare::BareSelects;
 pub use noting::follow_noting;
+pub use raster::{FirstRaster, WrittenRaster};

@@ -18,7 +18,10 @@ use Rattle.sixel_named_terminals.specs.declared.named.Named.{Named}
 use Rattle.sixel_konsole.specs.Konsole.{konsole_model}
 use Rattle.sixel_konsole.specs.KonsoleSeen.{HasSeenKonsole}
 use Rattle.sixel_konsole.specs.Measuring.{HasTakenAll, HasTakenOn}
+use Rattle.sixel_emulator.specs.declared.hearing.Hears.TheVariants.{Boxes}
+use Rattle.sixel_emulator.specs.Heard.{heard, omitted_in}
 use Rattle.sixel_emulator.specs.Modelled.{HasFollowedOn}
+use Rattle.sixel_emulator.proofs.HeardLemmas.{heard_append, heard_stays}
 use Rattle.sixel_report.specs.declared.fault.RunFault.{RunFault}
 use Rattle.sixel_report.specs.declared.fault.RunFault.TheVariants.{Grammar, NoBox, OutOfMemory, Read, Unmodelled, Write}
 use Rattle.sixel_show.specs.declared.on_konsole.Kept.{Kept}
@@ -35,19 +38,29 @@ abbrev pub HasTakenOnKonsole : OnKonsole → OnKonsole → List Placed → Type 
 HasTakenOnKonsole first now seen =
     HasFollowedOn konsole_model HasSeenKonsole first.one now.one seen × HasTakenOn first.other now.other seen
 
--- what is kept of more bytes suffices for their events
+-- the events that konsole hears
+abbrev heard_events : List ℕ → List Placed → List Event
+heard_events bytes placed = events_of (heard (omitted_in Boxes bytes) placed)
+
+-- what is kept of more bytes suffices for their events, as they are heard
 pub kept_on : (old new : Reader) (seen all : List Placed) (bytes more : List ℕ) (m : Measuring) (kept next : Kept)
-    → StandsAfter old seen bytes → StandsAfter new all (bytes ++ more) → HasTakenAll m (events_of all)
-    → Suffices kept bytes (events_of seen)
+    → StandsAfter old seen bytes → StandsAfter new all (bytes ++ more)
+    → HasTakenAll m (heard_events (bytes ++ more) all) → Suffices kept bytes (heard_events bytes seen)
     → ((bs : List ℕ) (before later : List Event) → Suffices kept bs before → HasTakenAll m (before ++ later)
     → Suffices next (bs ++ more) (before ++ later))
-    → Suffices next (bytes ++ more) (events_of all)
+    → Suffices next (bytes ++ more) (heard_events (bytes ++ more) all)
 kept_on old new seen all bytes more m kept next before after taken suffices grows =
     let s = complete_stays bytes more seen all (read_complete old seen bytes before)
     (read_complete new all (bytes ++ more) after) in
-    let are : events_of all ≡ events_of seen ++ events_of s.0 = ap events_of s.1 ∙ events_then seen s.0 in
+    let o = omitted_in Boxes (bytes ++ more) in
+    let later : List Event = events_of (heard o s.0) in
+    let are : heard_events (bytes ++ more) all ≡ heard_events bytes seen ++ later =
+    ap (λ (l : List Placed). events_of (heard o l)) s.1
+    ∙ ap events_of (heard_append o seen s.0)
+    ∙ events_then (heard o seen) (heard o s.0)
+    ∙ ap (λ (l : List Placed). events_of l ++ later) (heard_stays Boxes old seen bytes more before) in
     subst (Suffices next (bytes ++ more)) (sym are)
-    (grows bytes (events_of seen) (events_of s.0) suffices (subst (HasTakenAll m) are taken))
+    (grows bytes (heard_events bytes seen) later suffices (subst (HasTakenAll m) are taken))
 
 -- if a screen is refused, no device failed
 pub no_device : (named : Named) (background : Parts) (area : Area) (bytes : List ℕ) (fault : RunFault)

@@ -69,14 +69,6 @@ said_and_ends named bytes d e place p q ends said =
     said_does_not_end (model_of named) (events_of (heard_on named bytes d)) ends.at
     (moved_said named bytes d e p q said) ends.ends
 
--- what is drawn before the first event doesn't hang on what is heard
-opening_heard : (named : Named) (bytes : List ℕ) (placed : List Placed)
-    → (model_of named).opening (events_of placed) ≡ (model_of named).opening (events_of (heard_on named bytes placed))
-opening_heard XTerm bytes placed = refl
-opening_heard MlTerm bytes placed = refl
-opening_heard Foot bytes placed = refl
-opening_heard Konsole bytes placed = refl
-
 moved_sides : (area : Area) (bytes : List ℕ) (d e : List Placed) (o : Option Sides) → Document d bytes
     → Document e bytes → sides_in area (events_of e) ≡ o → sides_in area (events_of d) ≡ o
 moved_sides area bytes d e o p q is =
@@ -265,8 +257,8 @@ on-gives named background area bytes = let o = only named background area bytes 
 
 -- what a named terminal shows, for what was measured of the document
 pub shown_in : (named : Named) (background : Parts) (area : Area) (bytes : List ℕ) (d : List Placed) (sides : Sides)
-    (opening : List Event) (screen : Shown) → Document d bytes → opening ≡ (model_of named).opening (events_of d)
-    → sides_in area (events_of d) ≡ Some sides → ShowsOn named background sides opening bytes (Ok screen)
+    (opening : List Event) (screen : Shown) → Document d bytes
+    → opening ≡ (model_of named).opening (events_of (heard_on named bytes d)) → sides_in area (events_of d) ≡ Some sides → ShowsOn named background sides opening bytes (Ok screen)
     → ShowsIn named background area bytes (Ok screen)
 shown_in named background area bytes d sides opening screen doc first is g =
     let same : d ≡ g.0 = document_once bytes d g.0 doc g.1 in (
@@ -275,18 +267,18 @@ shown_in named background area bytes d sides opening screen doc first is g =
       (
         sides,
         subst (λ (l : List Placed). sides_in area (events_of l) ≡ Some sides) same is,
-        g.2 (first ∙ opening_heard named bytes d
+        g.2 (first
             ∙ ap (λ (l : List Placed). (model_of named).opening (events_of (heard_on named bytes l))) same),
       ),
     )
 
 pub boxless_in : (named : Named) (background : Parts) (area : Area) (bytes : List ℕ) (d : List Placed) (sides : Sides)
-    (opening : List Event) (screen : Shown) → Document d bytes → opening ≡ (model_of named).opening (events_of d)
-    → sides_in area (events_of d) ≡ None → ShowsOn named background sides opening bytes (Ok screen)
+    (opening : List Event) (screen : Shown) → Document d bytes
+    → opening ≡ (model_of named).opening (events_of (heard_on named bytes d)) → sides_in area (events_of d) ≡ None → ShowsOn named background sides opening bytes (Ok screen)
     → ShowsIn named background area bytes (Err NoBox)
 boxless_in named background area bytes d sides opening screen doc first none g =
     let same : d ≡ g.0 = document_once bytes d g.0 doc g.1 in
-    let on = g.2 (first ∙ opening_heard named bytes d
+    let on = g.2 (first
     ∙ ap (λ (l : List Placed). (model_of named).opening (events_of (heard_on named bytes l))) same) in
     (g.0, g.1, on.said, subst (λ (l : List Placed). sides_in area (events_of l) ≡ None) same none)
 

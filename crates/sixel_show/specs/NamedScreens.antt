@@ -8,14 +8,15 @@ use Rattle.sixel_grammar.specs.Faults.{IsFaultOf}
 use Rattle.sixel_grammar.specs.Standing.{StandsAfter}
 use Rattle.sixel_model.specs.declared.colour.Parts.{Parts}
 use Rattle.sixel_grammar.specs.declared.both.Both.{Both}
-use Rattle.sixel_konsole.specs.declared.konsole.Konsole.{Konsole}
+use Rattle.sixel_konsole.specs.declared.konsole.Konsole.{Konsole as KonsoleReading}
 use Rattle.sixel_konsole.specs.declared.measuring.Measuring.{Measuring}
 use Rattle.sixel_emulator.specs.declared.modelled.Modelled.{Modelled}
 use Rattle.sixel_named_terminals.specs.declared.named.Named.{Named}
+use Rattle.sixel_named_terminals.specs.declared.named.Named.TheVariants.{Konsole}
 use Rattle.sixel_konsole.specs.Konsole.{StaysLow, konsole_model}
 use Rattle.sixel_konsole.specs.KonsoleSeen.{HasSeenKonsole}
 use Rattle.sixel_konsole.specs.Measuring.{HasTakenAll}
-use Rattle.sixel_emulator.specs.Modelled.{EndsAtPlace, HasFollowed, opening_of}
+use Rattle.sixel_emulator.specs.Modelled.{EndsAtPlace, HasFollowed}
 use Rattle.sixel_named_terminals.specs.Named.{IsScreenOn, heard_on, model_of}
 use Rattle.sixel_emulator.specs.Readings.{IsSaid}
 use Rattle.sixel_terminal.specs.Screens.{Shown}
@@ -23,15 +24,8 @@ use Rattle.sixel_report.specs.declared.fault.RunFault.{RunFault}
 use Rattle.sixel_report.specs.declared.fault.RunFault.TheVariants.{Grammar, NoBox, OutOfMemory, Unmodelled}
 use Rattle.sixel_show.specs.declared.on_konsole.Kept.{Kept}
 use Rattle.sixel_show.specs.declared.on_konsole.Kept.TheVariants.{Bytes, Needless, Lost}
-use Rattle.sixel_show.specs.declared.show_on.Measures.{Measures}
 use Rattle.sixel_report.specs.declared.task.Area.{Area}
-use Rattle.sixel_show.specs.Boxes.{box_in}
 use Rattle.sixel_show.specs.Outputs.{sides_in}
-
--- the box that the events declare, and what the terminal's model draws before the first one
-pub record AreMeasuresOf (named : Named) (m : Measures) (events : List Event) : Type 0 where
-  pub declared_is : m.declared ≡ box_in events
-  pub opening_is : opening_of m.opening ≡ (model_of named).opening events
 
 -- a document may begin with these bytes: a reader has found no fault in them
 abbrev pub HaveNoFault : List ℕ → Type 0
@@ -69,9 +63,9 @@ Suffices Needless bytes events = StaysLow events
 Suffices Lost bytes events = ⊤
 
 -- a document of these bytes is drawn and measured, and what is kept suffices to show it
-pub record IsDrawnOf (w : Both (Modelled Konsole) Measuring) (kept : Kept) (bytes : List ℕ) : Type 0 where
+pub record IsDrawnOf (w : Both (Modelled KonsoleReading) Measuring) (kept : Kept) (bytes : List ℕ) : Type 0 where
   pub placed : List Placed
   pub document : Document placed bytes
-  pub followed : HasFollowed konsole_model HasSeenKonsole w.one [] placed
-  pub measured : HasTakenAll w.other (events_of placed)
-  pub suffices : Suffices kept bytes (events_of placed)
+  pub followed : HasFollowed konsole_model HasSeenKonsole w.one [] (heard_on Konsole bytes placed)
+  pub measured : HasTakenAll w.other (events_of (heard_on Konsole bytes placed))
+  pub suffices : Suffices kept bytes (events_of (heard_on Konsole bytes placed))

@@ -9,24 +9,22 @@ ghost use Rattle.sixel_emulator.specs.FirstPiece.{IsFirst, with_first};
 ghost use Rattle.sixel_konsole.specs.Konsole.{konsole_model};
 ghost use Rattle.sixel_konsole.specs.KonsoleSeen.{HasSeenKonsole};
 ghost use Rattle.sixel_konsole.specs.Measuring.{HasTakenAll};
+ghost use Rattle.sixel_emulator.specs.Heard.{nothing_omitted};
 ghost use Rattle.sixel_emulator.specs.Modelled.{HasFollowed};
 ghost use Rattle.sixel_konsole.specs.Settings.{konsole_display};
 ghost use Rattle.sixel_report.specs.declared.task.Area.{Area as AnArea};
 ghost use Rattle.sixel_show.specs.NamedScreens.{IsDrawnOf, ShowsIn, Suffices};
 
 use crate::show_box::follow;
-use sixel_emulator::Modelled;
-use sixel_grammar::{Both, InputFault, Reader};
+use sixel_emulator::{Hearing, Hears, Looking, Omitted};
+use sixel_grammar::{InputFault, Reader};
 use sixel_io::{PIECE, Source, kept_with};
-use sixel_konsole::{Konsole, Measuring, as_konsole_at_once, konsole_terminal};
+use sixel_konsole::{OnKonsole, as_konsole_at_once, konsole_terminal};
 use sixel_model::Colour;
 use sixel_named_terminals::{Named, konsole_screen, low_konsole_screen};
 use sixel_report::RunFault;
 use sixel_terminal::{Drawing, Screen};
 use std::alloc::{AllocError, Global};
-
-/// A drawing as konsole reads events, and a measure of its rectangle.
-pub type OnKonsole = Both<Modelled<Konsole>, Measuring>;
 
 /// What is kept of the bytes of a document.
 #[derive(Debug, Drop)]
@@ -45,15 +43,19 @@ pub fn begin_konsole(
     background: Colour,
     width: u32,
     height: u32,
-) -> Result<OnKonsole, AllocError>
+) -> Result<Hearing<OnKonsole>, AllocError>
     requires { IsTrue (is_screen_side width && is_screen_side height) }
-    ensures terminal { IfOk result (λ konsole. konsole.one.progress.drawing.terminal
+    ensures terminal { IfOk result (λ konsole. konsole.listener.one.progress.drawing.terminal
         ≡ konsole_display background 1 width height) }
-    ensures followed { IfOk result (λ konsole. HasFollowed konsole_model HasSeenKonsole konsole.one [] []) }
-    ensures measured { IfOk result (λ konsole. HasTakenAll konsole.other []) }
+    ensures unheard { IfOk result (λ konsole. konsole.omitted ≡ nothing_omitted) }
+    ensures followed { IfOk result (λ konsole. HasFollowed konsole_model HasSeenKonsole konsole.listener.one [] []) }
+    ensures measured { IfOk result (λ konsole. HasTakenAll konsole.listener.other []) }
 {
     let terminal = konsole_terminal(alloc, background, 1, width, height)?;
-    Ok(as_konsole_at_once(Drawing::new(alloc, terminal)?))
+    Ok(Hearing {
+        listener: as_konsole_at_once(Drawing::new(alloc, terminal)?),
+        omitted: Omitted::nothing(),
+    })
 }
 
 /// What is kept after these bytes more. `konsole` has taken their events too.
@@ -81,14 +83,15 @@ pub fn follow_on_konsole<S: Source>(
     input: &mut S,
     piece: &mut [u8; PIECE],
     read: usize,
-    konsole: &mut OnKonsole,
+    konsole: &mut Hearing<OnKonsole>,
 ) -> Result<Kept, InputFault>
     requires first { IsFirst piece.old read (S.state input.old).remaining }
-    requires followed { HasFollowed konsole_model HasSeenKonsole konsole.old.one [] [] }
-    requires measured { HasTakenAll konsole.old.other [] }
-    ensures terminal { OnOk result (konsole.new.one.progress.drawing.terminal
-        ≡ konsole.old.one.progress.drawing.terminal) }
-    ensures drawn { IfOk result (λ kept. (bytes : List ℕ) × IsDrawnOf konsole.new kept bytes
+    requires unheard { konsole.old.omitted ≡ nothing_omitted }
+    requires followed { HasFollowed konsole_model HasSeenKonsole konsole.old.listener.one [] [] }
+    requires measured { HasTakenAll konsole.old.listener.other [] }
+    ensures terminal { OnOk result (konsole.new.listener.one.progress.drawing.terminal
+        ≡ konsole.old.listener.one.progress.drawing.terminal) }
+    ensures drawn { IfOk result (λ kept. (bytes : List ℕ) × IsDrawnOf konsole.new.listener kept bytes
         × IfSome (with_first piece.old read (S.state input.old).remaining) (λ told. told ≡ bytes)) }
     ensures refused { IfErr result (λ fault.
         IfSome (with_first piece.old read (S.state input.old).remaining) (Explains fault)) }
@@ -100,10 +103,13 @@ pub fn follow_on_konsole<S: Source>(
 {
     let mut kept = Kept::Bytes(Vec::new(alloc));
     let mut reader = Reader::new();
+    let mut looking = Looking::new(Hears::Boxes);
     let mut count = read;
     while count > 0 {
+        looking.look(&piece[..count]);
+        konsole.omitted = looking.omitted();
         follow(&mut reader, konsole, &piece[..count])?;
-        kept = kept_after(kept, konsole, &piece[..count]);
+        kept = kept_after(kept, &konsole.listener, &piece[..count]);
         count = input.fill(piece)?;
     }
     reader.finish()?;

@@ -14,7 +14,7 @@ ghost use Rattle.sixel_emulator.specs.FirstPiece.{IsFirst, with_first};
 ghost use Rattle.sixel_report.specs.declared.fault.RunFault.TheVariants.{Read};
 ghost use Rattle.sixel_report.specs.declared.task.Area.{Area as AnArea};
 ghost use Rattle.sixel_show.specs.Boxes.{box_in};
-ghost use Rattle.sixel_show.specs.NamedScreens.{AreMeasuresOf, HaveNoFault, HasSidesAfter, ShowsIn};
+ghost use Rattle.sixel_show.specs.NamedScreens.{HaveNoFault, HasSidesAfter, ShowsIn};
 ghost use Rattle.sixel_report.specs.Outputs.{CountsWrites, HasSidesIn, WroteBy, WroteNothing, failures_by};
 ghost use Rattle.sixel_show.specs.Outputs.{ShowOnGives, sides_in};
 
@@ -23,9 +23,8 @@ use crate::draw::read_rest;
 use crate::kept::follow_kept;
 use crate::on_konsole::{begin_konsole, follow_on_konsole, screen_by};
 use crate::show_box::{follow, sides_of_box};
-use sixel_grammar::{Both, Command, InputFault, Reader};
+use sixel_grammar::{InputFault, Reader};
 use sixel_io::{DeviceFault, PIECE, Sink, Source};
-use sixel_konsole::Measuring;
 use sixel_model::Colour;
 use sixel_named_terminals::Named;
 use sixel_report::{Area, RunFault, Status};
@@ -276,7 +275,7 @@ fn show_konsole<S: Source, K: Sink>(
         return Err(RunFault::OutOfMemory);
     };
     let kept = follow_on_konsole(alloc, input, piece, read, &mut konsole)?;
-    let screen = screen_by(alloc, background, width, height, konsole, kept)?;
+    let screen = screen_by(alloc, background, width, height, konsole.listener, kept)?;
     write_ppm_screen(&screen, output)?;
     Ok(Status::Done)
 }
@@ -303,67 +302,28 @@ fn show_in_box<S: Source, K: Sink>(
         (NoFaultBefore (S.state input.new).remaining) }
     ensures writes { CountsWrites result (K.state output.old).failures (K.state output.new).failures }
 {
-    let (kept, measures) = measure(alloc, named, input, piece, read)?;
+    let (kept, declared) = find_box(alloc, input, piece, read)?;
     let Some(bytes) = kept else {
         return Err(RunFault::OutOfMemory);
     };
-    let screen = shown(alloc, named, background, measures, &bytes)?;
+    let screen = shown(alloc, named, background, declared, &bytes)?;
     write_ppm_screen(&screen, output)?;
     Ok(Status::Done)
 }
 
-/// What a screen of a named terminal needs to know of all events of a document.
-#[derive(Clone, Copy, Debug)]
-struct Measures {
-    /// The width and the height of the box that they declare.
-    declared: Option<(u16, u16)>,
-    /// What the terminal's model draws before the first one.
-    opening: Option<Command>,
-}
-
-/// Reads the source to its end. Returns the bytes of the document, if there is memory for them, and its measures.
-fn measure<S: Source>(
+/// Reads the source to its end. Returns the bytes of the document, if there is memory for them, and the box that it
+/// declares.
+fn find_box<S: Source>(
     alloc: Global,
-    named: Named,
     input: &mut S,
     piece: &mut [u8; PIECE],
     read: usize,
-) -> Result<(Option<Vec<u8>>, Measures), InputFault>
+) -> Result<(Option<Vec<u8>>, Option<(u16, u16)>), InputFault>
     requires { IsFirst piece.old read (S.state input.old).remaining }
     ensures read { IfOk result (λ document. IfSome document.0 (λ kept.
         IfSome (with_first piece.old read (S.state input.old).remaining) (λ told. told ≡ kept.items))) }
-    ensures measured { IfOk result (λ document. IfSome document.0 (λ kept.
-        (placed : List Place) × Document placed kept.items × AreMeasuresOf named document.1 (events_of placed))) }
-    ensures told { IfOk result (λ document.
-        IfSome (with_first piece.old read (S.state input.old).remaining) IsDocument) }
-    ensures refused { IfErr result (λ fault.
-        IfSome (with_first piece.old read (S.state input.old).remaining) (Explains fault)) }
-    ensures memory { result ≢ Err InputFault.OutOfMemory }
-    ensures failures { (S.state input.new).failures ≡ failures_after result (S.state input.old).failures }
-    ensures unread { result ≡ Err ReadFault →
-        IfSome (with_first piece.old read (S.state input.old).remaining)
-        (NoFaultBefore (S.state input.new).remaining) }
-{
-    match named {
-        Named::Konsole => measure_for_konsole(alloc, input, piece, read),
-        Named::XTerm | Named::MlTerm | Named::Foot => find_box(alloc, named, input, piece, read),
-    }
-}
-
-/// The same for a terminal whose model draws nothing before the first event.
-fn find_box<S: Source>(
-    alloc: Global,
-    named: Named,
-    input: &mut S,
-    piece: &mut [u8; PIECE],
-    read: usize,
-) -> Result<(Option<Vec<u8>>, Measures), InputFault>
-    requires first { IsFirst piece.old read (S.state input.old).remaining }
-    requires opening { named ≢ Named.Konsole }
-    ensures read { IfOk result (λ document. IfSome document.0 (λ kept.
-        IfSome (with_first piece.old read (S.state input.old).remaining) (λ told. told ≡ kept.items))) }
-    ensures measured { IfOk result (λ document. IfSome document.0 (λ kept.
-        (placed : List Place) × Document placed kept.items × AreMeasuresOf named document.1 (events_of placed))) }
+    ensures found { IfOk result (λ document. IfSome document.0 (λ kept.
+        (placed : List Place) × Document placed kept.items × (document.1 ≡ box_in (events_of placed)))) }
     ensures told { IfOk result (λ document.
         IfSome (with_first piece.old read (S.state input.old).remaining) IsDocument) }
     ensures refused { IfErr result (λ fault.
@@ -376,46 +336,7 @@ fn find_box<S: Source>(
 {
     let mut finder = BoxFinder { found: None };
     let kept = follow_kept(alloc, input, piece, read, &mut finder)?;
-    let measures = Measures {
-        declared: finder.found,
-        opening: None,
-    };
-    Ok((kept, measures))
-}
-
-/// The same for konsole.
-fn measure_for_konsole<S: Source>(
-    alloc: Global,
-    input: &mut S,
-    piece: &mut [u8; PIECE],
-    read: usize,
-) -> Result<(Option<Vec<u8>>, Measures), InputFault>
-    requires { IsFirst piece.old read (S.state input.old).remaining }
-    ensures read { IfOk result (λ document. IfSome document.0 (λ kept.
-        IfSome (with_first piece.old read (S.state input.old).remaining) (λ told. told ≡ kept.items))) }
-    ensures measured { IfOk result (λ document. IfSome document.0 (λ kept.
-        (placed : List Place) × Document placed kept.items × AreMeasuresOf Named.Konsole document.1 (events_of placed))) }
-    ensures told { IfOk result (λ document.
-        IfSome (with_first piece.old read (S.state input.old).remaining) IsDocument) }
-    ensures refused { IfErr result (λ fault.
-        IfSome (with_first piece.old read (S.state input.old).remaining) (Explains fault)) }
-    ensures memory { result ≢ Err InputFault.OutOfMemory }
-    ensures failures { (S.state input.new).failures ≡ failures_after result (S.state input.old).failures }
-    ensures unread { result ≡ Err ReadFault →
-        IfSome (with_first piece.old read (S.state input.old).remaining)
-        (NoFaultBefore (S.state input.new).remaining) }
-{
-    let mut both = Both {
-        one: BoxFinder { found: None },
-        other: Measuring::new(),
-    };
-    let kept = follow_kept(alloc, input, piece, read, &mut both)?;
-    let Both { one, other } = both;
-    let measures = Measures {
-        declared: one.found,
-        opening: Named::Konsole.opening(other),
-    };
-    Ok((kept, measures))
+    Ok((kept, finder.found))
 }
 
 /// The screen of the named terminal after the document of these bytes. If no screen can have the sides of the declared
@@ -425,13 +346,13 @@ fn shown(
     alloc: Global,
     named: Named,
     background: Colour,
-    measures: Measures,
+    declared: Option<(u16, u16)>,
     bytes: &[u8],
 ) -> Result<Screen, RunFault>
-    requires { (placed : List Place) × Document placed bytes.now × AreMeasuresOf named measures (events_of placed) }
+    requires { (placed : List Place) × Document placed bytes.now × (declared ≡ box_in (events_of placed)) }
     ensures { ShowsIn named background AnArea.Box bytes.now result }
 {
-    let Measures { declared, opening } = measures;
+    let opening = named.opening_of(bytes);
     match sides_of(declared) {
         Some((width, height)) => Ok(sixel_named_terminals::show_on(
             alloc, named, background, width, height, opening, bytes,

@@ -42,22 +42,20 @@ xterm_introducer parameters = if nat_lt 9 (slice_index_or parameters 0 0) then S
 abbrev pub has_no_ratio : ℕ → ℕ → Bool
 has_no_ratio pan pad = (pan == 0) || (pad == 0)
 
--- the sides end it: one is above the largest, or only the width is 0
+-- the sides end it: one is above the largest, or the width is 0
 abbrev pub ends_xterm : ℕ → ℕ → Bool
-ends_xterm width height =
-    nat_lt xterm_side width || nat_lt xterm_side height || ((width == 0) && not (height == 0))
+ends_xterm width height = nat_lt xterm_side width || nat_lt xterm_side height || (width == 0)
 
 -- a number of the ratio is above the greatest that the model says
 abbrev pub has_long_ratio : ℕ → ℕ → Bool
 has_long_ratio pan pad = nat_lt xterm_number pan || nat_lt xterm_number pad
 
--- a height of 0 ends the string if it is written, and doesn't if it is missing: events don't tell
+-- if the height is missing the sides don't count, and if it is written as 0 it ends the string: events don't tell
 abbrev pub xterm_raster : Attributes → Reads
 xterm_raster a =
     if has_no_ratio a.pan a.pad then Stops
-    else if has_long_ratio a.pan a.pad then Unsaid
+    else if has_long_ratio a.pan a.pad || (a.height == 0) then Unsaid
     else if ends_xterm a.width a.height then Stops
-    else if a.height == 0 then Unsaid
     else Nothing
 
 -- ---- colours

@@ -67,7 +67,7 @@ fn has_long_ratio(pan: u16, pad: u16) -> bool
 fn ends(width: u16, height: u16) -> bool
     ensures { result ≡ ends_xterm width height }
 {
-    width > SIDE || height > SIDE || (width == 0 && height != 0)
+    width > SIDE || height > SIDE || width == 0
 }
 
 fn read_raster(pan: u16, pad: u16, width: u16, height: u16) -> Reads
@@ -75,12 +75,10 @@ fn read_raster(pan: u16, pad: u16, width: u16, height: u16) -> Reads
 {
     if has_no_ratio(pan, pad) {
         Reads::Stops
-    } else if has_long_ratio(pan, pad) {
+    } else if has_long_ratio(pan, pad) || height == 0 {
         Reads::Unsaid
     } else if ends(width, height) {
         Reads::Stops
-    } else if height == 0 {
-        Reads::Unsaid
     } else {
         Reads::Nothing
     }

@@ -12,7 +12,7 @@ use Rattle.sixel_emulator.proofs.documents.draw.Goals as goal
 
 pub returns-clause-terminal : goal.returns-clause-terminal
 returns-clause-terminal g c =
-    subst (λ (t : Display). IfOk c.finish.result (λ d. d.terminal ≡ t)) c.in_ok-hear_rest.ensures.heard.followed.0
+    subst (λ (t : Display). IfOk c.finish.result (λ d. d.terminal ≡ t)) c.in_ok-hear_rest.ensures.heard.taken.0
     c.finish.ensures.terminal
 
 pub returns-clause-gives : goal.returns-clause-gives
@@ -26,5 +26,5 @@ returns-clause-gives g c =
       f.events,
       f.document,
       λ opening begun.
-          c.finish.ensures.gives opening (heard_in c.args.hears f.bytes f.events) (f.followed.1 opening begun),
+          c.finish.ensures.gives opening (heard_in c.args.hears f.bytes f.events) (f.taken.1 opening begun),
     )

@@ -9,7 +9,7 @@ use Rattle.sixel_named_terminals.proofs.at_once.show_source.Goals as goal
 pub returns-in-Ok-clause-shown : goal.returns-in-Ok-clause-shown
 returns-in-Ok-clause-shown g c = λ background sides none model followed terminal.
     let same = rw c.in-Ok.is at c.in_ok-drawing.ensures.terminal in
-    let gives = rw c.hears_bare.ensures at (rw c.in-Ok.is at c.in_ok-drawing.ensures.gives) in
+    let gives = rw c.hears.ensures at (rw c.in-Ok.is at c.in_ok-drawing.ensures.gives) in
     if_known (with_first c.args.piece.now c.args.read (g.S.Source.state c.args.input.now).remaining)
     (λ bytes known.
     gives_drawing c.args.named background sides bytes g.R.Reading.model c.in-Ok.drawing c.finish.result none model
@@ -23,7 +23,7 @@ returns-in-Ok-clause-shown g c = λ background sides none model followed termina
 
 pub returns-in-Err-clause-shown : goal.returns-in-Err-clause-shown
 returns-in-Err-clause-shown g c = λ background sides none model followed terminal.
-    let gives = rw c.hears_bare.ensures at (rw c.in-Err.is at c.in_ok-drawing.ensures.gives) in
+    let gives = rw c.hears.ensures at (rw c.in-Err.is at c.in_ok-drawing.ensures.gives) in
     if_known (with_first c.args.piece.now c.args.read (g.S.Source.state c.args.input.now).remaining)
     (λ bytes known. (
       known.0,

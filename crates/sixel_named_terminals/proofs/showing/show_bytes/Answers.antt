@@ -5,7 +5,7 @@ use Rattle.sixel_named_terminals.proofs.showing.show_bytes.Goals as goal
 pub returns-in-Ok-Ok : goal.returns-in-Ok-Ok
 returns-in-Ok-Ok g c = λ background sides opening model followed terminal.
     let same = rw c.in-Ok-Ok.field-0-is at c.in-Ok-Ok.ensures.terminal in
-    let gives = rw c.hears_bare.ensures at (rw c.in-Ok-Ok.field-0-is at c.in-Ok-Ok.ensures.gives) in
+    let gives = rw c.hears.ensures at (rw c.in-Ok-Ok.field-0-is at c.in-Ok-Ok.ensures.gives) in
     shows_drawing c.args.named background sides opening c.args.bytes.now g.R.Reading.model c.in-Ok-Ok.drawing c.finish.result
     model (same ∙ terminal)
     (record {
@@ -17,6 +17,6 @@ returns-in-Ok-Ok g c = λ background sides opening model followed terminal.
 
 pub returns-in-Ok-Err : goal.returns-in-Ok-Err
 returns-in-Ok-Err g c = λ background sides opening model followed terminal.
-    let gives = rw c.hears_bare.ensures at (rw c.in-Ok-Err.field-0-is at c.in-Ok-Err.ensures.gives) in
+    let gives = rw c.hears.ensures at (rw c.in-Ok-Err.field-0-is at c.in-Ok-Err.ensures.gives) in
     shows_end c.args.named background sides opening c.args.bytes.now g.R.Reading.model c.in-Ok-Err.place model gives.0 gives.1
     (gives.2 opening followed)

@@ -16,4 +16,6 @@ returns c = record {
   tall = refl;
   unknown_system = refl;
   bare_select = refl;
+  two_numbers = (refl, refl);
+  other_numbers = (refl, refl, refl, refl, refl);
 }

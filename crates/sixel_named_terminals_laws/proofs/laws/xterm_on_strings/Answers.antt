@@ -57,3 +57,17 @@ both_stop false = refl
 
 pub returns-clause-bare_select : goal.returns-clause-bare_select
 returns-clause-bare_select c = (refl, λ before next. both_stop (xterm_pen before).ended)
+
+pub returns-clause-ratio : goal.returns-clause-ratio
+returns-clause-ratio c = (refl, refl)
+
+pub returns-clause-written_height : goal.returns-clause-written_height
+returns-clause-written_height c = (refl, refl)
+
+pub returns-clause-one_number : goal.returns-clause-one_number
+unfolding band greatest latest xterm_pen after_each after_first
+returns-clause-one_number c = (refl, λ next. refl)
+
+pub returns-clause-later_ratio : goal.returns-clause-later_ratio
+unfolding band greatest latest xterm_pen after_each after_first
+returns-clause-later_ratio c = (refl, λ next. refl)
