@@ -60,10 +60,28 @@ def screens() -> "Iterator[tuple[str, Ended, Ended]]":
         ("show --width 1 --height 4096", 1, 4096),
         ("show --on mlterm", 800, 480),
         ("show --on mlterm --width 4096", 4096, 480),
+        ("show --on xterm --width 4096", 4096, 480),
+        ("show --on foot --width 4096", 4096, 480),
     ]:
         yield words, run(words.split(), PIXEL), done(with_first(width, height, BLACK, WHITE))
+    # konsole fills the rows below the box, up to a multiple of six.
+    words = "show --on konsole --width 4096"
+    wanted = done(ppm(4096, 480, (BLACK + WHITE * 4095) * 6 + WHITE * (4096 * 474)))
+    yield words, run(words.split(), PIXEL), wanted
     words = "show --on mlterm --background=#80027f --height 4096"
     yield words, run(words.split(), PIXEL), done(with_first(800, 4096, BLACK, VIOLET))
+    # In the band that reaches past row 1,000 xterm paints one column, of four rows here: the second sixel ends the string.
+    words = "show --on xterm --width 2 --height 1002"
+    text = b'\x1bP0;1q"1;1;2;1000#1;2;100;0;0#1' + b"~~-" * 166 + b"NN\x1b\\"
+    wanted = done(ppm(2, 1002, b"d\0\0" * (2 * 996) + (b"d\0\0" + WHITE) * 4 + WHITE * (2 * 2)))
+    yield words, run(words.split(), text), wanted
+    # So a box may have 996 rows, whole bands.
+    for height, data, wanted in [
+        (996, b"~-" * 165 + b"~", done(b"portable 1 996\n")),
+        (997, b"~-" * 166 + b"@", Ended(1, b"broken Large 3\n", b"")),
+    ]:
+        text = b'\x1bPq"1;1;1;%d#0;2;0;0;0#0%s\x1b\\' % (height, data)
+        yield f"check of {height} rows", run(["check", "--on", "xterm"], text), wanted
     # A definition selects its register, the box is filled with register 0, and that has its last colour.
     words = "show --height 4096 --define-selects --fill --width 1 --showing"
     text = b'\x1bPq"1;1;1;2#0;2;100;0;0#1;2;0;100;0@\x1b\\'
@@ -201,6 +219,46 @@ def memory() -> "Iterator[tuple[str, object, object]]":
         yield words, (ample.status, ends, 0 < count < len(ends)), (0, wanted, True)
 
 
+def bounds() -> "Iterator[tuple[str, Ended, Ended]]":
+    """So many KiB suffice, beside those with which a pixel is checked: a task keeps no more than it has to.
+
+    `mend` and `differ` keep the bytes, in room that grows to 32 MiB. A check of the largest picture keeps a byte for
+    each column and band.
+    """
+    start = least()
+    long = PIXEL[:-2] + b"\n" * (17 << 20) + PIXEL[-2:]
+    portable, pixel = done(b"portable 1 1\n"), done(ppm(1, 1, BLACK))
+    mended = done(b'\x1bP0;1q"1;1;1;1#0;2;0;0;0#0@\x1b\\')
+    for words, more, wanted in [
+        ("check", 1_000, portable),
+        ("check --on xterm,mlterm,foot", 1_000, portable),
+        ("check --on konsole", 1_000, Ended(1, b"broken Rows 3\n", b"")),
+        ("survey", 1_000, portable),
+        ("survey --on all", 1_000, Ended(1, b"Rows 1 3\n", b"")),
+        ("scan", 1_000, done(b"0 portable 1 1\n")),
+        ("render", 1_000, pixel),
+        ("mend -q", 40_000, mended),
+        ("show --width 1 --height 1", 1_000, pixel),
+        ("show --box", 1_000, pixel),
+        ("show --on xterm --box", 1_000, pixel),
+        ("show --on mlterm --box", 1_000, pixel),
+        ("show --on foot --box", 1_000, pixel),
+        ("show --on konsole --box", 1_000, pixel),
+        ("differ", 40_000, Ended(1, b"xterm mlterm foot\nkonsole 0 1\n", b"")),
+    ]:
+        yield f"{words} of 17 MiB", limited(words.split(), long, start + more), wanted
+    largest = run(["encode"], ppm(2048, 2048, BLACK * 2048 * 2048)).output
+    for words, wanted in [
+        ("check", done(b"portable 2048 2048\n")),
+        ("check --on mlterm,foot", done(b"portable 2048 2048\n")),
+        ("check --on all", Ended(1, b"broken Large 6\n", b"")),
+        ("survey", done(b"portable 2048 2048\n")),
+        ("survey --on all", Ended(1, b"Large 1 6\nRows 1 6\n", b"")),
+        ("scan", done(b"0 portable 2048 2048\n")),
+    ]:
+        yield f"{words} of 2,048 by 2,048 pixels", limited(words.split(), largest, start + 2_000), wanted
+
+
 # ---- writes
 
 
@@ -230,7 +288,7 @@ def writes() -> "Iterator[tuple[str, object, object]]":
         yield "a line of 36,000 bytes", (b"".join(got), len(got) <= 6), (line, True)
 
 
-PARTS: "list[Callable[[], Iterator[tuple]]]" = [screens, texts, round_trips, arguments, memory, writes]
+PARTS: "list[Callable[[], Iterator[tuple]]]" = [screens, texts, round_trips, arguments, memory, bounds, writes]
 
 
 def main() -> int:
