@@ -70,7 +70,8 @@ def screens() -> "Iterator[tuple[str, Ended, Ended]]":
     yield words, run(words.split(), PIXEL), wanted
     words = "show --on mlterm --background=#80027f --height 4096"
     yield words, run(words.split(), PIXEL), done(with_first(800, 4096, BLACK, VIOLET))
-    # In the band that reaches past row 1,000 xterm paints one column, of four rows here: the second sixel ends the string.
+    # In the band that reaches past row 1,000 xterm paints one column, of four rows here. The second sixel ends the
+    # string.
     words = "show --on xterm --width 2 --height 1002"
     text = b'\x1bP0;1q"1;1;2;1000#1;2;100;0;0#1' + b"~~-" * 166 + b"NN\x1b\\"
     wanted = done(ppm(2, 1002, b"d\0\0" * (2 * 996) + (b"d\0\0" + WHITE) * 4 + WHITE * (2 * 2)))
@@ -220,10 +221,10 @@ def memory() -> "Iterator[tuple[str, object, object]]":
 
 
 def bounds() -> "Iterator[tuple[str, Ended, Ended]]":
-    """So many KiB suffice, beside those with which a pixel is checked: a task keeps no more than it has to.
+    """So many KiB suffice, beside those with which a pixel is checked.
 
-    `mend` and `differ` keep the bytes, in room that grows to 32 MiB. A check of the largest picture keeps a byte for
-    each column and band.
+    They are less than what a task would take that keeps 17 MiB of text, or, of `mend` and `differ`, keeps them twice:
+    the bytes are in room that grows to 32 MiB. Of the largest picture, less than a byte for each pixel.
     """
     start = least()
     long = PIXEL[:-2] + b"\n" * (17 << 20) + PIXEL[-2:]
