@@ -18,7 +18,7 @@ ghost use Rattle.sixel_differ.specs.Views.{IsView, view_in};
 use crate::apart::Apart;
 use crate::fault::DifferFault;
 use crate::view::{View, Views};
-use sixel_emulator::{Hearing, Modelled, Omitted, Reading, omitted_in};
+use sixel_emulator::{Hearing, Modelled, Omitted, RasterHeard, Reading, omitted_in};
 use sixel_foot::{Foot, as_foot, foot_terminal};
 use sixel_grammar::{Both, follow_document};
 use sixel_konsole::{OnKonsole, as_konsole_at_once, konsole_terminal};
@@ -177,7 +177,10 @@ pub(crate) fn draw_all(bytes: &[u8], drawings: Drawings) -> Result<Drawings, Dif
     ensures refused { IfErr result (IsReadingFault bytes.now) }
 {
     let xterm = omitted_in(Named::XTerm.hears(), bytes);
-    let mlterm = omitted_in(Named::MlTerm.hears(), bytes);
+    let mlterm = Omitted {
+        bare: xterm.bare,
+        raster: RasterHeard::AsTheyAre,
+    };
     let konsole = omitted_in(Named::Konsole.hears(), bytes);
     let mut apart = Apart {
         follower: hearing_all(drawings, xterm, mlterm, konsole),

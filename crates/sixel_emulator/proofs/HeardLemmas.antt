@@ -1,7 +1,7 @@
 -- What a terminal hears of a document, with more of its bytes.
 use Rattle.std.proofs.Common.{◌≡◌, ◌∙◌, ◌==◌, ◌&&◌, ◌+◌, ◌<◌, ◌≤◌, ◌-◌, ℕ, zero, suc, Bool, true, false, List, [], ◌∷◌, ◌++◌}
 use Rattle.std.proofs.Common.{Option, Some, None, ap, arith, inl, inr, length, not, refl, subst, sym, ◌≢◌}
-use Rattle.std.specs.Prelude.{IsTrue, cond, filter, flat_map, slice_get, if◌then◌else◌}
+use Rattle.std.specs.Prelude.{IsTrue, cond, filter, slice_get, if◌then◌else◌}
 use Rattle.std.specs.List.{range_with_len}
 use Rattle.std.proofs.lemmas.Bool.{cases_lt, eqb-true}
 use Rattle.std.proofs.lemmas.List.{append-nil}
@@ -11,11 +11,17 @@ use Rattle.sixel_grammar.specs.declared.command.Event.{Event}
 use Rattle.sixel_grammar.specs.declared.command.Event.TheVariants.{Step}
 use Rattle.sixel_grammar.specs.declared.command.Placed.{Placed}
 use Rattle.sixel_grammar.specs.declared.reader.Reader.{Reader}
-use Rattle.sixel_grammar.specs.Following.{AreFollowed, TakesEvents}
+use Rattle.sixel_grammar.specs.Following.{AreFollowed, HaltsWithin, TakesEvents}
+use Rattle.sixel_grammar.specs.Pieces.{HaltsPiece}
+use Rattle.sixel_grammar.specs.declared.halt.Halt.{Halt}
+use Rattle.sixel_grammar.specs.declared.halt.Halt.TheVariants.{Refused, Stopped}
+use Rattle.std.specs.declared.convert.Infallible.{Infallible}
+use Rattle.sixel_grammar.proofs.FollowingLemmas.{always_refused}
+use Rattle.sixel_emulator.specs.declared.looking.Looking.{Looking}
+use Rattle.sixel_emulator.specs.Looking.{HasHeardPieces}
 use Rattle.sixel_grammar.specs.Spelling.{is_open_ended}
 use Rattle.sixel_grammar.specs.Standing.{StandsAfter}
 use Rattle.sixel_grammar.specs.Stretches.{sixels_from}
-use Rattle.sixel_grammar.proofs.FollowSourceLemmas.{Follows}
 use Rattle.sixel_model.specs.Events.{Attributes}
 use Rattle.sixel_omissions.specs.declared.raster.WrittenRaster.{WrittenRaster}
 use Rattle.sixel_omissions.specs.Omissions.{IsFirstBare, is_bare_at}
@@ -292,24 +298,6 @@ abbrev pub hearing_at : {R : Type 0} → Hearing R → Omitted → Hearing R
 hearing_at w omitted = record w { omitted = omitted }
 
 -- what has heard these bytes hears the same of them once it knows of those behind them
-pub hears_on : {F : Type 0} (has_taken : F → F → List Placed → Type 0) (hears : Hears) (begun now new : Hearing F)
-    (reader : Reader) (bytes more : List ℕ)
-    → Follows (HasHeardOn has_taken) (hearing_at begun (omitted_in hears bytes)) reader now bytes
-    → new ≡ hearing_at now (omitted_in hears (bytes ++ more))
-    → Follows (HasHeardOn has_taken) (hearing_at begun (omitted_in hears (bytes ++ more))) reader new bytes
-hears_on has_taken hears begun now new reader bytes more before is = λ first h.
-    let f = before (hearing_at first (omitted_in hears bytes)) (refl, h.1) in
-    let same : heard (omitted_in hears (bytes ++ more)) f.events ≡ heard first.omitted f.events =
-    ap (λ (o : Omitted). heard o f.events) h.0 in
-    let all = sym (heard_stays hears reader f.events bytes more f.read) ∙ same in
-    subst (λ (w : Hearing _). AreFollowed (HasHeardOn has_taken first) reader w bytes) (sym is)
-    (record {
-      events = f.events;
-      read = f.read;
-      taken = (h.0, subst (λ (l : List Placed). has_taken first.listener now.listener l) all f.taken.1);
-    })
-
--- the same of one that had begun so
 pub followed_on : {F : Type 0} (has_taken : F → F → List Placed → Type 0) (hears : Hears) (begun now : Hearing F)
     (omitted : Omitted) (reader : Reader) (bytes more : List ℕ)
     → (a : AreFollowed (HasHeardOn has_taken (hearing_at begun (omitted_in hears bytes))) reader now bytes)
@@ -368,3 +356,19 @@ heard_whole Selects bytes placed none high =
 heard_whole SelectsAndRasters bytes placed none high =
     heard_by (first_bare bytes) (as_ratio (first_raster bytes)) placed (sym (first_bare_is bytes None none)) high
 heard_whole Boxes bytes placed none high = heard_boxes bytes placed high
+
+-- what ends the following of a piece ends its hearing
+pub heard_halts : {F : Type 0} (has_taken : F → F → List Placed → Type 0) (reader r : Reader)
+    (before now new : Hearing F) (l m : Looking) (piece : List ℕ)
+    (on : (first : Hearing F) (start : Looking) (bytes : List ℕ)
+    → HasHeardPieces has_taken first start reader before l bytes
+    → (from : Hearing F) × AreFollowed (HasHeardOn has_taken from) reader now bytes)
+    (ends : Halt Infallible)
+    → HaltsWithin (HasHeardOn has_taken) (λ one other stop seen. ⊥) reader now r new piece ends
+    → HaltsPiece (HasHeardPieces has_taken) (λ first start hearing looking stop bytes. ⊥) reader before l new m piece
+    ends
+heard_halts has_taken reader r before now new l m piece on (Refused fault) halts = λ first start bytes read rest.
+    let o = on first start bytes read in
+    always_refused (HasHeardOn has_taken o.0) r new (bytes ++ piece) fault (halts o.0 bytes o.1) rest
+heard_halts has_taken reader r before now new l m piece on (Stopped stop) halts = λ first start bytes read.
+    let o = on first start bytes read in (halts o.0 bytes o.1).holds

@@ -7,4 +7,3 @@ pub mod ProgressLemmas
 pub mod ModelledLemmas
 pub mod CutLemmas
 pub mod HeardLemmas
-pub mod FirstPieceLemmas

@@ -7,7 +7,7 @@ ghost use Rattle.sixel_grammar.specs.declared.fault.InputFault.TheVariants.{Read
 ghost use Rattle.sixel_grammar.specs.Document.{Document, events_of};
 ghost use Rattle.sixel_grammar.specs.Faults.{IsFaultOf};
 ghost use Rattle.sixel_grammar.specs.Reading.{Explains, NoFaultBefore, failures_after};
-ghost use Rattle.sixel_emulator.specs.FirstPiece.{IsFirst, with_first};
+ghost use Rattle.sixel_grammar.specs.FirstPiece.{IsFirst, with_first};
 ghost use Rattle.sixel_emulator.specs.Heard.{heard_in};
 ghost use Rattle.sixel_emulator.specs.Modelled.{HasFollowed, ModelGives};
 

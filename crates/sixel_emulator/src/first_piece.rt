@@ -4,9 +4,9 @@ ghost use Rattle.std.specs.Prelude.{◌≡◌, [], Err, IfErr, IfSome, OnOk};
 ghost use Rattle.sixel_grammar.specs.Reading.{NoFaultBefore};
 ghost use Rattle.sixel_grammar.specs.Source.{FollowsSource, HaltsSource, failures_of};
 ghost use Rattle.sixel_grammar.specs.declared.source.SourceHalt.TheVariants.{Read as SourceRead};
-ghost use Rattle.sixel_emulator.specs.FirstPiece.{IsFirst, with_first};
+ghost use Rattle.sixel_grammar.specs.FirstPiece.{IsFirst, with_first};
 
-use sixel_grammar::{Follower, Reader, SourceHalt, follow_bytes};
+use sixel_grammar::{Follower, SourceHalt, read_rest};
 use sixel_io::{PIECE, Source};
 
 /// Reads a source to its end, and hands on the events of its document. Its first bytes are read already: they are the
@@ -32,12 +32,5 @@ pub fn follow_rest<S: Source, F: Follower>(
         IfSome (with_first piece.old read (S.state input.old).remaining)
         (NoFaultBefore (S.state input.new).remaining) }
 {
-    let mut reader = Reader::new();
-    let mut count = read;
-    while count > 0 {
-        follow_bytes(&mut reader, follower, &piece[..count])?;
-        count = input.fill(piece)?;
-    }
-    reader.finish()?;
-    Ok(())
+    read_rest(input, piece, read, follower, &mut ())
 }

@@ -4,15 +4,41 @@ ghost use Rattle.std.specs.Prelude.{◌≡◌, [], Err, IfErr, IfSome, OnOk};
 ghost use Rattle.sixel_grammar.specs.Reading.{Explains, NoFaultBefore};
 ghost use Rattle.sixel_grammar.specs.Source.{failures_of, fault_of_source};
 ghost use Rattle.sixel_grammar.specs.declared.source.SourceHalt.TheVariants.{Read as SourceRead};
-ghost use Rattle.sixel_emulator.specs.FirstPiece.{IsFirst, with_first};
+ghost use Rattle.sixel_grammar.specs.FirstPiece.{IsFirst, with_first};
 ghost use Rattle.sixel_emulator.specs.Heard.{HasHeard, nothing_omitted};
+ghost use Rattle.sixel_emulator.specs.Looking.{HasHeardPieces};
 
 use crate::hearing::{Hearing, Hears};
 use crate::listener::Listener;
 use crate::looking::Looking;
-use sixel_grammar::{Reader, SourceHalt, follow_bytes};
+use sixel_grammar::{Halt, PieceReader, Reader, SourceHalt, follow_bytes, read_rest};
 use sixel_io::{PIECE, Source};
 use std::convert::Infallible;
+
+/// The bytes of each piece are looked at before their events are taken.
+impl<F: Listener> PieceReader<Hearing<F>> for Looking {
+    type Stop = Infallible;
+
+    ghost has_read = { HasHeardPieces F.has_taken };
+
+    ghost may_end = { λ first start hearing now stop bytes. ⊥ };
+
+    #[inline(always)]
+    fn read_piece(
+        &mut self,
+        reader: &mut Reader,
+        hearing: &mut Hearing<F>,
+        piece: &[u8],
+    ) -> Result<(), Halt<Infallible>> {
+        self.look(piece);
+        hearing.omitted = self.omitted();
+        follow_bytes(reader, hearing, piece)
+    }
+
+    ghost stands = { λ first start reader hearing now bytes h. (h.1.events, h.1.read) };
+
+    ghost longer = { λ first start hearing now stop bytes rest h. h };
+}
 
 /// Reads a source to its end, and takes what is heard of its document. Its first bytes are read already: they are
 /// the first `read` of `piece`, and `read` is 0 only at its end. `piece` is also the room for the bytes that are read at
@@ -40,15 +66,6 @@ pub fn hear_rest<S: Source, F: Listener>(
         IfSome (with_first piece.old read (S.state input.old).remaining)
         (NoFaultBefore (S.state input.new).remaining) }
 {
-    let mut reader = Reader::new();
     let mut looking = Looking::new(hears);
-    let mut count = read;
-    while count > 0 {
-        looking.look(&piece[..count]);
-        hearing.omitted = looking.omitted();
-        follow_bytes(&mut reader, hearing, &piece[..count])?;
-        count = input.fill(piece)?;
-    }
-    reader.finish()?;
-    Ok(())
+    read_rest(input, piece, read, hearing, &mut looking)
 }

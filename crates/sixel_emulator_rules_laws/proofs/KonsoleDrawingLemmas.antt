@@ -250,7 +250,7 @@ front_drawn start a starts wide =
       begun = λ next free.
           let still : moves_or_ends next ≡ false = front_free start a next free in
           begun_push s e next
-          ∙ or_left (begins s e next) (has_begun s (Some e)) (rw (still, start_calm start starts) refl);
+          ∙ or_left (begins s e next) (has_begun s (Some e)) (rw (still, wide, start_calm start starts) refl);
       counted = λ next free.
           let still : moves_or_ends next ≡ false = front_free start a next free in
           counting_push s e next

@@ -1,8 +1,7 @@
 -- A source that is followed to its end.
-use Rattle.std.proofs.Common.{◌≡◌, ◌∙◌, ℕ, List, [], ◌++◌, Option, None, Some, Result, Err, ap, append_assoc, refl}
-use Rattle.std.proofs.Common.{append-nil, subst, sym, take}
+use Rattle.std.proofs.Common.{◌≡◌, ℕ, List, [], Option, None, Some, Result, Err, ap, refl}
+use Rattle.std.proofs.Common.{append-nil, subst, sym}
 use Rattle.std.specs.Prelude.{IfSome}
-use Rattle.std.specs.Io.KnownBytes.{Consumes, IsAtEnd}
 use Rattle.sixel_grammar.specs.declared.command.Placed.{Placed}
 use Rattle.sixel_grammar.specs.declared.fault.InputFault.{InputFault}
 use Rattle.sixel_grammar.specs.declared.fault.InputFault.TheVariants.{OutOfMemory, Read as ReadFault}
@@ -10,85 +9,16 @@ use Rattle.sixel_grammar.specs.declared.halt.Halt as halt
 use Rattle.sixel_grammar.specs.declared.reader.Reader.{Reader}
 use Rattle.sixel_grammar.specs.declared.source.SourceHalt.{SourceHalt}
 use Rattle.sixel_grammar.specs.declared.source.SourceHalt.TheVariants.{Read, Refused, Stopped}
-use Rattle.sixel_grammar.specs.Document.{Document}
 use Rattle.sixel_grammar.specs.Faults.{IsFaultOf}
-use Rattle.sixel_grammar.specs.Following.{AreFollowed, FollowsBytes, HaltsWithin}
+use Rattle.sixel_grammar.specs.Following.{HaltsWithin}
 use Rattle.sixel_grammar.specs.Reading.{Explains, failures_after}
-use Rattle.sixel_grammar.specs.Source.{FollowsSource, HaltsSource, failures_of, fault_of_source, source_halt_of}
+use Rattle.sixel_grammar.specs.Source.{HaltsSource, failures_of, fault_of_source, source_halt_of}
 use Rattle.sixel_grammar.specs.Standing.{StandsAfter}
 use Rattle.sixel_grammar.proofs.FollowingLemmas.{always_refused}
-use Rattle.sixel_grammar.proofs.SourceLemmas.{told_all}
-
--- what had taken no event has now taken those that are complete in these bytes
-abbrev pub Follows : {F : Type 0} → (F → F → List Placed → Type 0) → F → Reader → F → List ℕ → Type 0
-Follows {F} has_taken old reader now bytes =
-    (first : F) → has_taken first old [] → AreFollowed (has_taken first) reader now bytes
-
--- ---- the bytes so far
-
-pub follows_none : {F : Type 0} (has_taken : F → F → List Placed → Type 0) (old : F) (reader : Reader)
-    → StandsAfter reader [] [] → Follows has_taken old reader old []
-follows_none has_taken old reader stands = λ first h. record { events = []; read = stands; taken = h }
-
-pub follows_more : {F : Type 0} (has_taken : F → F → List Placed → Type 0) (old now new : F) (reader r : Reader)
-    (prefix more : List ℕ) → Follows has_taken old reader now prefix → FollowsBytes has_taken reader now r new more
-    → Follows has_taken old r new (prefix ++ more)
-follows_more has_taken old now new reader r prefix more before follows = λ first h.
-    follows first prefix (before first h)
-
--- ---- the end of the source
-
--- the answer of a reader at the end is that for all bytes
-pub follows_source : {F : Type 0} (has_taken : F → F → List Placed → Type 0) (old now : F) (reader : Reader)
-    (a b c : Option (List ℕ)) (prefix piece : List ℕ) (n : ℕ) → Follows has_taken old reader now prefix
-    → Consumes a b prefix → Consumes b c (take n piece) → n ≡ 0 → IsAtEnd c
-    → ((events : List Placed) (bytes : List ℕ) → StandsAfter reader events bytes → Document events bytes)
-    → FollowsSource has_taken old now a
-follows_source has_taken old now reader a b c prefix piece n follows before none is end answer = λ first h.
-    let f = follows first h in
-    record {
-      events = f.events;
-      bytes = prefix;
-      document = answer f.events prefix f.read;
-      taken = f.taken;
-      known_are = told_all a b c prefix piece n (λ (given : List ℕ). given ≡ prefix) before none is end refl;
-    }
 
 -- ---- bytes at which it was halted
 
--- what ends the following of a piece is right for all bytes
-pub halts_source : {F S : Type 0} (has_taken : F → F → List Placed → Type 0)
-    (may_stop : F → F → S → List Placed → Type 0) (old now new first : F) (reader r : Reader) (prefix more : List ℕ)
-    (a c : Option (List ℕ)) (halt : halt.Halt S) → has_taken first old [] → Follows has_taken old reader now prefix
-    → Consumes a c (prefix ++ more) → HaltsWithin has_taken may_stop reader now r new more halt
-    → IfSome a (HaltsSource has_taken may_stop old new (source_halt_of halt))
-halts_source has_taken may_stop old now new first reader r prefix more None c halt h before consumes halts = tt
-halts_source has_taken may_stop old now new first reader r prefix more (Some a) None halt h before consumes halts =
-    absurd consumes
-halts_source has_taken may_stop old now new first reader r prefix more (Some a) (Some c)
-    (halt.TheVariants.Refused fault) h before consumes halts =
-    subst (λ (t : List ℕ). IsFaultOf t fault) (sym consumes)
-    (always_refused (has_taken first) r new (prefix ++ more) fault (halts first prefix (before first h)) c)
-halts_source has_taken may_stop old now new first reader r prefix more (Some a) (Some c)
-    (halt.TheVariants.Stopped stop) h before consumes halts = λ other taken.
-    let w = halts other prefix (before other taken) in
-    record {
-      read = w.read;
-      unread = w.unread ++ c;
-      bytes_are = consumes ∙ ap (λ (t : List ℕ). t ++ c) w.bytes_are ∙ append_assoc w.read w.unread c;
-      taken = w.taken;
-      rest = w.rest;
-      reader = w.reader;
-      stands = w.stands;
-      holds = w.holds;
-    }
-
--- the halt of a piece is no failure of the source
-pub halt_counts : {S : Type 0} (halt : halt.Halt S) (n : ℕ) → n ≡ failures_of (Err (source_halt_of halt)) n
-halt_counts (halt.TheVariants.Refused fault) n = refl
-halt_counts (halt.TheVariants.Stopped stop) n = refl
-
--- the same of bytes that are all there
+-- what ends the following of bytes that are all there is right for them
 pub halts_document : {F S : Type 0} (has_taken : F → F → List Placed → Type 0)
     (may_stop : F → F → S → List Placed → Type 0) (old new first : F) (reader r : Reader) (bytes : List ℕ)
     (halt : halt.Halt S) → has_taken first old [] → StandsAfter reader [] []

@@ -22,3 +22,5 @@ pub mod WritableLemmas
 pub mod TotalLemmas
 pub mod FollowingLemmas
 pub mod FollowSourceLemmas
+pub mod FirstPieceLemmas
+pub mod PiecesLemmas

@@ -18,3 +18,5 @@ pub mod Pending
 pub mod FixedText
 pub mod Lengths
 pub mod Reading
+pub mod FirstPiece
+pub mod Pieces

@@ -10,6 +10,7 @@ mod fault;
 mod following;
 mod halt;
 mod pending;
+mod pieces;
 mod reader;
 mod reading;
 mod run;
@@ -22,6 +23,7 @@ pub use command::{Columns, Command, Completed, Event, Placed, Plain, Run, TwoCom
 pub use fault::{Fault, InputFault, Reason};
 pub use following::{Follower, follow_bytes};
 pub use halt::Halt;
+pub use pieces::{PieceReader, read_rest, read_source};
 pub use reader::Reader;
 pub use reading::read_all;
 pub use sixel_io::{

@@ -9,6 +9,7 @@ ghost use Rattle.sixel_grammar.specs.declared.source.SourceHalt.TheVariants.{Rea
 use crate::fault::{Fault, InputFault};
 use crate::following::{Follower, follow_bytes};
 use crate::halt::Halt;
+use crate::pieces::read_source;
 use crate::reader::Reader;
 use sixel_io::{DeviceFault, PIECE, Source};
 use std::alloc::AllocError;
@@ -126,13 +127,5 @@ pub fn follow_source<I: Source, F: Follower>(
         IfSome (I.state input.old).remaining (NoFaultBefore (I.state input.new).remaining) }
     ensures left { ReadsToEnd result (I.state input.old).remaining (I.state input.new).remaining }
 {
-    let mut reader = Reader::new();
-    loop {
-        let count = input.fill(piece)?;
-        if count == 0 {
-            reader.finish()?;
-            return Ok(());
-        }
-        follow_bytes(&mut reader, follower, &piece[..count])?;
-    }
+    read_source(input, piece, follower, &mut ())
 }

@@ -15,7 +15,7 @@ use Rattle.sixel_model.specs.Positions.{any_below, since}
 use Rattle.sixel_model.proofs.PositionLemmas.{option_or_none, since_push}
 use Rattle.sixel_konsole.specs.declared.konsole.Konsole.{Konsole}
 use Rattle.sixel_konsole.specs.declared.konsole.Stated.{Stated}
-use Rattle.sixel_konsole.specs.Konsole.{any_followed, begins, counting, first_below, first_followed, has_begun}
+use Rattle.sixel_konsole.specs.Konsole.{any_followed, begins, counting, first_below, first_followed, has_begun, has_width}
 use Rattle.sixel_konsole.specs.Konsole.{has_late, has_unknown_system, is_late, is_stuck, konsole, konsole_data}
 use Rattle.sixel_konsole.specs.Konsole.{StaysLow, konsole_move, konsole_tall}
 use Rattle.sixel_terminal.specs.Stretches.{sixels_of}
@@ -121,9 +121,9 @@ seen_push {k} l {before} e s stuck late begun declares counted waiting settled =
       stuck ∙ ap (λ b. not (is_return e) && (b || has_unknown_system e)) s.stuck_is ∙ sym (stuck_push before e);
   late_is = late ∙ ap (λ b. b || is_late e) s.late_is ∙ sym (late_push before e);
   begun_is = λ next. begun_push before e next
-      ∙ ap₂ (λ a b. ((is_some (named_by e) || (is_some (raster_of e) && not (moves_or_ends next || a)))
+      ∙ ap₂ (λ a b. ((is_some (named_by e) || (has_width e && not (moves_or_ends next || a)))
       || (is_data_command e && not a)) || b) (sym s.stuck_is) (s.begun_is (Some e))
-      ∙ regrouped (begun_in k (moves_or_ends (Some e))) (is_some (named_by e)) (is_some (raster_of e))
+      ∙ regrouped (begun_in k (moves_or_ends (Some e))) (is_some (named_by e)) (has_width e)
       (is_data_command e) k.stuck (moves_or_ends next)
       ∙ ap₂ (λ a b. a || (b && not (moves_or_ends next))) (sym begun) (sym declares);
   counting_is = λ next. counting_push before e next

@@ -66,11 +66,15 @@ is_dropped before next = moves_or_ends next || is_stuck before
 
 -- ---- whether the picture has begun
 
--- a select or a definition, even a dropped one, begins the picture; so do raster attributes and data commands that
--- aren't dropped
+-- raster attributes with a width
+abbrev pub has_width : Event → Bool
+has_width e = option_map_or (λ (a : Attributes). not (a.width == 0)) (raster_of e) false
+
+-- a select or a definition, even a dropped one, begins the picture; so do raster attributes with a width and data
+-- commands that aren't dropped
 abbrev pub begins : List Event → Event → Option Event → Bool
 begins before e next =
-    is_some (named_by e) || (is_some (raster_of e) && not (is_dropped before next))
+    is_some (named_by e) || (has_width e && not (is_dropped before next))
     || (is_data_command e && not (is_stuck before))
 
 -- some event begins the picture; `next` is the event after them

@@ -6,12 +6,12 @@ use Rattle.sixel_grammar.specs.declared.command.Command.TheVariants.{Sixel, Repe
 use Rattle.sixel_grammar.specs.declared.command.Command.TheVariants.{CarriageReturn, NextLine}
 use Rattle.sixel_grammar.specs.declared.command.Event.{Event}
 use Rattle.sixel_grammar.specs.declared.command.Event.TheVariants.{Start, Step, Finish}
-use Rattle.sixel_model.specs.Events.{Attributes, is_data_command, is_return, named_by, raster_of}
+use Rattle.sixel_model.specs.Events.{Attributes, is_data_command, is_return, named_by}
 use Rattle.sixel_konsole.specs.declared.konsole.Konsole.{Konsole}
 use Rattle.sixel_konsole.specs.declared.konsole.Stated.{Stated}
 use Rattle.sixel_emulator.specs.declared.reading.Reads.{Reads}
 use Rattle.sixel_emulator.specs.declared.reading.Reads.TheVariants.{Nothing}
-use Rattle.sixel_konsole.specs.Konsole.{counting, has_begun, has_late, has_unknown_system, is_late, is_stuck}
+use Rattle.sixel_konsole.specs.Konsole.{counting, has_begun, has_late, has_unknown_system, has_width, is_late, is_stuck}
 use Rattle.sixel_konsole.specs.Konsole.{konsole_data, konsole_define, konsole_move, konsole_raster, konsole_select}
 use Rattle.sixel_konsole.specs.Konsole.{moves_or_ends}
 
@@ -52,7 +52,7 @@ next_begun k e =
     begun_in k (moves_or_ends (Some e)) || (is_some (named_by e) || (is_data_command e && not k.stuck))
 
 abbrev pub next_declares : Konsole → Event → Bool
-next_declares k e = is_some (raster_of e) && not k.stuck
+next_declares k e = has_width e && not k.stuck
 
 -- the raster attributes that may count, if the event after them doesn't drop them
 abbrev pub may_count_in : Konsole → Event → Option Attributes

@@ -5,7 +5,7 @@ ghost use Rattle.sixel_grammar.specs.declared.fault.InputFault.TheVariants.{Read
 ghost use Rattle.sixel_grammar.specs.Reading.{Explains, NoFaultBefore, failures_after};
 ghost use Rattle.sixel_model.specs.declared.colour.Parts.{Parts as SomeParts};
 ghost use Rattle.sixel_terminal.specs.Limits.{is_screen_side};
-ghost use Rattle.sixel_emulator.specs.FirstPiece.{IsFirst, with_first};
+ghost use Rattle.sixel_grammar.specs.FirstPiece.{IsFirst, with_first};
 ghost use Rattle.sixel_emulator.specs.Modelled.{HasFollowed};
 ghost use Rattle.sixel_named_terminals.specs.Named.{DrawsNothingFirst, GivesScreen, model_of, terminal_on};
 

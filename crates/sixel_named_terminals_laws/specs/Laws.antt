@@ -263,6 +263,11 @@ UnknownSystemSticks =
     ∷ Step (Repeat 40 63) ∷ Finish false ∷ [])
     ≡ Step (Raster 1 1 40 12) ∷ []
 
+-- after "1;1;0;6"1;1;0;6 a new line doesn't move: raster attributes without a width begin no picture
+abbrev pub NoWidthBeginsNothing : Type 0
+NoWidthBeginsNothing =
+    ReadsAs konsole (Step (Raster 1 1 0 6) ∷ Step (Raster 1 1 0 6) ∷ []) (Step NextLine) Nothing
+
 -- of these bytes and their events konsole hears these events
 abbrev pub KonsoleHears : List ℕ → List Placed → List Event → Type 0
 KonsoleHears bytes placed heard = events_of (heard_on Konsole bytes placed) ≡ heard

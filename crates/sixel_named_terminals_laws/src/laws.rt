@@ -12,7 +12,8 @@ ghost use Rattle.sixel_named_terminals_laws.specs.Laws.{GreatSideDoesNotCount, H
 ghost use Rattle.sixel_named_terminals_laws.specs.Laws.{GoesToTheEnd, GreatestSidesFill, KonsoleIsRead, LargeSideStops};
 ghost use Rattle.sixel_named_terminals_laws.specs.Laws.{LastBandEndsAtASixel, LastBandReturnsAtARepeat};
 ghost use Rattle.sixel_named_terminals_laws.specs.Laws.{LastPositionIsRead, LateBoxIsUnsaid, LateRasterDoesNotCount};
-ghost use Rattle.sixel_named_terminals_laws.specs.Laws.{LaterRatioIsUnsaid, OneNumberStops, OtherNumbersAreUnsaid};
+ghost use Rattle.sixel_named_terminals_laws.specs.Laws.{LaterRatioIsUnsaid, NoWidthBeginsNothing, OneNumberStops};
+ghost use Rattle.sixel_named_terminals_laws.specs.Laws.{OtherNumbersAreUnsaid};
 ghost use Rattle.sixel_named_terminals_laws.specs.Laws.{RatioIsNotHeard, TwoNumbersAreABox};
 ghost use Rattle.sixel_named_terminals_laws.specs.Laws.{WrittenHeightStops};
 ghost use Rattle.sixel_named_terminals_laws.specs.Laws.{NarrowBoxDoesNotCount, NoWidthStops, PenKeepsItsColour};
@@ -75,6 +76,7 @@ pub fn konsole_on_strings()
     ensures tall { RatioIsTall }
     ensures unknown_system { UnknownSystemSticks }
     ensures bare_select { BareSelectIsZero AName.Konsole }
+    ensures no_width { NoWidthBeginsNothing }
     ensures two_numbers { TwoNumbersAreABox }
     ensures other_numbers { OtherNumbersAreUnsaid }
 {}

@@ -3,3 +3,4 @@ pub mod FirstBareLemmas
 pub mod OpenEndedLemmas
 pub mod RasterLemmas
 pub mod RasterPieceLemmas
+mod NotingLemmas

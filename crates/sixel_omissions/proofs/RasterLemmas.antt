@@ -1,6 +1,6 @@
 -- The first raster attributes of bytes, with more bytes.
-use Rattle.std.proofs.Common.{◌≡◌, ◌∙◌, ◌==◌, ◌||◌, ◌+◌, ◌-◌, ◌<◌, ◌≤◌, ◌++◌, ℕ, zero, suc, Bool, true, false, List, [], ◌∷◌}
-use Rattle.std.proofs.Common.{Option, Some, None, ap, append_assoc, arith, drop, inl, inr, length, not, refl, subst, sym, take}
+use Rattle.std.proofs.Common.{◌≡◌, ◌∙◌, ◌==◌, ◌||◌, ◌+◌, ◌-◌, ◌<◌, ◌≤◌, ◌++◌, ℕ, Bool, true, false, List, [], ◌∷◌}
+use Rattle.std.proofs.Common.{Option, Some, None, ap, append_assoc, arith, drop, inl, inr, length, refl, subst, sym, take}
 use Rattle.std.specs.Prelude.{◌⊎◌, cond, filter, slice_index, if◌then◌else◌}
 use Rattle.std.specs.Option.{option_map}
 use Rattle.std.proofs.lemmas.Bool.{eqb-true}
@@ -8,7 +8,6 @@ use Rattle.std.proofs.lemmas.List.{length-append, length-take-le}
 use Rattle.sixel_grammar.specs.Bytes.{is_digit, raster_sign, separator}
 use Rattle.sixel_grammar.proofs.PieceLemmas.{all-append}
 use Rattle.sixel_grammar.proofs.SourceLemmas.{one_past, split_past}
-use Rattle.sixel_omissions.specs.declared.raster.FirstRaster.{FirstRaster}
 use Rattle.sixel_omissions.specs.declared.raster.Seen.{Seen}
 use Rattle.sixel_omissions.specs.declared.raster.Seen.TheVariants.{Nothing, Open, Complete}
 use Rattle.sixel_omissions.specs.declared.raster.WrittenRaster.{WrittenRaster}

@@ -1,5 +1,5 @@
 -- Raster attributes that are complete in some bytes: with more bytes as much is written of them.
-use Rattle.std.proofs.Common.{◌≡◌, ◌≢◌, ◌∙◌, ◌==◌, ◌+◌, ◌<◌, ◌≤◌, ◌++◌, ℕ, zero, suc, Bool, true, false, List, [], ◌∷◌, Option}
+use Rattle.std.proofs.Common.{◌≡◌, ◌≢◌, ◌∙◌, ◌==◌, ◌+◌, ◌<◌, ◌++◌, ℕ, zero, suc, Bool, true, false, List, [], ◌∷◌, Option}
 use Rattle.std.proofs.Common.{Some, None, ap, append_assoc, arith, inl, inr, length, refl, subst, sym}
 use Rattle.std.specs.Prelude.{◌⊎◌, IsTrue, slice_get, if◌then◌else◌}
 use Rattle.std.specs.List.{AllByRecursion}

@@ -2,14 +2,42 @@
 
 ghost use Rattle.std.specs.Prelude.{◌≡◌, [], Err, IfErr, IfSome, OnOk};
 ghost use Rattle.sixel_io.specs.Devices.{ReadsToEnd};
+ghost use Rattle.sixel_grammar.specs.Following.{AreFollowed, HoldsIn};
 ghost use Rattle.sixel_grammar.specs.Reading.{NoFaultBefore};
 ghost use Rattle.sixel_grammar.specs.Source.{FollowsSource, HaltsSource, failures_of};
+ghost use Rattle.sixel_grammar.specs.Pieces.{holds_longer};
 ghost use Rattle.sixel_grammar.specs.declared.source.SourceHalt.TheVariants.{Read as SourceRead};
 ghost use Rattle.sixel_omissions.specs.Seen.{HasSeenBare};
 
 use crate::bare::BareSelects;
-use sixel_grammar::{Follower, Reader, SourceHalt, follow_bytes};
+use sixel_grammar::{Follower, Halt, PieceReader, Reader, SourceHalt, follow_bytes, read_source};
 use sixel_io::{PIECE, Source};
+
+/// It looks at the bytes of each piece before their events are handed on.
+impl<F: Follower> PieceReader<F> for BareSelects {
+    type Stop = F::Stop;
+
+    ghost has_read = { λ first start reader follower now bytes.
+        AreFollowed (F.has_taken first) reader follower bytes × HasSeenBare now bytes };
+
+    ghost may_end = { λ first start follower now stop bytes. HoldsIn (F.may_stop first follower stop) bytes };
+
+    #[inline(always)]
+    fn read_piece(
+        &mut self,
+        reader: &mut Reader,
+        follower: &mut F,
+        piece: &[u8],
+    ) -> Result<(), Halt<F::Stop>> {
+        self.look(piece);
+        follow_bytes(reader, follower, piece)
+    }
+
+    ghost stands = { λ first start reader follower now bytes h. (h.0.events, h.0.read) };
+
+    ghost longer = { λ first start follower now stop bytes rest h.
+        holds_longer (F.may_stop first follower stop) bytes rest h };
+}
 
 /// As `follow_source`. `bare` looks at the bytes of each piece before their events are handed on.
 #[inline(always)]
@@ -31,14 +59,5 @@ pub fn follow_noting<I: Source, F: Follower>(
         IfSome (I.state input.old).remaining (NoFaultBefore (I.state input.new).remaining) }
     ensures left { ReadsToEnd result (I.state input.old).remaining (I.state input.new).remaining }
 {
-    let mut reader = Reader::new();
-    loop {
-        let count = input.fill(piece)?;
-        if count == 0 {
-            reader.finish()?;
-            return Ok(());
-        }
-        bare.look(&piece[..count]);
-        follow_bytes(&mut reader, follower, &piece[..count])?;
-    }
+    read_source(input, piece, follower, bare)
 }

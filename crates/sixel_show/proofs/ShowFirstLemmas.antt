@@ -19,7 +19,7 @@ use Rattle.sixel_grammar.proofs.ViableLemmas.{complete}
 use Rattle.sixel_model.specs.declared.colour.Parts.{Parts}
 use Rattle.sixel_named_terminals.specs.declared.named.Named.{Named}
 use Rattle.sixel_named_terminals.specs.declared.named.Named.TheVariants.{Konsole}
-use Rattle.sixel_emulator.specs.FirstPiece.{with_first}
+use Rattle.sixel_grammar.specs.FirstPiece.{with_first}
 use Rattle.sixel_report.specs.declared.fault.RunFault.{RunFault}
 use Rattle.sixel_report.specs.declared.fault.RunFault.TheVariants.{Grammar, NotRgb, NoBox, OutOfMemory, Read}
 use Rattle.sixel_report.specs.declared.fault.RunFault.TheVariants.{Unmodelled, Write}

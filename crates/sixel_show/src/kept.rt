@@ -5,7 +5,7 @@ ghost use Rattle.sixel_grammar.specs.declared.command.Placed.{Placed as Place};
 ghost use Rattle.sixel_grammar.specs.declared.fault.InputFault.TheVariants.{Read as ReadFault};
 ghost use Rattle.sixel_grammar.specs.Document.{Document, IsDocument};
 ghost use Rattle.sixel_grammar.specs.Reading.{Explains, NoFaultBefore, failures_after};
-ghost use Rattle.sixel_emulator.specs.FirstPiece.{IsFirst, with_first};
+ghost use Rattle.sixel_grammar.specs.FirstPiece.{IsFirst, with_first};
 
 use crate::show_box::follow;
 use sixel_grammar::{Follower, InputFault, Reader};

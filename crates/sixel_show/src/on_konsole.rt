@@ -5,7 +5,7 @@ ghost use Rattle.sixel_grammar.specs.declared.command.Event.{Event as AnEvent};
 ghost use Rattle.sixel_grammar.specs.declared.fault.InputFault.TheVariants.{Read as ReadFault};
 ghost use Rattle.sixel_grammar.specs.Reading.{Explains, NoFaultBefore, failures_after};
 ghost use Rattle.sixel_terminal.specs.Limits.{is_screen_side};
-ghost use Rattle.sixel_emulator.specs.FirstPiece.{IsFirst, with_first};
+ghost use Rattle.sixel_grammar.specs.FirstPiece.{IsFirst, with_first};
 ghost use Rattle.sixel_konsole.specs.Konsole.{konsole_model};
 ghost use Rattle.sixel_konsole.specs.KonsoleSeen.{HasSeenKonsole};
 ghost use Rattle.sixel_konsole.specs.Measuring.{HasTakenAll};

@@ -1,11 +1,23 @@
 //! What konsole notes of an event.
 
 ghost use Rattle.std.specs.Prelude.{◌≡◌};
+ghost use Rattle.sixel_konsole.specs.Konsole.{has_width};
 ghost use Rattle.sixel_konsole.specs.KonsoleSeen.{next_begun, next_declares, next_late, next_stuck};
 
 use crate::konsole::{Konsole, has_unknown_system, is_late, moves_or_ends};
-use sixel_emulator::words::{is_data_command, is_raster, is_return, named_by};
-use sixel_grammar::Event;
+use sixel_emulator::words::{is_data_command, is_return, named_by};
+use sixel_grammar::{Command, Event};
+
+/// Whether the event is raster attributes with a width.
+#[inline(always)]
+fn has_width(event: &Event) -> bool
+    ensures { result ≡ has_width event.now }
+{
+    match event {
+        Event::Step(Command::Raster { width, .. }) => *width != 0,
+        _ => false,
+    }
+}
 
 impl Konsole {
     /// Whether all is dropped after the event.
@@ -34,11 +46,11 @@ impl Konsole {
             || (is_data_command(event) && !self.stuck)
     }
 
-    /// Whether it is raster attributes that begin the picture, unless what follows drops them.
+    /// Whether it is raster attributes with a width. They begin the picture, unless what follows drops them.
     #[inline(always)]
     pub(super) fn declares(&self, event: &Event) -> bool
         ensures { result ≡ next_declares self.now event.now }
     {
-        is_raster(event) && !self.stuck
+        has_width(event) && !self.stuck
     }
 }

@@ -1,11 +1,11 @@
-use Rattle.std.proofs.Common.{◌≡◌, [], List, refl, subst}
+use Rattle.std.proofs.Common.{◌≡◌, [], List, subst}
 use Rattle.std.specs.Prelude.{IfOk}
 use Rattle.sixel_grammar.specs.declared.command.Event.{Event}
 use Rattle.sixel_grammar.specs.declared.command.Placed.{Placed}
 use Rattle.sixel_grammar.specs.Document.{Document}
 use Rattle.sixel_grammar.proofs.FollowSourceLemmas.{told_known}
 use Rattle.sixel_terminal.specs.Displays.{Display}
-use Rattle.sixel_emulator.specs.FirstPiece.{with_first}
+use Rattle.sixel_grammar.specs.FirstPiece.{with_first}
 use Rattle.sixel_emulator.specs.Heard.{heard_in}
 use Rattle.sixel_emulator.specs.Modelled.{HasFollowed, ModelGives}
 use Rattle.sixel_emulator.proofs.documents.draw.Goals as goal

@@ -1,5 +1,5 @@
 use Rattle.std.proofs.Common.{◌∙◌, [], subst}
-use Rattle.sixel_emulator.specs.FirstPiece.{with_first}
+use Rattle.sixel_grammar.specs.FirstPiece.{with_first}
 use Rattle.sixel_emulator.specs.Modelled.{EndsAtPlace}
 use Rattle.sixel_emulator.specs.Readings.{Model}
 use Rattle.sixel_named_terminals.specs.Named.{heard_on}

@@ -16,6 +16,7 @@ returns c = record {
   tall = refl;
   unknown_system = refl;
   bare_select = refl;
+  no_width = λ next. refl;
   two_numbers = (refl, refl);
   other_numbers = (refl, refl, refl, refl, refl);
 }

@@ -1,9 +1,8 @@
-use Rattle.std.proofs.Common.{◌≡◌, ◌∙◌, ◌++◌, ◌≤◌, ◌+◌, List, ℕ, arith, drop, false, subst, sym, take, true}
+use Rattle.std.proofs.Common.{◌≡◌, ◌∙◌, ◌++◌, ◌+◌, List, ℕ, arith, drop, false, subst, sym, take, true}
 use Rattle.std.specs.Prelude.{slice_index}
 use Rattle.sixel_omissions.specs.Omissions.{is_numeric}
 use Rattle.sixel_omissions.specs.Rasters.{AreNumeric, HasRead, written_of}
 use Rattle.sixel_omissions.specs.declared.raster.Seen.TheVariants.{Complete}
-use Rattle.sixel_omissions.specs.declared.raster.WrittenRaster.{WrittenRaster}
 use Rattle.sixel_grammar.proofs.SourceLemmas.{one_past, take_past}
 use Rattle.sixel_omissions.proofs.RasterLemmas.{numeric_more, on_rest, read_closed}
 use Rattle.sixel_omissions.proofs.raster.read_numbers.Goals as goal

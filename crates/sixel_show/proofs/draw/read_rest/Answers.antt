@@ -1,6 +1,6 @@
 use Rattle.sixel_grammar.specs.Document.{IsDocument}
 use Rattle.sixel_grammar.proofs.FollowSourceLemmas.{told_known}
-use Rattle.sixel_emulator.specs.FirstPiece.{with_first}
+use Rattle.sixel_grammar.specs.FirstPiece.{with_first}
 use Rattle.sixel_show.proofs.draw.read_rest.Goals as goal
 
 pub returns-clause-read : goal.returns-clause-read

@@ -6,7 +6,7 @@ use Rattle.sixel_grammar.specs.Document.{IsDocument, most_bytes}
 use Rattle.sixel_grammar.specs.Reading.{Explains}
 use Rattle.sixel_grammar.specs.Standing.{left_of}
 use Rattle.sixel_grammar.proofs.SourceLemmas.{consumes-then, no_fault_before, refused_early}
-use Rattle.sixel_emulator.proofs.FirstPieceLemmas.{first_read, told_end}
+use Rattle.sixel_grammar.proofs.FirstPieceLemmas.{first_read, told_end}
 use Rattle.sixel_io.proofs.KeptLemmas.{kept-more}
 use Rattle.sixel_show.proofs.kept.follow_kept.Goals as goal
 

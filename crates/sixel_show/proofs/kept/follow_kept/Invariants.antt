@@ -2,7 +2,7 @@ use Rattle.std.proofs.Common.{◌≡◌, ◌≤◌, ◌++◌, IfSome, List, ℕ,
 use Rattle.std.specs.Io.KnownBytes.{Consumes}
 use Rattle.sixel_grammar.specs.Following.{AreFollowed}
 use Rattle.sixel_grammar.specs.Standing.{left_of}
-use Rattle.sixel_emulator.specs.FirstPiece.{IsFirst, with_first}
+use Rattle.sixel_grammar.specs.FirstPiece.{IsFirst, with_first}
 use Rattle.sixel_show.proofs.kept.follow_kept.Given as goal
 
 abbrev pub invariant-loop-count : goal.invariant-loop-count

@@ -8,7 +8,7 @@ use Rattle.sixel_grammar.specs.Standing.{left_of}
 use Rattle.sixel_grammar.proofs.SourceLemmas.{consumes-then, no_fault_before, refused_early}
 use Rattle.sixel_emulator.specs.declared.hearing.Hears.TheVariants.{Boxes}
 use Rattle.sixel_emulator.specs.Heard.{omitted_in}
-use Rattle.sixel_emulator.proofs.FirstPieceLemmas.{first_read, told_end}
+use Rattle.sixel_grammar.proofs.FirstPieceLemmas.{first_read, told_end}
 use Rattle.sixel_emulator.proofs.HeardLemmas.{followed_on, hearing_at}
 use Rattle.sixel_show.proofs.OnKonsoleLemmas.{HasTakenOnKonsole, kept_on}
 use Rattle.sixel_show.proofs.on_konsole.follow_on_konsole.Goals as goal

@@ -4,7 +4,7 @@ use Rattle.sixel_grammar.specs.Document.{events_of}
 use Rattle.sixel_grammar.specs.Following.{AreFollowed}
 use Rattle.sixel_grammar.specs.Standing.{left_of}
 use Rattle.sixel_emulator.specs.declared.hearing.Hears.TheVariants.{Boxes}
-use Rattle.sixel_emulator.specs.FirstPiece.{IsFirst, with_first}
+use Rattle.sixel_grammar.specs.FirstPiece.{IsFirst, with_first}
 use Rattle.sixel_emulator.specs.Heard.{HasHeardOn, heard, omitted_in}
 use Rattle.sixel_emulator.specs.Looking.{HasLooked}
 use Rattle.sixel_emulator.proofs.HeardLemmas.{hearing_at}

@@ -1,5 +1,5 @@
 use Rattle.std.proofs.lemmas.Result.{err_from_is_err_and}
-use Rattle.sixel_emulator.specs.FirstPiece.{with_first}
+use Rattle.sixel_grammar.specs.FirstPiece.{with_first}
 use Rattle.sixel_show.proofs.ShowOnLemmas.{at_once_unwritten}
 use Rattle.sixel_show.proofs.show_on.show_at_once.Goals as goal
 

@@ -1,5 +1,5 @@
 use Rattle.std.proofs.lemmas.Result.{err_from_is_err_and}
-use Rattle.sixel_emulator.specs.FirstPiece.{with_first}
+use Rattle.sixel_grammar.specs.FirstPiece.{with_first}
 use Rattle.sixel_report.specs.declared.task.Area.TheVariants as area
 use Rattle.sixel_show.proofs.ShowOnLemmas.{on_refused, on_unwritten}
 use Rattle.sixel_show.proofs.show_on.show_in_box.Goals as goal

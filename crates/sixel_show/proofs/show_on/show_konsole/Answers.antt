@@ -2,7 +2,7 @@ use Rattle.std.proofs.Common.{◌∙◌, sym}
 use Rattle.std.proofs.lemmas.Result.{err_from_is_err_and}
 use Rattle.sixel_grammar.specs.Document.{IsDocument}
 use Rattle.sixel_named_terminals.specs.declared.named.Named.TheVariants.{Konsole}
-use Rattle.sixel_emulator.specs.FirstPiece.{with_first}
+use Rattle.sixel_grammar.specs.FirstPiece.{with_first}
 use Rattle.sixel_report.specs.declared.task.Area.TheVariants as area
 use Rattle.sixel_show.proofs.OnKonsoleLemmas.{no_device}
 use Rattle.sixel_show.proofs.ShowOnLemmas.{on_refused, on_unread, on_unwritten, on_written, told_same}

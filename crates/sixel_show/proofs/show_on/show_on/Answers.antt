@@ -1,4 +1,4 @@
-use Rattle.sixel_emulator.proofs.FirstPieceLemmas.{told_first}
+use Rattle.sixel_grammar.proofs.FirstPieceLemmas.{told_first}
 use Rattle.sixel_show.proofs.ShowFirstLemmas.{nothing_shown}
 use Rattle.sixel_show.proofs.show_on.show_on.Goals as goal
 

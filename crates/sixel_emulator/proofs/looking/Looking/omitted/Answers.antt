@@ -1,5 +1,4 @@
 use Rattle.std.proofs.Common.{◌≡◌, ◌∙◌, Option, ap, ap₂, subst, sym, ℕ}
-use Rattle.sixel_omissions.specs.declared.raster.WrittenRaster.{WrittenRaster}
 use Rattle.sixel_emulator.specs.declared.hearing.Hears.{Hears}
 use Rattle.sixel_emulator.specs.declared.hearing.Hears.TheVariants.{Selects, SelectsAndRasters}
 use Rattle.sixel_emulator.specs.declared.hearing.Omitted.{Omitted}
