@@ -1,19 +1,13 @@
 //! The program `sixel`: checks, lists, draws, mends and writes sixel pictures.
 #![tactic(auto)]
 
-mod pipe;
-
-use pipe::{Errors, Output};
 use sixel_io::{FromRead, ToWrite};
-use sixel_program::{Input, Peeked, System, Terminals, execute};
-use sixel_report::code_of;
+use sixel_program::{Errors, Input, Output, Peeked, System, Terminals, execute, status_of};
 use sixel_words::{Process, arguments_of, task_in, tell};
 use std::cell::Cell;
-use std::io::IsTerminal;
+use std::fs::File;
+use std::io::{IsTerminal, Stdin};
 use std::process::ExitCode;
-
-/// The exit status if nobody reads the output any more: a shell's for a program that SIGPIPE ended.
-const CLOSED: u8 = 141;
 
 fn main(rt: HostRuntime) -> ExitCode {
     let is_closed = Cell::new(false);
@@ -34,7 +28,8 @@ fn main(rt: HostRuntime) -> ExitCode {
                 output: rt.stdout().is_terminal(),
                 errors: rt.stderr().is_terminal(),
             };
-            let mut input = Peeked::new(FromRead::new(Input::Standard(rt.stdin())));
+            let standard: Input<Stdin, File> = Input::Standard(rt.stdin());
+            let mut input = Peeked::new(FromRead::new(standard));
             execute(
                 rt.alloc(),
                 &request,
@@ -47,9 +42,5 @@ fn main(rt: HostRuntime) -> ExitCode {
         }
         Err(fault) => tell(rt.alloc(), fault, &mut output, &mut errors),
     };
-    if is_closed.get() {
-        ExitCode::from(CLOSED)
-    } else {
-        ExitCode::from(code_of(exit))
-    }
+    ExitCode::from(status_of(exit, is_closed.get()))
 }

@@ -4,3 +4,4 @@ pub mod Openings
 pub mod Counts
 pub mod Shown
 pub mod Files
+pub mod Streams

@@ -3,11 +3,11 @@
 ghost use Rattle.std.specs.Prelude.{◌≡◌, IfOk, MatchResult, ℕ, List, None, Some};
 ghost use Rattle.sixel_program.specs.Openings.{IsOpening, OpensAs, Told, bytes_told};
 
+use crate::streams::Input;
 use sixel_io::{FromRead, Source};
 use sixel_messages::Unopened;
 use std::fs::File;
-use std::io;
-use std::io::{Read, Stdin};
+use std::io::Stdin;
 
 /// Opens files by their names.
 pub trait Folder {
@@ -40,22 +40,6 @@ pub fn open_file<F: Folder>(folder: &F, name: &str) -> Result<F::Opened, Unopene
     folder.open(name)
 }
 
-/// What a task reads: standard input or a file. They are one type, so that each task is compiled only once.
-#[derive(Drop)]
-pub enum Input {
-    Standard(Stdin),
-    Named(File),
-}
-
-impl Read for Input {
-    fn read(&mut self, buf: &mut [u8]) -> io::Result<usize> {
-        match self {
-            Input::Standard(input) => input.read(buf),
-            Input::Named(file) => file.read(buf),
-        }
-    }
-}
-
 /// The file system. Contracts know nothing of its files.
 #[derive(Clone, Copy)]
 pub struct System<'a> {
@@ -70,12 +54,12 @@ impl<'a> System<'a> {
 }
 
 impl<'a> Folder for System<'a> {
-    type Opened = FromRead<Input>;
+    type Opened = FromRead<Input<Stdin, File>>;
 
     ghost opening = { λ folder name. None };
 
     /// A folder opens like a file, and only a read of it fails.
-    fn open(&self, name: &str) -> Result<FromRead<Input>, Unopened> {
+    fn open(&self, name: &str) -> Result<FromRead<Input<Stdin, File>>, Unopened> {
         let file = File::open(self.rt, name)?;
         if file.metadata()?.is_dir() {
             return Err(Unopened::IsFolder);

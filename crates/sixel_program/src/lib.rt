@@ -10,10 +10,12 @@ mod folder;
 mod nowhere;
 mod peeked;
 mod shown;
+mod streams;
 mod terminals;
 
 pub use execution::execute;
-pub use folder::{Folder, Input, System};
+pub use folder::{Folder, System};
 pub use peeked::Peeked;
 pub use sixel_messages::Unopened;
+pub use streams::{Errors, Input, Output, status_of};
 pub use terminals::Terminals;
