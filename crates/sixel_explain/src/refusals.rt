@@ -354,7 +354,8 @@ pub const READ: &str = "Read: input that couldn't be opened or read
 Refused: the input, or a named file, couldn't be opened or read. The line is
 sixel: read failed; with a file, it has the name too. If a file can't be opened,
 the line may say why in place of read failed: no such file, permission denied,
-is a folder, or name is not valid UTF-8.
+is a folder, or name is not valid UTF-8. Other reasons stand before read failed:
+file name too long, not a directory, or too many levels of symbolic links.
 
 Fix: check that the file exists under that name, that you may read it, and that
 it is no folder. If its name isn't valid UTF-8, rename it or pass the file to
