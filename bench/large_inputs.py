@@ -6,6 +6,7 @@
     blank-*     a box of one pixel, and then blank data: single sixels, or repeats of nine bytes each, so that as many
                 bytes make a ninth of the events
     each-*      a box of one pixel, and then one command or filler again and again
+    few-*       the same with fewer of them, and with blank sixels, for the tasks for named terminals
     stream-*    100 MB of text without a control, and 100 MB of random bytes
 """
 
@@ -30,6 +31,13 @@ EACH = {
         "select-return": b"#0$",
     }.items()
 }
+
+# The same for named terminals: so many, and each command or filler.
+FEW_COUNT = 200_000
+FEW = {f"few-{name}.six": item for name, item in {
+    "none": b"", "next-line": b"-", "return": b"$", "blank": b"?", "repeat": b"!1?", "select": b"#0",
+    "select-blank": b"#0?",
+}.items()}
 
 # The streams, which have this many million bytes, and a line of the text.
 STREAM_SIZE = 100
@@ -101,8 +109,12 @@ def flat():
     return ppm(b"".join(row) for row in rows)
 
 
+def times(item, count):
+    return b'\x1bPq"1;1;1;1#0;2;0;0;0#0@' + item * count + b"\x1b\\"
+
+
 def again(item, size):
-    return b'\x1bPq"1;1;1;1#0;2;0;0;0#0@' + item * (size * 1_000_000 // len(item)) + b"\x1b\\"
+    return times(item, size * 1_000_000 // len(item))
 
 
 def stream(kind):
@@ -119,5 +131,7 @@ def make(folder):
         (folder / name).write_bytes(again(item, size))
     for name, item in EACH.items():
         (folder / name).write_bytes(again(item, EACH_SIZE))
+    for name, item in FEW.items():
+        (folder / name).write_bytes(times(item, FEW_COUNT))
     for name, kind in STREAMS.items():
         (folder / name).write_bytes(stream(kind))
