@@ -22,7 +22,7 @@ use Rattle.sixel_emulator_rules.specs.Asked.{breaks_dropped, breaks_far, breaks_
 use Rattle.sixel_emulator_rules.specs.Asked.{breaks_past, breaks_raster_late, breaks_rows, leaves_box, leaves_far}
 use Rattle.sixel_emulator_rules.specs.Asked.{is_asked, is_droppable}
 use Rattle.sixel_emulator_rules.specs.Asking.{BreaksNoneWithin}
-use Rattle.sixel_emulator_rules.specs.Counts.{fits_box_in, fits_in, is_calm_in, is_near_in}
+use Rattle.sixel_emulator_rules.specs.Counts.{asks_where, fits_box_in, fits_in, is_calm_in, is_near_in}
 use Rattle.sixel_emulator_rules.specs.Notes.{AreNarrow, IsNotesAfter, attributes, passed, stale_in}
 use Rattle.sixel_emulator_rules.specs.Stale.{colour_at_select}
 use Rattle.sixel_emulator_rules.specs.Tallies.{CountsAsked}
@@ -35,6 +35,7 @@ use Rattle.sixel_emulator_rules.specs.declared.rule.AskedRule.TheVariants.{Far, 
 use Rattle.sixel_emulator_rules.specs.declared.terminals.Terminals.{Terminals}
 use Rattle.sixel_emulator_rules.proofs.AskingLemmas.{none_push}
 use Rattle.sixel_emulator_rules.proofs.CountsLemmas.{breaks_counts, fresh, known_below}
+use Rattle.sixel_emulator_rules.proofs.QuietLemmas.{either_left, either_right, near_if}
 use Rattle.sixel_emulator_rules.proofs.StaleLemmas.{at_select_still, colour_still}
 
 -- ---- the notes after sixels
@@ -97,11 +98,11 @@ notes_over n before bytes some s = record {
 
 -- ---- what they can break
 
--- so many sixels end in the box and at most at column 32,767, their band begins in the box, and if foot is asked, the
--- known register has the colour of its select
+-- if a rule is asked for that hangs on where sixels stand, so many end in the box and at most at column 32,767, and their
+-- band begins in the box; and if foot is asked, the known register has the colour of its select
 pub record AreCalm (t : Terminals) (before : List Event) (count : ℕ) : Type 0 where
-  pub column_to : column 0 before + count ≤ 32767
-  pub fits : (a : Attributes) → raster_before before ≡ Some a
+  pub column_to : IsTrue (asks_where t) → column 0 before + count ≤ 32767
+  pub fits : IsTrue (asks_where t) → (a : Attributes) → raster_before before ≡ Some a
       → (column 0 before + count ≤ a.width) × (6 * band before < a.height)
   pub fresh : IsTrue (is_asked t Stale) → (r : ℕ) → r < 256 → known before ≡ Some r
       → colour_of before r ≡ colour_at_select before r
@@ -112,16 +113,16 @@ no_past true w h c b k across down t = cc
 no_past false w h c b k across down t = grind (arith, nat_tests)
 
 not_past : {t : Terminals} {before : List Event} {k : ℕ} (bits : ℕ) (o : Option Attributes) → raster_before before ≡ o
-    → AreCalm t before (suc k)
+    → AreCalm t before (suc k) → IsTrue (asks_where t)
     → (not (is_painting (Step (Sixel bits))) && option_map_or (λ a. leaves_box a before (Step (Sixel bits))) o false)
     ≡ true → ⊥
-not_past bits None is calm t = and_no (not (is_painting (Step (Sixel bits)))) t
+not_past bits None is calm asks t = and_no (not (is_painting (Step (Sixel bits)))) t
   where
     and_no : (b : Bool) → (b && false) ≡ true → ⊥
     and_no true h = cc
     and_no false h = cc
-not_past {before} {k} bits (Some a) is calm t =
-    let room = calm.fits a is in
+not_past {before} {k} bits (Some a) is calm asks t =
+    let room = calm.fits asks a is in
     no_past (is_painting (Step (Sixel bits))) a.width a.height (column 0 before) (band before) k room.0 room.1 t
 
 no_far : (w h c b k : ℕ) → c + suc k ≤ 32767 → c + suc k ≤ w → 6 * b < h
@@ -132,13 +133,13 @@ no_far_alone : (c k : ℕ) → c + suc k ≤ 32767 → (nat_lt 32767 (c + 1) || 
 no_far_alone c k across t = grind (arith, nat_tests)
 
 not_far : {t : Terminals} {before : List Event} {k : ℕ} (bits : ℕ) (o : Option Attributes) → raster_before before ≡ o
-    → AreCalm t before (suc k)
+    → AreCalm t before (suc k) → IsTrue (asks_where t)
     → (nat_lt 32767 (column 0 before + 1)
     || option_map_or (λ a. leaves_far a before (Step (Sixel bits))) o false) ≡ true → ⊥
-not_far {before} {k} bits None is calm t = no_far_alone (column 0 before) k calm.column_to t
-not_far {before} {k} bits (Some a) is calm t =
-    let room = calm.fits a is in
-    no_far a.width a.height (column 0 before) (band before) k calm.column_to room.0 room.1 t
+not_far {before} {k} bits None is calm asks t = no_far_alone (column 0 before) k (calm.column_to asks) t
+not_far {before} {k} bits (Some a) is calm asks t =
+    let room = calm.fits asks a is in
+    no_far a.width a.height (column 0 before) (band before) k (calm.column_to asks) room.0 room.1 t
 
 pub none_counted : {t : Terminals} {before : List Event} {k : ℕ} (bits : ℕ) (rule : AskedRule)
     → AreCalm t before (suc k) → IsTrue (is_asked t rule) → ¬ CountsAsked rule before (Step (Sixel bits))
@@ -149,9 +150,11 @@ none_counted {before} bits Stale calm asked h =
     h.0.differs (calm.fresh asked h.0.register (known_below before h.0.register h.0.is_known h.1) h.0.is_known)
 none_counted bits Large calm asked h = cc
 none_counted bits Rows calm asked h = cc
-none_counted {before} bits Past calm asked h = not_past bits (raster_before before) refl calm h
+none_counted {t} {before} bits Past calm asked h =
+    not_past bits (raster_before before) refl calm (either_left (is_asked t Past) (is_asked t Far) asked) h
 none_counted bits Hue calm asked h = cc
-none_counted {before} bits Far calm asked h = not_far bits (raster_before before) refl calm h
+none_counted {t} {before} bits Far calm asked h =
+    not_far bits (raster_before before) refl calm (either_right (is_asked t Past) (is_asked t Far) asked) h
 none_counted bits Introducer calm asked h = cc
 none_counted bits Bare calm asked h = h
 
@@ -164,13 +167,13 @@ pub calm_after : {t : Terminals} (before : List Event) (k bits : ℕ) → AreCal
     → AreCalm t (before ++ Step (Sixel bits) ∷ []) k
 calm_after before k bits calm =
     let one : Event = Step (Sixel bits) in
-    let across : column 0 before + suc k ≤ 32767 = calm.column_to in
     let right : column 0 (before ++ one ∷ []) ≡ column 0 before + 1 = column_push 0 before one in
     let same : band (before ++ one ∷ []) ≡ band before + 0 = band_push before one in
     record {
-      column_to = omega (arith, across, right);
-      fits = λ a is.
-          let room = calm.fits a (sym (raster_push before one ∙ option_or_none (raster_before before)) ∙ is) in
+      column_to = λ asks.
+          let across : column 0 before + suc k ≤ 32767 = calm.column_to asks in omega (arith, across, right);
+      fits = λ asks a is.
+          let room = calm.fits asks a (sym (raster_push before one ∙ option_or_none (raster_before before)) ∙ is) in
           let in_width : column 0 before + suc k ≤ a.width = room.0 in
           let in_height : 6 * band before < a.height = room.1 in
           (omega (arith, in_width, right), omega (arith, in_height, same));
@@ -219,12 +222,14 @@ fits_of {n} {before} k a (Some d) s narrow is t =
 pub calm_of : {n : Notes} {before : List Event} (t : Terminals) (k : ℕ) → IsNotesAfter n before
     → is_calm_in t n k ≡ true → AreCalm t before k
 calm_of {n} {before} t k s h =
-    let one = and_parts (is_near_in n k) (not (is_asked t Stale && stale_in n)) h in
-    let two = and_parts (fits_box_in n k) (nat_le (n.column + k) 32767) one.0 in
+    let one = and_parts (not (asks_where t) || is_near_in n k) (not (is_asked t Stale && stale_in n)) h in
+    let near = λ (asks : IsTrue (asks_where t)).
+    and_parts (fits_box_in n k) (nat_le (n.column + k) 32767)
+    (near_if (asks_where t) (is_near_in n k) one.0 asks) in
     record {
-      column_to = within_cap (column 0 before) k 32767 (omega arith)
-          (subst (λ (m : ℕ). m + k ≤ 32767) s.column_is (leb-true (n.column + k) 32767 two.1));
-      fits = λ a is. fits_of k a n.declared s s.narrow (s.declared_is ∙ is) two.0;
+      column_to = λ asks. within_cap (column 0 before) k 32767 (omega arith)
+          (subst (λ (m : ℕ). m + k ≤ 32767) s.column_is (leb-true (n.column + k) 32767 (near asks).1));
+      fits = λ asks a is. fits_of k a n.declared s s.narrow (s.declared_is ∙ is) (near asks).0;
       fresh = λ asked r low is.
           fresh r s low (second_false (is_asked t Stale) (stale_in n) asked (not-true _ one.1)) is;
     }

@@ -12,7 +12,7 @@ use Rattle.sixel_grammar.specs.declared.command.Event.TheVariants.{Step}
 use Rattle.sixel_model.specs.Events.{columns_of, is_painting}
 use Rattle.sixel_emulator_rules.specs.Asked.{breaks_hue, breaks_large, breaks_introducer, breaks_rows, is_asked}
 use Rattle.sixel_emulator_rules.specs.Counts.{asked_in, counts_in, first_in, fits_box_in, fits_in, in_order, is_calm_in}
-use Rattle.sixel_emulator_rules.specs.Counts.{is_near_in, leaves_far_in, leaves_in}
+use Rattle.sixel_emulator_rules.specs.Counts.{asks_where, is_near_in, leaves_far_in, leaves_in}
 use Rattle.sixel_emulator_rules.specs.Notes.{stale_in}
 use Rattle.sixel_emulator_rules.specs.declared.notes.Declared.{Declared}
 use Rattle.sixel_emulator_rules.specs.declared.notes.Notes.{Notes}
@@ -149,25 +149,49 @@ not_stale false paints stale calm = refl
 not_stale true paints false calm = and_false paints false refl
 not_stale true paints true calm = cc
 
+-- the second is false if the first is true
+when_true : (a b : Bool) → (a ≡ true → b ≡ false) → (a && b) ≡ false
+when_true true b is = is refl
+when_true false b is = refl
+
+-- what is asked for so hangs on where it stands
+pub near_if : (asks near : Bool) → (not asks || near) ≡ true → asks ≡ true → near ≡ true
+near_if true near is asked = is
+near_if false near is asked = cc
+
+pub either_left : (a b : Bool) → a ≡ true → (a || b) ≡ true
+either_left true b is = refl
+either_left false b is = cc
+
+pub either_right : (a b : Bool) → b ≡ true → (a || b) ≡ true
+either_right true b is = refl
+either_right false b is = is
+
 repeat_counts : (t : Terminals) (n : Notes) (c b : ℕ) (rule : AskedRule) → is_calm_in t n c ≡ true
     → asked_in t n (Step (Repeat c b)) rule ≡ false
 unfolding breaks_hue breaks_large breaks_introducer breaks_rows
 repeat_counts t n c b RasterLate calm = and_false (is_asked t RasterLate) false refl
 repeat_counts t n c b Dropped calm = and_false (is_asked t Dropped) false refl
 repeat_counts t n c b Stale calm =
-    let one = and_parts (is_near_in n c) (not (is_asked t Stale && stale_in n)) calm in
+    let one = and_parts (not (asks_where t) || is_near_in n c) (not (is_asked t Stale && stale_in n)) calm in
     not_stale (is_asked t Stale) (is_painting (Step (Repeat c b))) (stale_in n) one.1
 repeat_counts t n c b Large calm = and_false (is_asked t Large) false refl
 repeat_counts t n c b Rows calm = and_false (is_asked t Rows) false refl
 repeat_counts t n c b Past calm =
-    let one = and_parts (is_near_in n c) (not (is_asked t Stale && stale_in n)) calm in
-    let two = and_parts (fits_box_in n c) (nat_le (n.column + c) 32767) one.0 in
-    and_false (is_asked t Past) _ (stays n c b n.declared two.0)
+    let one = and_parts (not (asks_where t) || is_near_in n c) (not (is_asked t Stale && stale_in n)) calm in
+    when_true (is_asked t Past) _
+    (λ asked.
+    let near = near_if (asks_where t) (is_near_in n c) one.0 (either_left (is_asked t Past) (is_asked t Far) asked) in
+    let two = and_parts (fits_box_in n c) (nat_le (n.column + c) 32767) near in
+    stays n c b n.declared two.0)
 repeat_counts t n c b Hue calm = and_false (is_asked t Hue) false refl
 repeat_counts t n c b Far calm =
-    let one = and_parts (is_near_in n c) (not (is_asked t Stale && stale_in n)) calm in
-    let two = and_parts (fits_box_in n c) (nat_le (n.column + c) 32767) one.0 in
-    and_false (is_asked t Far) _ (is_near n c b n.declared two.0 two.1)
+    let one = and_parts (not (asks_where t) || is_near_in n c) (not (is_asked t Stale && stale_in n)) calm in
+    when_true (is_asked t Far) _
+    (λ asked.
+    let near = near_if (asks_where t) (is_near_in n c) one.0 (either_right (is_asked t Past) (is_asked t Far) asked) in
+    let two = and_parts (fits_box_in n c) (nat_le (n.column + c) 32767) near in
+    is_near n c b n.declared two.0 two.1)
 repeat_counts t n c b Introducer calm = and_false (is_asked t Introducer) false refl
 repeat_counts t n c b Bare calm = and_false (is_asked t Bare) false refl
 

@@ -1,11 +1,11 @@
--- Selects, returns and repeats that break no rule, and what stays calm after them.
+-- Selects, returns, new lines and repeats that break no rule, and what stays calm after them.
 use Rattle.std.proofs.Common.{◌≡◌, ◌∙◌, ◌+◌, ◌==◌, ℕ, Bool, true}
 use Rattle.std.proofs.Common.{false, not, min, Option, Some, None, List, [], ◌∷◌}
 use Rattle.std.proofs.Common.{◌++◌, ap, arith, refl, subst, sym}
-use Rattle.std.specs.Prelude.{◌&&◌}
+use Rattle.std.specs.Prelude.{◌&&◌, ◌||◌}
 use Rattle.std.specs.Option.{option_map, option_map_or}
 use Rattle.std.proofs.lemmas.Bool.{and_from, and_parts, eq-eqb}
-use Rattle.sixel_grammar.specs.declared.command.Command.TheVariants.{CarriageReturn, Repeat, Select}
+use Rattle.sixel_grammar.specs.declared.command.Command.TheVariants.{CarriageReturn, NextLine, Repeat, Select}
 use Rattle.sixel_grammar.specs.declared.command.Event.{Event}
 use Rattle.sixel_grammar.specs.declared.command.Event.TheVariants.{Step}
 use Rattle.sixel_grammar.specs.declared.command.Placed.{Placed}
@@ -14,9 +14,9 @@ use Rattle.sixel_model.proofs.PositionLemmas.{option_or_none}
 use Rattle.sixel_emulator.specs.Places.{most}
 use Rattle.sixel_emulator_rules.specs.Asked.{is_asked}
 use Rattle.sixel_emulator_rules.specs.Asking.{HasAsked, HasFound, found_at, placed_at}
-use Rattle.sixel_emulator_rules.specs.Counts.{IsCalmBefore, first_in, is_near_at}
-use Rattle.sixel_emulator_rules.specs.Notes.{IsNotesAfter, attributes, is_same, passed, returned, selecting, shade_at}
-use Rattle.sixel_emulator_rules.specs.Notes.{stale_in}
+use Rattle.sixel_emulator_rules.specs.Counts.{IsCalmBefore, asks_where, first_in, is_near_at}
+use Rattle.sixel_emulator_rules.specs.Notes.{IsNotesAfter, attributes, is_same, lowered, passed, returned, selecting}
+use Rattle.sixel_emulator_rules.specs.Notes.{shade_at, stale_in}
 use Rattle.sixel_emulator_rules.specs.declared.asking.Asking.{Asking}
 use Rattle.sixel_emulator_rules.specs.declared.notes.Notes.{Notes}
 use Rattle.sixel_emulator_rules.specs.declared.rule.AskedRule.TheVariants.{Stale}
@@ -44,6 +44,12 @@ pub notes_return : (n : Notes) (before : List Event) → IsNotesAfter n before
     → IsNotesAfter (returned n) (before ++ Step CarriageReturn ∷ [])
 notes_return n before s =
     notes_push n n.declared before (Step CarriageReturn) s (sym (option_or_none (option_map attributes n.declared)))
+    (λ narrow. narrow)
+
+pub notes_line : (n : Notes) (before : List Event) → IsNotesAfter n before
+    → IsNotesAfter (lowered n) (before ++ Step NextLine ∷ [])
+notes_line n before s =
+    notes_push n n.declared before (Step NextLine) s (sym (option_or_none (option_map attributes n.declared)))
     (λ narrow. narrow)
 
 pub notes_repeat : (n : Notes) (before : List Event) (c b : ℕ) → IsNotesAfter n before
@@ -99,9 +105,14 @@ not_and : (a b : Bool) → b ≡ false → not (a && b) ≡ true
 not_and true b h = rw h refl
 not_and false b h = refl
 
+-- none ends before column 0
+pub calm_nowhere : (t : Terminals) (n : Notes) (limit : ℕ) → limit ≡ 0 → IsCalmBefore t n limit
+calm_nowhere t n limit none end lt = absurd (omega (arith, none, lt))
+
 pub calm_select : (t : Terminals) (n : Notes) (r limit : ℕ) → IsCalmBefore t n limit
     → IsCalmBefore t (selecting n r) limit
 calm_select t n r limit calm end lt =
-    let parts = and_parts (is_near_at n end) (not (is_asked t Stale && stale_in n)) (calm end lt) in
-    and_from (is_near_at n end) (not (is_asked t Stale && stale_in (selecting n r))) parts.0
+    let near : Bool = not (asks_where t) || is_near_at n end in
+    let parts = and_parts near (not (is_asked t Stale && stale_in n)) (calm end lt) in
+    and_from near (not (is_asked t Stale && stale_in (selecting n r))) parts.0
     (not_and (is_asked t Stale) (stale_in (selecting n r)) (fresh_anew n r))

@@ -88,9 +88,13 @@ fits_box_in n columns = option_map_or (fits_in n columns) n.declared true
 abbrev pub is_near_in : Notes → ℕ → Bool
 is_near_in n columns = fits_box_in n columns && nat_le (n.column + columns) 32767
 
+-- a rule is asked for that hangs on where a data command stands
+abbrev pub asks_where : Terminals → Bool
+asks_where t = is_asked t Past || is_asked t Far
+
 -- none of so many sixels can break a rule that is asked for
 abbrev pub is_calm_in : Terminals → Notes → ℕ → Bool
-is_calm_in t n columns = is_near_in n columns && not (is_asked t Stale && stale_in n)
+is_calm_in t n columns = (not (asks_where t) || is_near_in n columns) && not (is_asked t Stale && stale_in n)
 
 -- this column of the band lies in the box, and not too far out for mlterm
 abbrev pub is_near_at : Notes → ℕ → Bool
@@ -100,7 +104,7 @@ is_near_at n end =
 
 -- no data command that ends there can break a rule that is asked for
 abbrev pub ends_calm_in : Terminals → Notes → ℕ → Bool
-ends_calm_in t n end = is_near_at n end && not (is_asked t Stale && stale_in n)
+ends_calm_in t n end = (not (asks_where t) || is_near_at n end) && not (is_asked t Stale && stale_in n)
 
 -- none that ends before this one
 abbrev pub IsCalmBefore : Terminals → Notes → ℕ → Type 0

@@ -85,7 +85,7 @@ next_shades shades (Step (Define register system x y z)) =
     if nat_lt register 256 then slice_set shades register (shade_in system x y z) else shades
 next_shades shades _ = shades
 
--- ---- a select, and a return
+-- ---- a select, a return, and a new line
 
 abbrev pub selecting : Notes → ℕ → Notes
 selecting n r = record n {
@@ -97,6 +97,9 @@ selecting n r = record n {
 
 abbrev pub returned : Notes → Notes
 returned n = record n { column = 0; droppable = false }
+
+abbrev pub lowered : Notes → Notes
+lowered n = record n { column = 0; band = min (n.band + 1) most; droppable = false }
 
 -- ---- the colour of the known register
 

@@ -6,7 +6,7 @@ ghost use Rattle.std.specs.Option.{option_map};
 ghost use Rattle.sixel_grammar.specs.Bytes.{is_data};
 ghost use Rattle.sixel_grammar.specs.Document.{most_bytes};
 ghost use Rattle.sixel_grammar.specs.Stretches.{sixels_from};
-ghost use Rattle.sixel_grammar.specs.declared.command.Command.TheVariants.{CarriageReturn, Repeat, Select};
+ghost use Rattle.sixel_grammar.specs.declared.command.Command.TheVariants.{CarriageReturn, NextLine, Repeat, Select};
 ghost use Rattle.sixel_grammar.specs.declared.command.Event.{Event as AnEvent};
 ghost use Rattle.sixel_grammar.specs.declared.command.Event.TheVariants.{Step};
 ghost use Rattle.sixel_grammar.specs.declared.command.Placed.{Placed as PlacedValue};
@@ -148,8 +148,10 @@ impl Asking {
     {
         if self.terminals.asks_for(AskedRule::Stale) && self.notes.is_stale() {
             0
-        } else {
+        } else if self.terminals.asks_where() {
             self.notes.near_limit()
+        } else {
+            u32::MAX
         }
     }
 
@@ -201,6 +203,24 @@ impl Asking {
         }
     }
 
+    /// Takes a new line. It breaks no rule unless it comes after a select, a definition or raster attributes.
+    #[inline(always)]
+    fn push_next_line(&mut self, place: u64)
+        ensures { TakesOn self.old self.new (placed_at place (Step NextLine) ∷ []) }
+    {
+        if self.finding.is_some() {
+            return;
+        }
+        if self.notes.droppable {
+            self.push_rarely(place, &Event::Step(Command::NextLine));
+        } else {
+            self.notes.go_down();
+            if self.calm != 0 {
+                self.settle();
+            }
+        }
+    }
+
     /// Whether none of so many sixels can break a rule that is asked for.
     #[inline(always)]
     fn is_calm(&self, columns: usize) -> bool
@@ -232,6 +252,7 @@ impl Asking {
     {
         match command {
             Command::CarriageReturn => self.push_return(place),
+            Command::NextLine => self.push_next_line(place),
             Command::Select(register) => self.push_select(place, register),
             Command::Repeat { count, bits } => self.push_repeat(place, count, bits),
             other => self.push_rarely(place, &Event::Step(other)),

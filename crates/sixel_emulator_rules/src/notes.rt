@@ -205,6 +205,16 @@ impl Notes {
         self.droppable = false;
     }
 
+    /// Notes a new line.
+    #[inline(always)]
+    pub(crate) fn go_down(&mut self)
+        ensures { self.new ≡ by.lowered self.old }
+    {
+        self.column = 0;
+        self.band = self.band.saturating_add(1);
+        self.droppable = false;
+    }
+
     /// Notes so many sixels, one or more.
     #[inline(always)]
     pub(crate) fn pass(&mut self, columns: u32)

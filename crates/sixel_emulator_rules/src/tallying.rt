@@ -180,7 +180,7 @@ impl Tallying {
     fn is_calm(&self, columns: u32) -> bool
         ensures { result ≡ is_calm_in self.now.terminals self.now.notes columns }
     {
-        self.notes.is_near(columns)
+        (!self.terminals.asks_where() || self.notes.is_near(columns))
             && !(self.terminals.asks_for(AskedRule::Stale) && self.notes.is_stale())
     }
 

@@ -2,6 +2,7 @@
 
 ghost use Rattle.std.specs.Prelude.{◌≡◌, true, false};
 ghost use Rattle.sixel_emulator_rules.specs.Asked.{is_asked};
+ghost use Rattle.sixel_emulator_rules.specs.Counts.{asks_where};
 
 use crate::rule::AskedRule;
 
@@ -37,6 +38,14 @@ impl Terminals {
             foot: true,
             konsole: true,
         }
+    }
+
+    /// Whether one of the set asks for a rule that hangs on where a data command stands.
+    #[inline(always)]
+    pub(crate) fn asks_where(self) -> bool
+        ensures { result ≡ asks_where self }
+    {
+        self.asks_for(AskedRule::Past) || self.asks_for(AskedRule::Far)
     }
 
     /// Whether one of the set asks for the rule.
