@@ -11,11 +11,14 @@ ghost use Rattle.sixel_commands.specs.Commands.{side, sixel_app, survey_app};
 mod help;
 
 use clap::{Arg, ArgAction, Command};
-use sixel_report::MOST_SCREEN_SIDE;
 use std::alloc::{AllocError, Global};
 
 /// The program's name, as `--version` prints it.
 const NAME: &str = "sixel";
+
+/// The greatest side of a screen, in pixels: that of the definitions, as the contract of `side_arg` says. The one of
+/// `sixel_report` would have the commands wait for the proof of nearly all other crates.
+pub(crate) const MOST_SCREEN_SIDE: u32 = 4096;
 
 /// What `--version` prints after the program's name.
 const VERSION: &str = "1.1.0";

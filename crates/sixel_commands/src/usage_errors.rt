@@ -5,14 +5,12 @@ ghost use Rattle.clap.specs.Values.{kind_of};
 ghost use Rattle.sixel_commands.specs.Commands.{may_get_a_tip};
 
 use crate::commands::{
-    check_command, differ_command, encode_command, explain_command, list_command, mend_command,
-    render_command, scan_command, show_command, sixel_command, survey_command,
+    MOST_SCREEN_SIDE, check_command, differ_command, encode_command, explain_command, list_command,
+    mend_command, render_command, scan_command, show_command, sixel_command, survey_command,
 };
 use clap::error::ErrorKind;
 use clap::{Command, Error};
-use sixel_explain::{nearest, topics_asked};
 use sixel_printing::printed;
-use sixel_report::MOST_SCREEN_SIDE;
 use std::alloc::{AllocError, Global};
 
 /// What clap's text of a usage error begins with.
@@ -173,39 +171,16 @@ fn colour_reason(alloc: Global, value: &str) -> Result<String, AllocError> {
     )
 }
 
-/// A usage error of `explain`: a word is no name. For a misspelled name it has a tip.
-pub fn unnamed_error(alloc: Global, said: &[&str]) -> Result<Error, AllocError>
+/// A usage error of `explain`: a word is no name.
+pub fn unnamed_error(alloc: Global, reason: &str) -> Result<Error, AllocError>
     ensures { IfOk result (λ e. kind_of e ≡ ErrorKind.ValueValidation) }
 {
-    let reason = unnamed_reason(alloc, said)?;
     error_of(
         explain_command(alloc)?,
         "sixel explain",
         ErrorKind::ValueValidation,
-        reason.as_str(),
+        reason,
     )
-}
-
-fn unnamed_reason(alloc: Global, said: &[&str]) -> Result<String, AllocError> {
-    let word = first_unnamed(alloc, said)?;
-    let name = printed(alloc, word)?;
-    let unnamed = format!(in alloc;
-        "no rule or refusal has the name '{name}'; 'sixel explain' lists the names"
-    )?;
-    match nearest(alloc, word)? {
-        Some(name) => { format!(in alloc; "{unnamed}\n\n  tip: a similar name exists: '{name}'") }
-        None => Ok(unnamed),
-    }
-}
-
-/// The first word that is no name.
-fn first_unnamed<'a>(alloc: Global, said: &[&'a str]) -> Result<&'a str, AllocError> {
-    for word in said {
-        if topics_asked(alloc, &[*word])?.is_none() {
-            return Ok(*word);
-        }
-    }
-    Ok("")
 }
 
 /// This usage error of clap, with control characters by number. It gets a tip if a file was named in place of a

@@ -5,6 +5,7 @@ mod arguments;
 mod check_words;
 mod colours;
 mod differ_words;
+mod explain_errors;
 mod options;
 mod show_errors;
 mod show_words;

@@ -14,14 +14,14 @@ ghost use Rattle.sixel_explain.specs.Explanations.{Asks};
 
 use crate::check_words::{check_task, survey_task, unnamed_value};
 use crate::differ_words::{differ_error, differ_task};
+use crate::explain_errors::explain_error;
 use crate::options::{colour_in, flag_of, profile_of};
 use crate::show_errors::show_error;
 use crate::show_words::show_task;
 use clap::error::ErrorKind;
 use clap::{ArgMatches, Error};
 use sixel_commands::{
-    background_error, sixel_command, unchecked_error, unnamed_error, unsurveyed_error, usage_error,
-    with_tip,
+    background_error, sixel_command, unchecked_error, unsurveyed_error, usage_error, with_tip,
 };
 use sixel_explain::{Topic, topics_asked};
 use sixel_report::{Lines, Request, Task};
@@ -120,7 +120,7 @@ fn unexplained(alloc: Global, said: &[&str]) -> WordsFault
     ensures sorted { IsSortedOut result }
     ensures refusal { IsRefusal result }
 {
-    match unnamed_error(alloc, said) {
+    match explain_error(alloc, said) {
         Ok(unnamed) => WordsFault::Usage(unnamed),
         Err(_) => WordsFault::OutOfMemory,
     }
