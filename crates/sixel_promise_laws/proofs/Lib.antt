@@ -1,0 +1,11 @@
+pub mod DoneLemmas
+pub mod PixelLemmas
+pub mod MovedLemmas
+pub mod PortableLemmas
+pub mod FirstLemmas
+pub mod DifferenceLemmas
+pub mod BrokenLemmas
+pub mod ShowLemmas
+pub mod BoxLemmas
+pub mod DifferLemmas
+pub mod NoneLemmas

@@ -1,0 +1,3 @@
+pub mod Portable
+pub mod Broken
+pub mod Twice

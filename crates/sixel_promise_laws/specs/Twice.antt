@@ -1,0 +1,62 @@
+-- What the program says of one picture in two ways.
+use Rattle.std.specs.Prelude.{◌≡◌, ◌↔◌, ℕ, Bool, List, Result, Ok}
+use Rattle.sixel_model.specs.declared.colour.Parts.{Parts}
+use Rattle.sixel_model.specs.declared.profile.Profile.{Profile}
+use Rattle.sixel_model.specs.Pictures.{PictureValue}
+use Rattle.sixel_model.specs.Profiles.{count_of}
+use Rattle.sixel_named_terminals.specs.declared.named.Named.{Named}
+use Rattle.sixel_judge.specs.declared.verdict.Verdict.{Verdict}
+use Rattle.sixel_check.specs.Answers.{Answers}
+use Rattle.sixel_emulator_rules.specs.declared.terminals.Terminals.{Terminals}
+use Rattle.sixel_emulator_check.specs.Answers.{AnswersOn}
+use Rattle.sixel_emulator_check.specs.Laws.{named_verdict, none}
+use Rattle.sixel_emulator_check.specs.declared.verdict.NamedVerdict.{NamedVerdict}
+use Rattle.sixel_emulator_check_laws.specs.Laws.{all_terminals}
+use Rattle.sixel_emulator_check_laws.specs.Shown.{IsNamed}
+use Rattle.sixel_report.specs.declared.fault.RunFault.{RunFault}
+use Rattle.sixel_report.specs.declared.task.Area.TheVariants.{Box}
+use Rattle.sixel_report.specs.declared.task.Status.{Status}
+use Rattle.sixel_report.specs.declared.task.Status.TheVariants.{Done}
+use Rattle.sixel_report.specs.declared.task.Task.TheVariants.{Check, Differ, Render, ShowBox, ShowOn}
+use Rattle.sixel_report.specs.Texts.{Text, portable_line, same_line, verdict_line}
+use Rattle.sixel_run.specs.Outputs.{Gives, status_of}
+use Rattle.sixel_run_laws.specs.Laws.{GiveTheSame}
+
+-- if a check for a set of terminals is done, `show --on` with `--box` gives for each of them, on each background, what
+-- `render` gives
+abbrev pub ShowGivesWhatRenderGives : Type 0
+ShowGivesWhatRenderGives =
+    (profile : Profile) (t : Terminals) (bytes : List ℕ) (text : Text) (named : Named) (background : Parts)
+    → Gives (Check profile t) bytes text (Ok Done) → IsNamed t named
+    → GiveTheSame bytes (ShowOn named background Box) (Render profile)
+
+-- so does `show --box` without `--on`, on a terminal of the class, whatever is chosen for it
+abbrev pub ShowBoxGivesWhatRenderGives : Type 0
+ShowBoxGivesWhatRenderGives =
+    (profile : Profile) (t : Terminals) (bytes : List ℕ) (text : Text) (showing fill selects : Bool)
+    → Gives (Check profile t) bytes text (Ok Done)
+    → GiveTheSame bytes (ShowBox profile showing fill selects) (Render profile)
+
+-- if a check for all four is done, `differ` says on each background that their screens are the same, with the sides
+-- that the check says, and nothing else
+abbrev pub DifferSaysSame : Type 0
+DifferSaysSame =
+    (profile : Profile) (bytes : List ℕ) (text : Text) (background : Parts)
+    → Gives (Check profile all_terminals) bytes text (Ok Done)
+    → (p : PictureValue) × (text ≡ portable_line p)
+    × ((line : Text) (answer : Result Status RunFault)
+    → Gives (Differ background) bytes line answer ↔ ((line ≡ same_line p.width p.height) × (answer ≡ Ok Done)))
+
+-- a check for no terminal gives the line and the status of a verdict that `check` answers, and each of these
+abbrev pub CheckGivesTheVerdict : Type 0
+CheckGivesTheVerdict =
+    (profile : Profile) (bytes : List ℕ) (text : Text) (status : Status)
+    → Gives (Check profile none) bytes text (Ok status)
+    ↔ ((v : Verdict) × Answers (count_of profile) (Ok v) bytes × (text ≡ verdict_line v)
+    × (status ≡ status_of (named_verdict v)))
+
+-- what is answered for no terminal, `check` may answer
+abbrev pub SameInCheck : ℕ → Type 0
+SameInCheck registers =
+    (bytes : List ℕ) (w : NamedVerdict) → AnswersOn registers none (Ok w) bytes
+    → (v : Verdict) × Answers registers (Ok v) bytes × (w ≡ named_verdict v)
