@@ -20,7 +20,7 @@ use crate::comparison::Comparison;
 use crate::drawings::{begin, draw_all, views_of};
 use crate::fault::DifferFault;
 use crate::view::Views;
-use sixel_mend::{Measurer, MendFault, size_of};
+use sixel_mend::{Extent, MendFault, extent_of, size_of};
 use sixel_model::{BAND_ROWS, Colour};
 use std::alloc::Global;
 
@@ -39,17 +39,17 @@ fn fault_of_size(fault: MendFault) -> DifferFault
     }
 }
 
-/// The width and the height of the mended picture of what was measured.
-fn sides_of(measurer: &Measurer) -> Result<(u32, u32), DifferFault>
-    requires { (bytes : List ℕ) × HasMeasured measurer.now bytes }
+/// The width and the height of the mended picture of a document of this extent.
+fn sides_of(extent: &Extent) -> Result<(u32, u32), DifferFault>
+    requires { (bytes : List ℕ) × HasMeasured extent.now bytes }
     ensures sides { IfOk result (λ sides. IsTrue (is_side sides.0 && is_side sides.1)) }
-    ensures sized { IfOk result (λ sides. (bytes : List ℕ) → HasMeasured measurer.now bytes
+    ensures sized { IfOk result (λ sides. (bytes : List ℕ) → HasMeasured extent.now bytes
         → (placed : List Place) × Document placed bytes
         × ((mending : AMending) → IsSize mending (events_of placed) sides.0 sides.1)) }
-    ensures refused { IfErr result (λ fault. (bytes : List ℕ) → HasMeasured measurer.now bytes
+    ensures refused { IfErr result (λ fault. (bytes : List ℕ) → HasMeasured extent.now bytes
         → (mending : AMending) → IsDifferFault mending bytes fault) }
 {
-    match size_of(measurer) {
+    match size_of(extent) {
         Ok(sides) => Ok(sides),
         Err(fault) => Err(fault_of_size(fault)),
     }
@@ -84,22 +84,22 @@ fn views_on(
     views_of(alloc, background, width, height, drawn, bytes)
 }
 
-/// What each named terminal shows of a document that this measurer has read. Each screen has the size of the mended
+/// What each named terminal shows of a document of this extent. Each screen has the size of the mended
 /// picture, with the height rounded up to whole bands, and the background before; the picture begins at its top left.
 ///
 /// The string is read once more, and again for konsole if its sixel pixels are higher than one pixel.
 pub fn views_measured(
     alloc: Global,
     background: Colour,
-    measurer: &Measurer,
+    extent: &Extent,
     bytes: &[u8],
 ) -> Result<Views, DifferFault>
-    requires { HasMeasured measurer.now bytes.now }
+    requires { HasMeasured extent.now bytes.now }
     ensures views { IfOk result (AreViews background bytes.now) }
     ensures sides { IfOk result HaveSides }
     ensures refused { IfErr result (λ fault. (mending : AMending) → IsDifferFault mending bytes.now fault) }
 {
-    let (width, height) = sides_of(measurer)?;
+    let (width, height) = sides_of(extent)?;
     views_on(alloc, background, width, in_bands(height), bytes)
 }
 
@@ -109,9 +109,8 @@ pub fn views(alloc: Global, background: Colour, bytes: &[u8]) -> Result<Views, D
     ensures sides { IfOk result HaveSides }
     ensures refused { IfErr result (λ fault. (mending : AMending) → IsDifferFault mending bytes.now fault) }
 {
-    let mut measurer = Measurer::new();
-    measurer.feed(bytes)?;
-    views_measured(alloc, background, &measurer, bytes)
+    let extent = extent_of(bytes)?;
+    views_measured(alloc, background, &extent, bytes)
 }
 
 /// Compares what the named terminals show of a document, on screens of its size.

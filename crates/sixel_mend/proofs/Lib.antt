@@ -3,7 +3,6 @@ pub mod DepthLemmas
 pub mod SizeLemmas
 pub mod NumberLemmas
 pub mod MeasureLemmas
-pub mod MeasuringLemmas
 pub mod TerminalLemmas
 pub mod MendLemmas
 pub mod RepeatLemmas

@@ -27,21 +27,22 @@ pub(crate) struct Sides {
     pub height: u16,
 }
 
-/// How far data commands reach, event by event. Numbers stop at `u32::MAX`, which is more than any picture has.
+/// Measures the picture that `mend` makes of a document, event by event: how far its data commands reach. Numbers stop
+/// at `u32::MAX`, which is more than any picture has.
 #[derive(Clone, Copy, Debug, PartialEq, Eq)]
-pub(crate) struct Extent {
+pub struct Extent {
     /// The column of the next sixel.
-    pub column: u32,
+    pub(crate) column: u32,
     /// The band of the next sixel.
-    pub band: u32,
+    pub(crate) band: u32,
     /// One more than the greatest column of a touched point; 0 if no point is touched.
-    pub width: u32,
+    pub(crate) width: u32,
     /// The same for rows.
-    pub height: u32,
+    pub(crate) height: u32,
     /// The box of the first raster attributes.
-    pub declared: Option<Sides>,
+    pub(crate) declared: Option<Sides>,
     /// Whether some definition gives an HLS colour.
-    pub has_hls: bool,
+    pub(crate) has_hls: bool,
 }
 
 /// How many rows of its band a sixel reaches down.
@@ -77,7 +78,7 @@ fn greater(side: u32, declared: u16) -> u32
 
 impl Extent {
     /// The extent before any event.
-    pub(crate) fn new() -> Extent
+    pub fn new() -> Extent
         ensures { Measures result [] }
     {
         Extent {

@@ -5,11 +5,10 @@ mod extent;
 mod hiding;
 mod making;
 mod marking;
-mod measuring;
 mod mending;
 mod numbering;
 mod terminal;
 
-pub use making::{mend, mend_measured, size_of};
-pub use measuring::Measurer;
+pub use extent::Extent;
+pub use making::{extent_of, mend, mend_measured, size_of};
 pub use mending::{MendFault, Mended, Mending};

@@ -3,6 +3,7 @@
 ghost use Rattle.std.specs.Prelude.{◌≡◌, ◌&&◌, ℕ, Err, IfErr, IfOk, IsTrue, List};
 ghost use Rattle.sixel_grammar.specs.declared.command.Placed.{Placed as Place};
 ghost use Rattle.sixel_grammar.specs.Document.{Document, events_of};
+ghost use Rattle.sixel_grammar.specs.Faults.{IsFaultOf};
 ghost use Rattle.sixel_model.specs.Pictures.{is_side};
 ghost use Rattle.sixel_model.specs.Profiles.{count_of};
 ghost use Rattle.sixel_mend.specs.declared.mending.Mending.{Mending as AMending};
@@ -12,13 +13,13 @@ ghost use Rattle.sixel_mend.specs.Marking.{IsMarkedScreen};
 ghost use Rattle.sixel_mend.specs.Mended.{Mends, MendsNoting, mended_colours};
 ghost use Rattle.sixel_mend.specs.Sizes.{IsSize};
 
+use crate::extent::Extent;
 use crate::hiding::hidden_between;
 use crate::marking::{mark_for, settled_parts};
-use crate::measuring::Measurer;
 use crate::mending::{MendFault, Mended, Mending};
 use crate::numbering::parts_of;
 use crate::terminal::terminal_of;
-use sixel_grammar::follow_document;
+use sixel_grammar::{Fault, follow_document};
 use sixel_model::{MOST_SIDE, Picture, Profile};
 use sixel_terminal::{Drawing, Screen};
 use std::alloc::Global;
@@ -36,13 +37,22 @@ pub fn mend(
 ) -> Result<Picture, MendFault>
     ensures { Mends (count_of profile) mending.now bytes.now result }
 {
-    let mut measurer = Measurer::new();
-    measurer.feed(bytes)?;
-    let mended = mend_measured(alloc, profile, mending, &measurer, bytes)?;
+    let extent = extent_of(bytes)?;
+    let mended = mend_measured(alloc, profile, mending, &extent, bytes)?;
     Ok(mended.picture)
 }
 
-/// As `mend`, for a string that this measurer has read. It also counts the painted pixels that look like those that
+/// The extent of the document of these bytes.
+pub fn extent_of(bytes: &[u8]) -> Result<Extent, Fault>
+    ensures measured { IfOk result (λ extent. HasMeasured extent bytes.now) }
+    ensures refused { IfErr result (IsFaultOf bytes.now) }
+{
+    let mut extent = Extent::new();
+    follow_document(bytes, &mut extent)?;
+    Ok(extent)
+}
+
+/// As `mend`, for a document of this extent. It also counts the painted pixels that look like those that
 /// aren't painted.
 ///
 /// The string is drawn over a mark, a colour that shows which pixels aren't painted. It is drawn again, over the
@@ -52,14 +62,14 @@ pub fn mend_measured(
     alloc: Global,
     profile: Profile,
     mending: &Mending,
-    measurer: &Measurer,
+    extent: &Extent,
     bytes: &[u8],
 ) -> Result<Mended, MendFault>
-    requires { HasMeasured measurer.now bytes.now }
+    requires { HasMeasured extent.now bytes.now }
     ensures { MendsNoting (count_of profile) mending.now bytes.now result }
 {
-    let (width, height) = size_of(measurer)?;
-    let has_hls = measurer.extent()?.has_hls;
+    let (width, height) = size_of(extent)?;
+    let has_hls = extent.has_hls;
     let background = mending.background;
     let mark = mark_for(background);
     let marking = Mending {
@@ -112,17 +122,17 @@ fn judge(width: u32, height: u32) -> Result<(), MendFault>
     Ok(())
 }
 
-/// The width and the height of the picture that `mend` makes of what this measurer has read, in pixels. `Grammar`,
-/// `Empty`, `TooLarge`: there is no such picture.
-pub fn size_of(measurer: &Measurer) -> Result<(u32, u32), MendFault>
+/// The width and the height of the picture that `mend` makes of a document of this extent, in pixels. `Empty`,
+/// `TooLarge`: there is no such picture.
+pub fn size_of(extent: &Extent) -> Result<(u32, u32), MendFault>
     ensures sides { IfOk result (λ sides. IsTrue (is_side sides.0 && is_side sides.1)) }
-    ensures sized { IfOk result (λ sides. (bytes : List ℕ) → HasMeasured measurer.now bytes
+    ensures sized { IfOk result (λ sides. (bytes : List ℕ) → HasMeasured extent.now bytes
         → (events : List Place) × Document events bytes
         × ((mending : AMending) → IsSize mending (events_of events) sides.0 sides.1)) }
-    ensures refused { IfErr result (λ fault. (bytes : List ℕ) → HasMeasured measurer.now bytes
+    ensures refused { IfErr result (λ fault. (bytes : List ℕ) → HasMeasured extent.now bytes
         → (registers : ℕ) (mending : AMending) → Mends registers mending bytes (Err fault)) }
 {
-    let (width, height) = measurer.extent()?.size();
+    let (width, height) = extent.size();
     judge(width, height)?;
     Ok((width, height))
 }

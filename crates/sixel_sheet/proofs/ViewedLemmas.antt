@@ -11,7 +11,8 @@ use Rattle.sixel_model.specs.Pictures.{is_side}
 use Rattle.sixel_mend.specs.declared.mending.MendFault.{MendFault}
 use Rattle.sixel_mend.specs.declared.mending.MendFault.TheVariants as mend
 use Rattle.sixel_mend.specs.declared.mending.Mending.{Mending}
-use Rattle.sixel_mend.specs.Measuring.{HasMeasured, Measured}
+use Rattle.sixel_mend.specs.declared.extent.Extent.{Extent}
+use Rattle.sixel_mend.specs.Measuring.{HasMeasured}
 use Rattle.sixel_mend.specs.Mended.{Mends}
 use Rattle.sixel_mend.specs.Sizes.{IsSize}
 use Rattle.sixel_differ.specs.declared.comparison.Comparison.{Comparison}
@@ -46,20 +47,20 @@ refusal_of bytes mend.TooLarge all = λ m. large_by_size m bytes (all 0 m)
 refusal_of bytes mend.TooManyColours all = absurd (not_for_any_registers bytes all)
 refusal_of bytes mend.OutOfMemory all = λ m. all 0 m
 
-pub measured_refusal : (measurer : Measured) (a : Option (List ℕ)) (fault : MendFault) → IfSome a (HasMeasured measurer)
-    → ((bytes : List ℕ) → HasMeasured measurer bytes → (r : ℕ) (m : Mending) → Mends r m bytes (Err fault))
+pub measured_refusal : (extent : Extent) (a : Option (List ℕ)) (fault : MendFault) → IfSome a (HasMeasured extent)
+    → ((bytes : List ℕ) → HasMeasured extent bytes → (r : ℕ) (m : Mending) → Mends r m bytes (Err fault))
     → IfSome a (λ bytes. IsRefusalOf bytes (of_mend fault))
-measured_refusal measurer None fault has refused = tt
-measured_refusal measurer (Some told) fault has refused = refusal_of told fault (refused told has)
+measured_refusal extent None fault has refused = tt
+measured_refusal extent (Some told) fault has refused = refusal_of told fault (refused told has)
 
 -- the bytes weren't kept, and have a picture's size
-pub unkept_refusal : (measurer : Measured) (a : Option (List ℕ)) (w h : ℕ) → IfSome a (HasMeasured measurer)
+pub unkept_refusal : (extent : Extent) (a : Option (List ℕ)) (w h : ℕ) → IfSome a (HasMeasured extent)
     → IsTrue (is_side w && is_side h)
-    → ((bytes : List ℕ) → HasMeasured measurer bytes
+    → ((bytes : List ℕ) → HasMeasured extent bytes
     → (events : List Placed) × Document events bytes × ((m : Mending) → IsSize m (events_of events) w h))
     → IfSome a (λ bytes. IsRefusalOf bytes OutOfMemory)
-unkept_refusal measurer None w h has sides sized = tt
-unkept_refusal measurer (Some told) w h has sides sized =
+unkept_refusal extent None w h has sides sized = tt
+unkept_refusal extent (Some told) w h has sides sized =
     let d = sized told has in λ m. (d.0, d.1, (w, h, d.2 m, sides))
 
 differ_refusal_of : (bytes : List ℕ) (fault : DifferFault) → ((m : Mending) → IsDifferFault m bytes fault)

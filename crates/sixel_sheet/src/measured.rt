@@ -6,18 +6,19 @@ ghost use Rattle.sixel_grammar.specs.Reading.{Explains, NoFaultBefore, failures_
 ghost use Rattle.sixel_io.specs.Devices.{ReadsToEnd};
 ghost use Rattle.sixel_mend.specs.Measuring.{HasMeasured};
 
-use sixel_grammar::InputFault;
-use sixel_io::{PIECE, Source, kept_with};
-use sixel_mend::Measurer;
+use sixel_grammar::{InputFault, read_source};
+use sixel_io::{PIECE, Source};
+use sixel_keeping::Keeping;
+use sixel_mend::Extent;
 use std::alloc::Global;
 
-/// Reads the source to its end. Returns the bytes of the document, if there is memory for them, and what they measure. It
+/// Reads the source to its end. Returns the bytes of the document, if there is memory for them, and its extent. It
 /// reads no piece after an invalid byte.
 pub fn read_document<S: Source>(
     alloc: Global,
     input: &mut S,
     piece: &mut [u8; PIECE],
-) -> Result<(Option<Vec<u8>>, Measurer), InputFault>
+) -> Result<(Option<Vec<u8>>, Extent), InputFault>
     ensures read { IfOk result (λ document. IfSome document.0 (λ kept.
         IfSome (S.state input.old).remaining (λ told. told ≡ kept.items))) }
     ensures measured { IfOk result (λ document. IfSome document.0 (λ kept. HasMeasured document.1 kept.items)) }
@@ -29,15 +30,10 @@ pub fn read_document<S: Source>(
     ensures unread { result ≡ Err ReadFault →
         IfSome (S.state input.old).remaining (NoFaultBefore (S.state input.new).remaining) }
 {
-    let mut kept = Some(Vec::new(alloc));
-    let mut measurer = Measurer::new();
-    loop {
-        let count = input.fill(piece)?;
-        if count == 0 {
-            measurer.finish()?;
-            return Ok((kept, measurer));
-        }
-        measurer.feed(&piece[..count])?;
-        kept = kept_with(kept, &piece[..count]);
-    }
+    let mut extent = Extent::new();
+    let mut keeping = Keeping {
+        kept: Some(Vec::new(alloc)),
+    };
+    read_source(input, piece, &mut extent, &mut keeping)?;
+    Ok((keeping.kept, extent))
 }

@@ -40,10 +40,10 @@ pub fn read_views<S: Source>(
     ensures unread { result ≡ Err Read →
         IfSome (S.state input.old).remaining (NoFaultBefore (S.state input.new).remaining) }
 {
-    let (kept, measurer) = read_document(alloc, input, piece)?;
+    let (kept, extent) = read_document(alloc, input, piece)?;
     let Some(bytes) = kept else {
-        size_of(&measurer)?;
+        size_of(&extent)?;
         return Err(RunFault::OutOfMemory);
     };
-    Ok(views_measured(alloc, background, &measurer, &bytes)?)
+    Ok(views_measured(alloc, background, &extent, &bytes)?)
 }

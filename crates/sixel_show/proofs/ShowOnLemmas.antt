@@ -26,7 +26,7 @@ use Rattle.sixel_named_terminals.specs.declared.showing.ShowFault.{ShowFault}
 use Rattle.sixel_named_terminals.specs.declared.showing.ShowFault.TheVariants as show
 use Rattle.sixel_emulator.specs.Modelled.{EndsAtPlace}
 use Rattle.sixel_named_terminals.specs.Named.{GivesScreen, IsScreenOn, ShowsDocument, ShowsOn, heard_on, model_of, terminal_on}
-use Rattle.sixel_emulator.specs.Readings.{EndsAt, IsSaid, Model}
+use Rattle.sixel_emulator.specs.Readings.{EndsAt, IsSaid}
 use Rattle.sixel_named_terminals.proofs.NamedLemmas.{ends_somewhere, one_end, said_does_not_end}
 use Rattle.sixel_named_terminals.proofs.NamedLemmas.{said_or_ends, screen_once, shows_or_ends}
 use Rattle.sixel_report.specs.declared.fault.RunFault.{RunFault}

@@ -1,16 +1,22 @@
 -- A document whose declared box gives the sides of the screen, while it is read.
 use Rattle.std.proofs.Common.{◌≡◌, ◌∙◌, ◌++◌, ◌∷◌, ◌+◌, [], ℕ, List, Option, Some, None, refl, sym, ap}
-use Rattle.std.proofs.Common.{append_assoc, subst}
-use Rattle.std.specs.Prelude.{option_and_then, option_map, IfSome, IsSome}
-use Rattle.std.specs.Io.KnownBytes.{Consumes}
+use Rattle.std.proofs.Common.{subst}
+use Rattle.std.specs.Prelude.{option_and_then, option_map, IfSome, IsSome, Result, Err}
+use Rattle.std.specs.declared.alloc.AllocError.{AllocError}
 use Rattle.std.specs.Option.{option_or}
 use Rattle.std.proofs.lemmas.List.{append-nil}
 use Rattle.sixel_grammar.specs.declared.command.Event.{Event}
 use Rattle.sixel_grammar.specs.declared.command.Placed.{Placed}
+use Rattle.sixel_grammar.specs.declared.fault.InputFault.{InputFault}
+use Rattle.sixel_grammar.specs.declared.fault.InputFault.TheVariants.{OutOfMemory}
 use Rattle.sixel_grammar.specs.declared.reader.Reader.{Reader}
+use Rattle.sixel_grammar.specs.declared.source.SourceHalt.{SourceHalt}
+use Rattle.sixel_grammar.specs.declared.source.SourceHalt.TheVariants.{Read, Refused, Stopped}
 use Rattle.sixel_grammar.specs.Document.{Document, events_of}
 use Rattle.sixel_grammar.specs.Following.{AreFollowed, FollowsBytes, TakesEvents}
+use Rattle.sixel_grammar.specs.Pieces.{Begins, EndsSource}
 use Rattle.sixel_grammar.specs.Prefixes.{CompleteIn}
+use Rattle.sixel_grammar.specs.Source.{fault_of_source}
 use Rattle.sixel_grammar.specs.Standing.{StandsAfter}
 use Rattle.sixel_grammar.specs.Stretches.{sixels_from}
 use Rattle.sixel_grammar.proofs.StandLemmas.{read_complete}
@@ -22,10 +28,12 @@ use Rattle.sixel_model.proofs.PositionLemmas.{option_or_assoc, option_or_none}
 use Rattle.sixel_terminal.specs.Displays.{Display}
 use Rattle.sixel_terminal.proofs.FollowLemmas.{events_then}
 use Rattle.sixel_show.specs.declared.box_finder.BoxFinder.{BoxFinder}
+use Rattle.sixel_show.specs.declared.show_box.InBox.{InBox}
 use Rattle.sixel_show.specs.declared.show_box.Stage.{Stage}
 use Rattle.sixel_show.specs.declared.show_box.Stage.TheVariants.{Undeclared, Drawn, Unshowable}
 use Rattle.sixel_show.specs.declared.watched.Watched.{Watched}
-use Rattle.sixel_show.specs.Boxes.{HasFound, HasRead, IsDrawnInBox, IsStageAfter, box_in}
+use Rattle.sixel_show.specs.Boxes.{HasFound, HasRead, HasReadInBox, IsDrawnInBox, IsStageAfter, box_in}
+use Rattle.sixel_show.specs.Boxes.{terminal_of_kind}
 use Rattle.sixel_show.specs.Screens.{DeclareScreenIn, declared_screen, sides_of_box}
 use Rattle.sixel_show.specs.Watching.{HasWatched, HasWatchedOn}
 
@@ -262,16 +270,20 @@ declares-now reader bytes width height sides f fit = record {
   declares = subst IsSome (sym (declared-in (events_of f.events) (Some (width, height)) f.taken ∙ sym fit)) refl;
 }
 
--- what is declared in the first bytes of a source is declared in all
-pub declares-early : (a b : Option (List ℕ)) (xs : List ℕ) → Consumes a b xs → DeclareScreenIn xs
-    → IfSome a DeclareScreenIn
-declares-early None b xs c d = tt
-declares-early (Some a) None xs c d = absurd c
-declares-early (Some a) (Some b) xs c d = record {
-  prefix = d.prefix;
-  rest = d.rest ++ b;
-  bytes_are = c ∙ ap (λ (t : List ℕ). t ++ b) d.bytes_are ∙ append_assoc d.prefix d.rest b;
-  events = d.events;
-  complete = d.complete;
-  declares = d.declares;
-}
+-- ---- a source
+
+-- before any byte no box is declared
+pub undeclared_yet : (now : InBox) → IsStageAfter (terminal_of_kind now.kind) now.stage [] []
+    → Begins HasReadInBox tt now tt now
+undeclared_yet now is = λ reader stands. (refl, record { events = []; read = stands; taken = is })
+
+-- without memory a box of a screen's size is declared
+pub box_memory : (A : Type 0) (start new : InBox) (known : Option (List ℕ)) (halt : SourceHalt AllocError)
+    → Begins HasReadInBox tt start tt start
+    → IfSome known (EndsSource HasReadInBox (λ first start unit now stop bytes. DeclareScreenIn bytes) tt start tt new
+    halt)
+    → (let r : Result A InputFault = Err (fault_of_source halt) in r) ≡ Err OutOfMemory → IfSome known DeclareScreenIn
+box_memory A start new None halt begins ends is = tt
+box_memory A start new (Some bytes) Read begins ends is = cc
+box_memory A start new (Some bytes) (Refused fault) begins ends is = cc
+box_memory A start new (Some bytes) (Stopped stop) begins ends is = ends tt start begins

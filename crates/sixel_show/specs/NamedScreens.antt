@@ -15,14 +15,18 @@ use Rattle.sixel_named_terminals.specs.declared.named.Named.{Named}
 use Rattle.sixel_named_terminals.specs.declared.named.Named.TheVariants.{Konsole}
 use Rattle.sixel_konsole.specs.Konsole.{StaysLow, konsole_model}
 use Rattle.sixel_konsole.specs.KonsoleSeen.{HasSeenKonsole}
-use Rattle.sixel_konsole.specs.Measuring.{HasTakenAll}
-use Rattle.sixel_emulator.specs.Modelled.{EndsAtPlace, HasFollowed}
+use Rattle.sixel_konsole.specs.Measuring.{HasTakenAll, HasTakenOn}
+use Rattle.sixel_emulator.specs.declared.hearing.Hearing.{Hearing}
+use Rattle.sixel_emulator.specs.Heard.{heard, omitted_in}
+use Rattle.sixel_emulator.specs.Looking.{HasHeardPieces}
+use Rattle.sixel_emulator.specs.Modelled.{EndsAtPlace, HasFollowed, HasFollowedOn}
 use Rattle.sixel_named_terminals.specs.Named.{IsScreenOn, heard_on, model_of}
 use Rattle.sixel_emulator.specs.Readings.{IsSaid}
 use Rattle.sixel_terminal.specs.Screens.{Shown}
 use Rattle.sixel_report.specs.declared.fault.RunFault.{RunFault}
 use Rattle.sixel_report.specs.declared.fault.RunFault.TheVariants.{Grammar, NoBox, OutOfMemory, Unmodelled}
 use Rattle.sixel_show.specs.declared.on_konsole.Kept.{Kept}
+use Rattle.sixel_show.specs.declared.on_konsole.KonsoleBytes.{KonsoleBytes}
 use Rattle.sixel_show.specs.declared.on_konsole.Kept.TheVariants.{Bytes, Needless, Lost}
 use Rattle.sixel_report.specs.declared.task.Area.{Area}
 use Rattle.sixel_show.specs.Outputs.{sides_in}
@@ -62,8 +66,23 @@ Suffices (Bytes kept) bytes events = kept.items ≡ bytes
 Suffices Needless bytes events = StaysLow events
 Suffices Lost bytes events = ⊤
 
+abbrev pub OnKonsole : Type 0
+OnKonsole = Both (Modelled KonsoleReading) Measuring
+
+-- what was `first` before these events is `now` after them
+abbrev pub HasTakenOnKonsole : OnKonsole → OnKonsole → List Placed → Type 0
+HasTakenOnKonsole first now seen =
+    HasFollowedOn konsole_model HasSeenKonsole first.one now.one seen × HasTakenOn first.other now.other seen
+
+-- the events that are complete in these bytes are drawn and measured, and what is kept suffices to show them
+pub record HasDrawnPieces (first : Hearing OnKonsole) (start : KonsoleBytes) (reader : Reader)
+    (konsole : Hearing OnKonsole) (now : KonsoleBytes) (bytes : List ℕ) : Type 0 where
+  pub drawn : HasHeardPieces HasTakenOnKonsole first start.looking reader konsole now.looking bytes
+  pub suffices : HasTakenAll first.listener.other [] → Suffices start.kept [] []
+      → Suffices now.kept bytes (events_of (heard (omitted_in start.looking.hears bytes) drawn.1.events))
+
 -- a document of these bytes is drawn and measured, and what is kept suffices to show it
-pub record IsDrawnOf (w : Both (Modelled KonsoleReading) Measuring) (kept : Kept) (bytes : List ℕ) : Type 0 where
+pub record IsDrawnOf (w : OnKonsole) (kept : Kept) (bytes : List ℕ) : Type 0 where
   pub placed : List Placed
   pub document : Document placed bytes
   pub followed : HasFollowed konsole_model HasSeenKonsole w.one [] (heard_on Konsole bytes placed)

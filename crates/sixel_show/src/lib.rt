@@ -3,7 +3,6 @@
 
 mod box_finder;
 mod draw;
-mod kept;
 mod on_konsole;
 mod screen;
 pub mod show;

@@ -13,11 +13,10 @@ ghost use Rattle.sixel_emulator.specs.Heard.{nothing_omitted};
 ghost use Rattle.sixel_emulator.specs.Modelled.{HasFollowed};
 ghost use Rattle.sixel_konsole.specs.Settings.{konsole_display};
 ghost use Rattle.sixel_report.specs.declared.task.Area.{Area as AnArea};
-ghost use Rattle.sixel_show.specs.NamedScreens.{IsDrawnOf, ShowsIn, Suffices};
+ghost use Rattle.sixel_show.specs.NamedScreens.{HasDrawnPieces, IsDrawnOf, ShowsIn, Suffices};
 
-use crate::show_box::follow;
 use sixel_emulator::{Hearing, Hears, Looking, Omitted};
-use sixel_grammar::{InputFault, Reader};
+use sixel_grammar::{Halt, InputFault, PieceReader, Reader, read_rest};
 use sixel_io::{PIECE, Source, kept_with};
 use sixel_konsole::{OnKonsole, as_konsole_at_once, konsole_terminal};
 use sixel_model::Colour;
@@ -25,6 +24,7 @@ use sixel_named_terminals::{Named, konsole_screen, low_konsole_screen};
 use sixel_report::RunFault;
 use sixel_terminal::{Drawing, Screen};
 use std::alloc::{AllocError, Global};
+use std::convert::Infallible;
 
 /// What is kept of the bytes of a document.
 #[derive(Debug, Drop)]
@@ -35,6 +35,39 @@ pub enum Kept {
     Needless,
     /// None, as there was no memory for all.
     Lost,
+}
+
+/// The bytes of a document that konsole draws: what it hears otherwise in them, and what is kept of them.
+#[derive(Debug, Drop)]
+struct KonsoleBytes {
+    looking: Looking,
+    kept: Kept,
+}
+
+/// It looks at the bytes of each piece before their events are taken, and keeps them afterwards.
+impl PieceReader<Hearing<OnKonsole>> for KonsoleBytes {
+    type Stop = Infallible;
+
+    ghost has_read = { HasDrawnPieces };
+
+    ghost may_end = { λ first start konsole now stop bytes. ⊥ };
+
+    #[inline(always)]
+    fn read_piece(
+        &mut self,
+        reader: &mut Reader,
+        konsole: &mut Hearing<OnKonsole>,
+        piece: &[u8],
+    ) -> Result<(), Halt<Infallible>> {
+        self.looking.read_piece(reader, konsole, piece)?;
+        let kept = std::mem::replace(&mut self.kept, Kept::Lost);
+        self.kept = kept_after(kept, &konsole.listener, piece);
+        Ok(())
+    }
+
+    ghost stands = { λ first start reader konsole now bytes h. (h.drawn.1.events, h.drawn.1.read) };
+
+    ghost longer = { λ first start konsole now stop bytes rest h. h };
 }
 
 /// A drawing on a screen of this width and height, before any event.
@@ -101,19 +134,12 @@ pub fn follow_on_konsole<S: Source>(
         IfSome (with_first piece.old read (S.state input.old).remaining)
         (NoFaultBefore (S.state input.new).remaining) }
 {
-    let mut kept = Kept::Bytes(Vec::new(alloc));
-    let mut reader = Reader::new();
-    let mut looking = Looking::new(Hears::Boxes);
-    let mut count = read;
-    while count > 0 {
-        looking.look(&piece[..count]);
-        konsole.omitted = looking.omitted();
-        follow(&mut reader, konsole, &piece[..count])?;
-        kept = kept_after(kept, &konsole.listener, &piece[..count]);
-        count = input.fill(piece)?;
-    }
-    reader.finish()?;
-    Ok(kept)
+    let mut bytes = KonsoleBytes {
+        looking: Looking::new(Hears::Boxes),
+        kept: Kept::Bytes(Vec::new(alloc)),
+    };
+    read_rest(input, piece, read, konsole, &mut bytes)?;
+    Ok(bytes.kept)
 }
 
 /// The screen of konsole after the document that it has drawn. If its sixel pixels are higher than one pixel, the kept

@@ -104,7 +104,11 @@ fn read_shown<S: Source>(
 }
 
 /// A drawing of no events, on the terminal of these choices.
-fn nothing_drawn(alloc: Global, profile: Profile, choices: Choices) -> Result<Watched, AllocError>
+pub(crate) fn nothing_drawn(
+    alloc: Global,
+    profile: Profile,
+    choices: Choices,
+) -> Result<Watched, AllocError>
     requires { terminal_fault choices (greys profile) (white_screen choices) ≡ None }
     ensures terminal { IfOk result (λ watched. watched.drawing.terminal ≡ show_terminal profile choices) }
     ensures watched { IfOk result (λ watched. HasWatched watched []) }
@@ -115,11 +119,7 @@ fn nothing_drawn(alloc: Global, profile: Profile, choices: Choices) -> Result<Wa
 
 /// The terminal of `show` with these choices.
 #[tactic(auto, unfolding(crate::specs::Screens::show_terminal))]
-pub(crate) fn terminal_of(
-    alloc: Global,
-    profile: Profile,
-    choices: Choices,
-) -> Result<Terminal, AllocError>
+fn terminal_of(alloc: Global, profile: Profile, choices: Choices) -> Result<Terminal, AllocError>
     requires { terminal_fault choices (greys profile) (white_screen choices) ≡ None }
     ensures { IfOk result (λ terminal. terminal ≡ show_terminal profile choices) }
 {

@@ -1,6 +1,6 @@
 //! Shows a sixel picture on a screen as large as its declared box, as a PPM.
 
-ghost use Rattle.std.specs.Prelude.{◌≡◌, ◌++◌, ◌≤◌, ℕ, Err, List, IfErr, IfOk, IfSome, IsTrue, OnOk};
+ghost use Rattle.std.specs.Prelude.{◌≡◌, ◌++◌, ◌≤◌, [], ℕ, Err, List, IfErr, IfOk, IfSome, IsTrue, OnOk};
 ghost use Rattle.sixel_grammar.specs.declared.command.Event.{Event as AnEvent};
 ghost use Rattle.sixel_grammar.specs.declared.command.Placed.{Placed as Place};
 ghost use Rattle.sixel_grammar.specs.Document.{Document, events_of};
@@ -10,7 +10,8 @@ ghost use Rattle.sixel_grammar.specs.declared.fault.InputFault.TheVariants.{Gram
 ghost use Rattle.sixel_grammar.specs.Reading.{Explains, ExplainsAlways, NoFaultBefore, failures_after};
 ghost use Rattle.sixel_ppm.specs.Ppm.{is_file_side};
 ghost use Rattle.sixel_terminal.specs.Displays.{Display};
-ghost use Rattle.sixel_show.specs.Boxes.{HasRead, IsShownInBox, IsStageAfter, terminal_of_kind};
+ghost use Rattle.sixel_show.specs.Boxes.{EndsStage, HasRead, HasReadInBox, IsShownInBox, IsStageAfter};
+ghost use Rattle.sixel_show.specs.Boxes.{declared_longer, terminal_of_kind};
 ghost use Rattle.sixel_report.specs.declared.fault.RunFault.TheVariants.{Read};
 ghost use Rattle.sixel_report.specs.Outputs.{CountsWrites, WroteBy, WroteNothing, failures_by};
 ghost use Rattle.sixel_show.specs.Outputs.{ShowBoxGives};
@@ -19,14 +20,15 @@ ghost use Rattle.sixel_show.specs.Watching.{HasWatched};
 
 use crate::box_finder::BoxFinder;
 use crate::screen::{Shown, write_shown};
-use crate::show::{show_choices, terminal_of};
+use crate::show::{nothing_drawn, show_choices};
 use crate::watched::Watched;
-use sixel_grammar::{Fault, Follower, InputFault, Reader, follow_bytes};
+use sixel_grammar::{
+    Fault, Follower, Halt, InputFault, PieceReader, Reader, follow_bytes, read_source,
+};
 use sixel_io::{PIECE, Sink, Source, kept_with};
 use sixel_model::Profile;
 use sixel_report::{MOST_SCREEN_SIDE, RunFault, Status};
-use sixel_terminal::Drawing;
-use std::alloc::Global;
+use std::alloc::{AllocError, Global};
 use std::convert::Infallible;
 
 /// A terminal of `show`, whose screen may have any sides.
@@ -48,6 +50,48 @@ enum Stage {
     Drawn(Watched),
     /// No screen can have the sides of the declared box.
     Unshowable,
+}
+
+/// A document that is drawn on a screen with the sides of its declared box.
+#[derive(Drop)]
+struct InBox {
+    alloc: Global,
+    kind: Kind,
+    stage: Stage,
+}
+
+/// It ends without memory only once a box of a screen's size is declared.
+impl PieceReader<()> for InBox {
+    type Stop = AllocError;
+
+    ghost has_read = { HasReadInBox };
+
+    ghost may_end = { λ first start nothing now stop bytes. DeclareScreenIn bytes };
+
+    #[inline(always)]
+    fn read_piece(
+        &mut self,
+        reader: &mut Reader,
+        _nothing: &mut (),
+        piece: &[u8],
+    ) -> Result<(), Halt<AllocError>> {
+        match std::mem::replace(&mut self.stage, Stage::Unshowable) {
+            Stage::Undeclared(kept) => {
+                self.stage = look_for_box(self.alloc, self.kind, kept, reader, piece)?;
+                Ok(())
+            }
+            Stage::Drawn(mut watched) => {
+                follow(reader, &mut watched, piece)?;
+                self.stage = Stage::Drawn(watched);
+                Ok(())
+            }
+            Stage::Unshowable => Ok(follow(reader, &mut (), piece)?),
+        }
+    }
+
+    ghost stands = { λ first start reader nothing now bytes h. (h.1.events, h.1.read) };
+
+    ghost longer = { λ first start nothing now stop bytes rest h. declared_longer bytes rest h };
 }
 
 /// Draws the document on a terminal with a screen of the size of the declared box while it reads it, and writes the
@@ -99,49 +143,16 @@ fn read_box_shown<S: Source>(
         IfSome (S.state input.old).remaining (NoFaultBefore (S.state input.new).remaining) }
     ensures memory { result ≡ Err InputFault.OutOfMemory → IfSome (S.state input.old).remaining DeclareScreenIn }
 {
-    let mut reader = Reader::new();
-    let mut stage = Stage::Undeclared(Some(Vec::new(alloc)));
-    loop {
-        let count = input.fill(piece)?;
-        if count == 0 {
-            reader.finish()?;
-            return Ok(stage.shown(kind.profile));
-        }
-        stage = stage.after(alloc, kind, &mut reader, &piece[..count])?;
-    }
+    let mut in_box = InBox {
+        alloc,
+        kind,
+        stage: Stage::Undeclared(Some(Vec::new(alloc))),
+    };
+    read_source(input, piece, &mut (), &mut in_box)?;
+    Ok(in_box.stage.shown(kind.profile))
 }
 
 impl Stage {
-    /// Reads one more piece, and draws it if there is a screen.
-    fn after(
-        self,
-        alloc: Global,
-        kind: Kind,
-        reader: &mut Reader,
-        piece: &[u8],
-    ) -> Result<Stage, InputFault>
-        requires { (bytes : List ℕ) × HasRead (terminal_of_kind kind) reader.old self bytes }
-        ensures read { IfOk result (λ stage. (bytes : List ℕ) →
-            HasRead (terminal_of_kind kind) reader.old self bytes →
-            HasRead (terminal_of_kind kind) reader.new stage (bytes ++ piece.now)) }
-        ensures refused { IfErr result (λ fault. (bytes : List ℕ) →
-            HasRead (terminal_of_kind kind) reader.old self bytes → ExplainsAlways fault (bytes ++ piece.now)) }
-        ensures memory { result ≡ Err InputFault.OutOfMemory → (bytes : List ℕ) →
-            HasRead (terminal_of_kind kind) reader.old self bytes → DeclareScreenIn (bytes ++ piece.now) }
-    {
-        match self {
-            Stage::Undeclared(kept) => look_for_box(alloc, kind, kept, reader, piece),
-            Stage::Drawn(mut watched) => {
-                follow(reader, &mut watched, piece)?;
-                Ok(Stage::Drawn(watched))
-            }
-            Stage::Unshowable => {
-                follow(reader, &mut (), piece)?;
-                Ok(Stage::Unshowable)
-            }
-        }
-    }
-
     /// What is shown, if there is a screen.
     fn shown(self, profile: Profile) -> Option<Shown>
         ensures { (terminal : ℕ × ℕ → Display) (events : List AnEvent) (bytes : List ℕ) →
@@ -162,17 +173,12 @@ fn look_for_box(
     kept: Option<Vec<u8>>,
     reader: &mut Reader,
     piece: &[u8],
-) -> Result<Stage, InputFault>
+) -> Result<Stage, Halt<AllocError>>
     requires { (bytes : List ℕ) × HasRead (terminal_of_kind kind) reader.old (Stage.Undeclared kept) bytes }
     ensures read { IfOk result (λ stage. (bytes : List ℕ) →
         HasRead (terminal_of_kind kind) reader.old (Stage.Undeclared kept) bytes →
         HasRead (terminal_of_kind kind) reader.new stage (bytes ++ piece.now)) }
-    ensures refused { IfErr result (λ fault. (bytes : List ℕ) →
-        HasRead (terminal_of_kind kind) reader.old (Stage.Undeclared kept) bytes →
-        ExplainsAlways fault (bytes ++ piece.now)) }
-    ensures memory { result ≡ Err InputFault.OutOfMemory → (bytes : List ℕ) →
-        HasRead (terminal_of_kind kind) reader.old (Stage.Undeclared kept) bytes →
-        DeclareScreenIn (bytes ++ piece.now) }
+    ensures halted { IfErr result (EndsStage (terminal_of_kind kind) reader.old (Stage.Undeclared kept) piece.now) }
 {
     let mut finder = BoxFinder { found: None };
     follow(reader, &mut finder, piece)?;
@@ -182,33 +188,36 @@ fn look_for_box(
             None => Ok(Stage::Unshowable),
             Some((width, height)) => {
                 let Some(kept) = kept else {
-                    return Err(InputFault::OutOfMemory);
+                    return Err(Halt::Stopped(AllocError));
                 };
-                Ok(Stage::Drawn(draw_bytes(alloc, kind, width, height, &kept, piece)?))
+                let Ok(watched) = begin_in_box(alloc, kind, width, height) else {
+                    return Err(Halt::Stopped(AllocError));
+                };
+                Ok(Stage::Drawn(draw_bytes(watched, &kept, piece)?))
             }
         },
     }
 }
 
-/// Draws the events that are complete in these bytes and the piece after them, on a screen of these sides.
-fn draw_bytes(
-    alloc: Global,
-    kind: Kind,
-    width: u32,
-    height: u32,
-    bytes: &[u8],
-    piece: &[u8],
-) -> Result<Watched, InputFault>
+/// A drawing of no events, on a screen of these sides.
+fn begin_in_box(alloc: Global, kind: Kind, width: u32, height: u32) -> Result<Watched, AllocError>
     requires width { IsTrue (is_file_side width) }
     requires height { IsTrue (is_file_side height) }
     ensures terminal { IfOk result (λ watched. watched.drawing.terminal ≡ terminal_of_kind kind (width, height)) }
-    ensures watched { IfOk result (λ watched. (events : List Place) → CompleteIn events (bytes.now ++ piece.now) →
-        HasWatched watched (events_of events)) }
-    ensures refused { IfErr result (λ fault. ExplainsAlways fault (bytes.now ++ piece.now)) }
+    ensures watched { IfOk result (λ watched. HasWatched watched []) }
 {
     let choices = show_choices(kind.showing, kind.fill, kind.selects, width, height);
-    let drawing = Drawing::new(alloc, terminal_of(alloc, kind.profile, choices)?)?;
-    let mut watched = Watched::new(drawing);
+    nothing_drawn(alloc, kind.profile, choices)
+}
+
+/// Draws the events that are complete in these bytes and the piece after them.
+fn draw_bytes(mut watched: Watched, bytes: &[u8], piece: &[u8]) -> Result<Watched, Fault>
+    requires { HasWatched watched [] }
+    ensures terminal { IfOk result (λ drawn. drawn.drawing.terminal ≡ watched.drawing.terminal) }
+    ensures watched { IfOk result (λ drawn. (events : List Place) → CompleteIn events (bytes.now ++ piece.now) →
+        HasWatched drawn (events_of events)) }
+    ensures refused { IfErr result (λ fault. ExplainsAlways (Grammar fault) (bytes.now ++ piece.now)) }
+{
     let mut reader = Reader::new();
     follow(&mut reader, &mut watched, bytes)?;
     follow(&mut reader, &mut watched, piece)?;

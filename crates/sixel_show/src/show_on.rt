@@ -20,11 +20,11 @@ ghost use Rattle.sixel_show.specs.Outputs.{ShowOnGives, sides_in};
 
 use crate::box_finder::BoxFinder;
 use crate::draw::read_rest;
-use crate::kept::follow_kept;
 use crate::on_konsole::{begin_konsole, follow_on_konsole, screen_by};
 use crate::show_box::{follow, sides_of_box};
 use sixel_grammar::{InputFault, Reader};
 use sixel_io::{DeviceFault, PIECE, Sink, Source};
+use sixel_keeping::Keeping;
 use sixel_model::Colour;
 use sixel_named_terminals::Named;
 use sixel_report::{Area, RunFault, Status};
@@ -335,8 +335,11 @@ fn find_box<S: Source>(
         (NoFaultBefore (S.state input.new).remaining) }
 {
     let mut finder = BoxFinder { found: None };
-    let kept = follow_kept(alloc, input, piece, read, &mut finder)?;
-    Ok((kept, finder.found))
+    let mut keeping = Keeping {
+        kept: Some(Vec::new(alloc)),
+    };
+    sixel_grammar::read_rest(input, piece, read, &mut finder, &mut keeping)?;
+    Ok((keeping.kept, finder.found))
 }
 
 /// The screen of the named terminal after the document of these bytes. If no screen can have the sides of the declared

@@ -41,12 +41,12 @@ pub fn mend<S: Source, K: Sink>(
         IfSome (S.state input.old).remaining (NoFaultBefore (S.state input.new).remaining) }
     ensures writes { CountsWrites result (K.state output.old).failures (K.state output.new).failures }
 {
-    let (kept, measurer) = read_document(alloc, input, piece)?;
+    let (kept, extent) = read_document(alloc, input, piece)?;
     let Some(bytes) = kept else {
-        size_of(&measurer)?;
+        size_of(&extent)?;
         return Err(RunFault::OutOfMemory);
     };
-    let mended = mend_measured(alloc, profile, mending, &measurer, &bytes)?;
+    let mended = mend_measured(alloc, profile, mending, &extent, &bytes)?;
     match sixel_encode::encode(&mended.picture, output) {
         Ok(()) => Ok(status_of(mended.hidden)),
         Err(_) => Err(RunFault::Write),

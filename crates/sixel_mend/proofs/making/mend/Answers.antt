@@ -1,17 +1,7 @@
-use Rattle.std.proofs.Common.{[], List, ℕ, subst}
-use Rattle.std.proofs.lemmas.List.{append-nil}
 use Rattle.std.proofs.lemmas.Result.{err_from_is_err_and}
-use Rattle.sixel_grammar.specs.Faults.{IsFaultOf}
 use Rattle.sixel_model.specs.Profiles.{count_of}
 use Rattle.sixel_mend.proofs.NotingLemmas.{picture_mends}
 use Rattle.sixel_mend.proofs.making.mend.Goals as goal
-
-pub returns-in_err-feed : goal.returns-in_err-feed
-returns-in_err-feed c =
-    let failed = err_from_is_err_and c.from_residual.result c.from_residual.ensures.1 in
-    rw (failed.1, failed.2)
-    (subst (λ (t : List ℕ). IsFaultOf t c.in_err-feed.field-0.0) (append-nil c.args.bytes.now)
-    (c.in_err-feed.ensures.refused [] c.new-measurer.ensures []))
 
 pub returns-in_err-mended : goal.returns-in_err-mended
 returns-in_err-mended c =

@@ -16,12 +16,6 @@ returns-in_err-width c =
     let failed = err_from_is_err_and c.from_residual.result c.from_residual.ensures.1 in
     rw (failed.1, failed.2) (c.in_err-width.ensures.refused c.args.bytes.now c.requires (count_of c.args.profile) c.args.mending.now)
 
-pub returns-in_err-has_hls : goal.returns-in_err-has_hls
-returns-in_err-has_hls c =
-    let exit = c.from_residual-in_err-has_hls in
-    let failed = err_from_is_err_and exit.result exit.ensures.1 in
-    rw (failed.1, failed.2) (c.in_err-has_hls.ensures.refused c.args.bytes.now c.requires)
-
 pub returns-in_err-screen : goal.returns-in_err-screen
 returns-in_err-screen c =
     let exit = c.from_residual-in_err-screen in
@@ -47,7 +41,7 @@ into_picture-requires-clause-numbered c =
     let m = c.args.mending.now in
     let w = c.in_ok-width.width in
     let h = c.in_ok-width.height in
-    let d = c.in_ok-has_hls.ensures.measured c.args.bytes.now c.requires in
+    let d = c.requires in
     let shown = c.in_ok-screen.ensures.shown in
     let es = events_of shown.0 in
     let marked =
@@ -61,7 +55,7 @@ returns-in-Some c =
     let w = c.in_ok-width.width in
     let h = c.in_ok-width.height in
     let s = c.in_ok-width.ensures.sized c.args.bytes.now c.requires in
-    let d = c.in_ok-has_hls.ensures.measured c.args.bytes.now c.requires in
+    let d = c.requires in
     let shown = c.in_ok-screen.ensures.shown in
     let es = events_of shown.0 in
     let marked =

@@ -7,12 +7,12 @@ returns-in_err-size_of-clause-refused g c =
     let exit = c.from_residual-in_err-size_of in
     let failed = err_from_is_err_and exit.result exit.ensures.1 in
     rw (failed.1, failed.2)
-    (measured_refusal c.in_ok-kept.measurer (g.S.Source.state c.args.input.now).remaining
+    (measured_refusal c.in_ok-kept.extent (g.S.Source.state c.args.input.now).remaining
     c.in_err-size_of.field-0.0 c.in_ok-kept.ensures.told c.in_err-size_of.ensures.refused)
 
 pub returns-in_default-clause-refused : goal.returns-in_default-clause-refused
 returns-in_default-clause-refused g c =
-    unkept_refusal c.in_ok-kept.measurer (g.S.Source.state c.args.input.now).remaining
+    unkept_refusal c.in_ok-kept.extent (g.S.Source.state c.args.input.now).remaining
     c.in_ok-size_of.field-0.0 c.in_ok-size_of.field-0.1 c.in_ok-kept.ensures.told c.in_ok-size_of.ensures.sides
     c.in_ok-size_of.ensures.sized
 

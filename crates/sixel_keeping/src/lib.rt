@@ -1,0 +1,6 @@
+//! The bytes of a document, kept while it is followed.
+#![tactic(auto)]
+
+mod keeping;
+
+pub use keeping::Keeping;
