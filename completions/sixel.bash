@@ -53,9 +53,9 @@ _sixel() {
         explain) options='-h --help -V --version' operands=0
             names='RasterFirst RasterTwice Ratio BoxSize Register ColourValue RepeatZero Unselected Undefined
                 Redefined Outside Uncovered EightBit RasterLate Dropped Stale Large Rows Past Hue Far Introducer
-                Bare NotSixel BadByte NumberTooLarge FieldCount BadRepeat BadTerminator Truncated TooLong Trailing
-                Header Size Maxval Sample TooManyColours Short NotRgb NoBox Unmodelled NoString Empty TooLarge
-                OutOfMemory Read Write'
+                Bare SpaceAfter NotSixel BadByte NumberTooLarge FieldCount BadRepeat BadTerminator Truncated TooLong
+                Trailing Header Size Maxval Sample TooManyColours Short NotRgb NoBox Unmodelled NoString Empty
+                TooLarge OutOfMemory Read Write'
             ;;
         help)
             names='list check survey scan render encode show differ mend explain help'

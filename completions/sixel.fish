@@ -130,6 +130,7 @@ complete -c sixel -n '__fish_sixel_is explain' -a Hue -d 'a colour of hue, light
 complete -c sixel -n '__fish_sixel_is explain' -a Far -d 'sixels right of the box, far below it or past column 32,767'
 complete -c sixel -n '__fish_sixel_is explain' -a Introducer -d 'an introducer by which xterm draws nothing or mlterm may mix colours'
 complete -c sixel -n '__fish_sixel_is explain' -a Bare -d 'a selection without a number'
+complete -c sixel -n '__fish_sixel_is explain' -a SpaceAfter -d 'a space after the terminator'
 complete -c sixel -n '__fish_sixel_is explain' -a NotSixel -d 'input that doesn\'t start like a sixel string'
 complete -c sixel -n '__fish_sixel_is explain' -a BadByte -d 'unexpected byte'
 complete -c sixel -n '__fish_sixel_is explain' -a NumberTooLarge -d 'a number above 65,535'

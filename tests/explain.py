@@ -23,6 +23,7 @@ QUESTIONS = [
     ("RasterLate", "RasterLate"),
     ("introducer", "Introducer"),
     ("bare", "Bare"),
+    ("spaceAfter", "SpaceAfter"),
     ("uncovered", "Uncovered"),
     ("MAXVAL", "Maxval"),
     ("tooManyColours", "TooManyColours"),

@@ -21,7 +21,7 @@ use Rattle.sixel_emulator_rules.specs.Counts.{in_order}
 use Rattle.sixel_emulator_rules.specs.Stale.{IsStale, colour_at_select}
 use Rattle.sixel_emulator_rules.specs.Tallies.{CountsAsked}
 use Rattle.sixel_emulator_rules.specs.declared.rule.AskedRule.{AskedRule}
-use Rattle.sixel_emulator_rules.specs.declared.rule.AskedRule.TheVariants.{Stale, Bare}
+use Rattle.sixel_emulator_rules.specs.declared.rule.AskedRule.TheVariants.{Stale, Bare, SpaceAfter}
 use Rattle.sixel_emulator_rules.specs.declared.terminals.Terminals.{Terminals}
 use Rattle.sixel_emulator_rules.proofs.FirstLemmas.{first_is_least, first_passes, none_passes}
 
@@ -73,6 +73,7 @@ stale_decided before e = elim (decide_true (is_painting e)) [
 unfoldable pub breaks_decided : (rule : AskedRule) (before : List Event) (e : Event) → Decided (BreaksAsked rule before e)
 breaks_decided Stale before e = stale_decided before e
 breaks_decided Bare before e = inr (λ h. h)
+breaks_decided SpaceAfter before e = inr (λ h. h)
 breaks_decided _ before e = decide_true _
 
 unfoldable pub counts_decided : (rule : AskedRule) (before : List Event) (e : Event)
@@ -80,6 +81,7 @@ unfoldable pub counts_decided : (rule : AskedRule) (before : List Event) (e : Ev
 counts_decided Stale before e =
     both_decided _ _ (stale_decided before e) (decide_true (is_below 256 (known before)))
 counts_decided Bare before e = inr (λ h. h)
+counts_decided SpaceAfter before e = inr (λ h. h)
 counts_decided _ before e = decide_true _
 
 -- ---- the rules at one position

@@ -6,8 +6,6 @@ use Rattle.sixel_grammar.specs.Following.{HoldsIn}
 use Rattle.sixel_grammar.specs.Source.{FollowsSource, HaltsSource, IsFollowed}
 use Rattle.sixel_grammar.specs.declared.command.Placed.{Placed}
 use Rattle.sixel_grammar.specs.declared.source.SourceHalt.TheVariants.{Stopped}
-use Rattle.sixel_omissions.specs.Seen.{HasSeenBare}
-use Rattle.sixel_omissions.specs.declared.bare.BareSelects.{BareSelects}
 use Rattle.sixel_judge.specs.Growth.{MayGrowAmong, MayGrowIn}
 use Rattle.sixel_judge.specs.Standing.{CheckerValue, StandsAfter}
 use Rattle.sixel_judge.proofs.FollowLemmas.{HasTaken, MayStop, grows_in, whole_then}
@@ -17,6 +15,8 @@ use Rattle.sixel_emulator_rules.specs.Asking.{HasAsked, HasAskedOn}
 use Rattle.sixel_emulator_rules.specs.declared.asking.Asking.{Asking}
 use Rattle.sixel_emulator_rules.specs.declared.terminals.Terminals.{Terminals}
 use Rattle.sixel_emulator_check.specs.Checking.{HaveTakenAll}
+use Rattle.sixel_emulator_check.specs.Looks.{HasLooked}
+use Rattle.sixel_emulator_check.specs.declared.looks.Looks.{Looks}
 use Rattle.sixel_grammar.specs.declared.both.Both.{Both}
 
 abbrev pub Pair : Type 0
@@ -45,12 +45,12 @@ seen_now : (n : ℕ) (old new : Pair) (known : Option (List ℕ)) (f : IsFollowe
 seen_now n old new known f s =
     subst (λ (k : ℕ). StandsAfter k new.one f.events) (registers_of n old.one [] s) f.taken.0
 
-pub taken_all : (n : ℕ) (t : Terminals) (old new : Pair) (bare : BareSelects) (known : Option (List ℕ))
-    → FollowsSource HasTakenBoth old new known → IfSome known (HasSeenBare bare) → StandsAfter n old.one []
+pub taken_all : (n : ℕ) (t : Terminals) (old new : Pair) (looks : Looks) (known : Option (List ℕ))
+    → FollowsSource HasTakenBoth old new known → IfSome known (HasLooked looks) → StandsAfter n old.one []
     → old.other.terminals ≡ t → HasAsked old.other []
-    → IfSome known (HaveTakenAll n t (Ok (record { both = new; bare = bare })))
-taken_all n t old new bare None follows seen s is asked = tt
-taken_all n t old new bare (Some bytes) follows seen s is asked =
+    → IfSome known (HaveTakenAll n t (Ok (record { both = new; looks = looks })))
+taken_all n t old new looks None follows seen s is asked = tt
+taken_all n t old new looks (Some bytes) follows seen s is asked =
     let f = followed_both n old new (Some bytes) follows s in (
       f.events,
       subst (Document f.events) (sym f.known_are) f.document,

@@ -13,12 +13,13 @@ use Rattle.sixel_judge.specs.declared.verdict.Verdict.{Verdict}
 use Rattle.sixel_judge.specs.declared.verdict.Verdict.TheVariants.{Portable, Broken}
 use Rattle.sixel_emulator_rules.specs.Asking.{IsAnswer, IsFindingAt}
 use Rattle.sixel_emulator_rules.specs.declared.asking.AskedFinding.{AskedFinding}
+use Rattle.sixel_emulator_rules.specs.declared.rule.AskedRule.TheVariants.{Bare, SpaceAfter}
 use Rattle.sixel_emulator_rules.specs.declared.terminals.Terminals.{Terminals}
 use Rattle.sixel_emulator_rules.proofs.LawLemmas.{none_is_exact}
 use Rattle.sixel_emulator_check.specs.Answers.{AnswersOn, AnswersOutcomeOn}
 use Rattle.sixel_emulator_check.specs.Checking.{broken_outcome_or, earlier_than, joined_outcome, outcome_with}
 use Rattle.sixel_emulator_check.specs.Verdicts.{IsRightOn, IsVerdictOn, named_outcome_of}
-use Rattle.sixel_emulator_check.specs.Written.{IsBareOn, with_bare}
+use Rattle.sixel_emulator_check.specs.Written.{IsBareOn, IsSpaceOn, with_rule}
 use Rattle.sixel_emulator_check.specs.declared.verdict.NamedVerdict.{NamedVerdict}
 use Rattle.sixel_emulator_check.specs.declared.verdict.NamedVerdict.TheVariants as named
 use Rattle.sixel_emulator_check.proofs.FirstLemmas.{asked_alone, asked_first, broken_alone, broken_first}
@@ -86,11 +87,15 @@ joined_same (Broken f) o = broken_same f (earlier_than f o)
 
 -- ---- the answers
 
+-- the verdict, where it is known where the rules of the bytes are broken first
+abbrev written : Verdict → Option AskedFinding → Option ℕ → Option ℕ → NamedVerdict
+written v o bare space = with_rule SpaceAfter space (with_rule Bare bare (joined v o))
+
 answers_joined : (registers : ℕ) (t : Terminals) (placed : List Placed) (bytes : List ℕ) (v : Verdict)
-    (o : Option AskedFinding) (bare : Option ℕ) → registers ≤ 256 → Document placed bytes
+    (o : Option AskedFinding) (bare space : Option ℕ) → registers ≤ 256 → Document placed bytes
     → IsVerdict registers placed v → IsShownEverywhere registers (events_of placed) v → IsAnswer t placed o
-    → IsBareOn t bytes bare → AnswersOn registers t (Ok (with_bare bare (joined v o))) bytes
-answers_joined registers t placed bytes v o bare few document is everywhere answer bare_is = (
+    → IsBareOn t bytes bare → IsSpaceOn t bytes space → AnswersOn registers t (Ok (written v o bare space)) bytes
+answers_joined registers t placed bytes v o bare space few document is everywhere answer bare_is space_is = (
   placed,
   document,
   record {
@@ -98,17 +103,30 @@ answers_joined registers t placed bytes v o bare few document is everywhere answ
     is = joined_is registers t placed bytes v o few document is answer;
     bare = bare;
     bare_is = bare_is;
+    space = space;
+    space_is = space_is;
     verdict_is = refl;
   },
-  right_with registers placed bare (joined v o) (joined_right registers placed v o everywhere),
+  right_with registers placed SpaceAfter space (with_rule Bare bare (joined v o))
+      (right_with registers placed Bare bare (joined v o) (joined_right registers placed v o everywhere)),
 )
 
+written_same : (v : Verdict) (o : Option AskedFinding) (bare space : Option ℕ)
+    → outcome_with SpaceAfter space (outcome_with Bare bare (joined_outcome (outcome_of v) o))
+    ≡ named_outcome_of (written v o bare space)
+written_same v o bare space =
+    ap (λ n. outcome_with SpaceAfter space (outcome_with Bare bare n)) (joined_same v o)
+    ∙ ap (outcome_with SpaceAfter space) (with_same Bare bare (joined v o))
+    ∙ with_same SpaceAfter space (with_rule Bare bare (joined v o))
+
 pub answers_outcome : (registers : ℕ) (t : Terminals) (placed : List Placed) (bytes : List ℕ) (outcome : Outcome)
-    (o : Option AskedFinding) (bare : Option ℕ) → registers ≤ 256 → Document placed bytes
-    → IsOutcome registers placed outcome → IsAnswer t placed o → IsBareOn t bytes bare
-    → AnswersOutcomeOn registers t (Ok (outcome_with bare (joined_outcome outcome o))) bytes
-answers_outcome registers t placed bytes outcome o bare few document is answer bare_is = (
-  with_bare bare (joined is.verdict o),
-  answers_joined registers t placed bytes is.verdict o bare few document is.verdict_is is.everywhere answer bare_is,
-  rw is.outcome_is (ap (outcome_with bare) (joined_same is.verdict o) ∙ with_same bare (joined is.verdict o)),
+    (o : Option AskedFinding) (bare space : Option ℕ) → registers ≤ 256 → Document placed bytes
+    → IsOutcome registers placed outcome → IsAnswer t placed o → IsBareOn t bytes bare → IsSpaceOn t bytes space
+    → AnswersOutcomeOn registers t
+    (Ok (outcome_with SpaceAfter space (outcome_with Bare bare (joined_outcome outcome o)))) bytes
+answers_outcome registers t placed bytes outcome o bare space few document is answer bare_is space_is = (
+  written is.verdict o bare space,
+  answers_joined registers t placed bytes is.verdict o bare space few document is.verdict_is is.everywhere answer
+      bare_is space_is,
+  rw is.outcome_is (written_same is.verdict o bare space),
 )

@@ -7,5 +7,6 @@ pub mod OneVerdictLemmas
 pub mod OneSurveyLemmas
 pub mod SurveyLawLemmas
 pub mod SurveyingLemmas
+pub mod TrailerLemmas
 pub mod WrittenLemmas
 pub mod WrittenLawLemmas

@@ -19,11 +19,19 @@ use Rattle.sixel_emulator_check.proofs.JoinLemmas.{joined, joined_same}
 pub none_asked : (events : List Event) → BreaksNoneAsked none events
 none_asked events rule asked = cc
 
--- nor for a select with its number
+-- nor of those of the bytes
 by_events_alone : (registers : ℕ) (placed : List Placed) (bytes : List ℕ) (v : Verdict)
     → IsVerdictOn registers none placed (named_verdict v) → IsVerdictOf registers none bytes placed (named_verdict v)
 by_events_alone registers placed bytes v is =
-    record { by_events = named_verdict v; is = is; bare = None; bare_is = refl; verdict_is = refl }
+    record {
+      by_events = named_verdict v;
+      is = is;
+      bare = None;
+      bare_is = refl;
+      space = None;
+      space_is = refl;
+      verdict_is = refl;
+    }
 
 pub same_as_check : (registers : ℕ) → SameAsCheck registers
 same_as_check registers bytes (Portable p) h =

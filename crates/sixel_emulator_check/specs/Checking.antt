@@ -4,7 +4,6 @@ use Rattle.sixel_grammar.specs.Document.{Document}
 use Rattle.sixel_grammar.specs.Reading.{Explains}
 use Rattle.sixel_grammar.specs.declared.command.Placed.{Placed}
 use Rattle.sixel_grammar.specs.declared.fault.InputFault.{InputFault}
-use Rattle.sixel_omissions.specs.Seen.{HasSeenBare}
 use Rattle.sixel_judge.specs.Standing.{CheckerValue, StandsAfter}
 use Rattle.sixel_judge.specs.declared.verdict.Finding.{Finding}
 use Rattle.sixel_judge.specs.declared.verdict.Outcome.{Outcome}
@@ -12,10 +11,11 @@ use Rattle.sixel_judge.specs.declared.verdict.Outcome.TheVariants as size
 use Rattle.sixel_emulator_rules.specs.Asking.{HasAsked}
 use Rattle.sixel_emulator_rules.specs.declared.asking.AskedFinding.{AskedFinding}
 use Rattle.sixel_emulator_rules.specs.declared.asking.Asking.{Asking}
+use Rattle.sixel_emulator_rules.specs.declared.rule.AskedRule.{AskedRule}
 use Rattle.sixel_emulator_rules.specs.declared.terminals.Terminals.{Terminals}
 use Rattle.sixel_grammar.specs.declared.both.Both.{Both}
 use Rattle.sixel_emulator_check.specs.declared.checking.Checked.{Checked}
-use Rattle.sixel_emulator_check.specs.Written.{bare_finding}
+use Rattle.sixel_emulator_check.specs.Looks.{HasLooked}
 use Rattle.sixel_emulator_check.specs.declared.verdict.NamedOutcome.{NamedOutcome}
 use Rattle.sixel_emulator_check.specs.declared.verdict.NamedOutcome.TheVariants as outcome
 
@@ -26,12 +26,12 @@ pub record HaveTaken (registers : ℕ) (t : Terminals) (both : Both CheckerValue
   pub terminals : both.other.terminals ≡ t
   pub asked : HasAsked both.other placed
 
--- Ok: the bytes are a document, both have taken its events, and its selects without a number are known; Err: a grammar
--- fault is the fault of these bytes
+-- Ok: the bytes are a document, both have taken its events, and its bytes were looked at; Err: a grammar fault is the
+-- fault of these bytes
 abbrev pub HaveTakenAll : ℕ → Terminals → Result Checked InputFault → List ℕ → Type 0
 HaveTakenAll registers t (Ok checked) bytes =
     (events : List Placed) × Document events bytes × HaveTaken registers t checked.both events
-    × HasSeenBare checked.bare bytes
+    × HasLooked checked.looks bytes
 HaveTakenAll registers t (Err fault) bytes = Explains fault bytes
 
 -- ---- what is made of their answers
@@ -51,13 +51,16 @@ joined_outcome (size.Portable width height) None = outcome.Portable width height
 joined_outcome (size.Portable width height) (Some asked) = outcome.Asked asked
 joined_outcome (size.Broken f) asked = broken_outcome_or f (earlier_than f asked)
 
--- `Bare` at the first offset, or the other outcome, whose finding is at the second one; the earlier of the two
-abbrev pub earlier_outcome : ℕ → ℕ → NamedOutcome → NamedOutcome
-earlier_outcome bare place o = if nat_lt bare place then outcome.Asked (bare_finding bare) else o
+-- the finding, or the other outcome, whose finding is at this offset; the earlier of the two
+abbrev pub earlier_outcome : AskedFinding → ℕ → NamedOutcome → NamedOutcome
+earlier_outcome found place o = if nat_lt found.place place then outcome.Asked found else o
 
--- the outcome, where `Bare` is broken at this offset
-abbrev pub outcome_with : Option ℕ → NamedOutcome → NamedOutcome
-outcome_with None o = o
-outcome_with (Some bare) (outcome.Portable width height) = outcome.Asked (bare_finding bare)
-outcome_with (Some bare) (outcome.Broken f) = earlier_outcome bare f.place (outcome.Broken f)
-outcome_with (Some bare) (outcome.Asked f) = earlier_outcome bare f.place (outcome.Asked f)
+abbrev pub outcome_with_finding : AskedFinding → NamedOutcome → NamedOutcome
+outcome_with_finding found (outcome.Portable width height) = outcome.Asked found
+outcome_with_finding found (outcome.Broken f) = earlier_outcome found f.place (outcome.Broken f)
+outcome_with_finding found (outcome.Asked f) = earlier_outcome found f.place (outcome.Asked f)
+
+-- the outcome, where a rule of which only bytes tell is broken first at this offset, if it is
+abbrev pub outcome_with : AskedRule → Option ℕ → NamedOutcome → NamedOutcome
+outcome_with rule None o = o
+outcome_with rule (Some place) o = outcome_with_finding (record { rule = rule; place = place }) o

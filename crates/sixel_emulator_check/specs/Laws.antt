@@ -13,7 +13,7 @@ use Rattle.sixel_emulator_rules.specs.Asked as asked
 use Rattle.sixel_emulator_rules.specs.declared.tally.AskedEntry.{AskedEntry}
 use Rattle.sixel_emulator_rules.specs.declared.terminals.Terminals.{Terminals}
 use Rattle.sixel_emulator_check.specs.Answers.{AnswersOn}
-use Rattle.sixel_emulator_check.specs.Written.{IsBareOn, IsSurveyOf, IsVerdictOf}
+use Rattle.sixel_emulator_check.specs.Written.{IsBareOn, IsSpaceOn, IsSurveyOf, IsVerdictOf}
 use Rattle.sixel_emulator_check.specs.declared.surveying.NamedSurvey.{NamedSurvey}
 use Rattle.sixel_emulator_check.specs.declared.verdict.NamedFinding.{NamedFinding}
 use Rattle.sixel_emulator_check.specs.declared.verdict.NamedFinding.TheVariants as finding
@@ -42,7 +42,7 @@ EmptyIfNoneOn registers =
     → IsSurveyOf registers t bytes placed survey
     → ((survey.entries.items ≡ []) × (survey.asked.items ≡ []))
     ↔ (BreaksNone registers last_rule (events_of placed) × BreaksNoneAsked t (events_of placed)
-    × IsBareOn t bytes None)
+    × IsBareOn t bytes None × IsSpaceOn t bytes None)
 
 -- the first entry of a survey of a document is the verdict on it
 abbrev pub FirstIsVerdictOn : ℕ → Type 0

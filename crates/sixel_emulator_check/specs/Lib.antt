@@ -1,6 +1,8 @@
 pub mod Rules
 pub mod Verdicts
 pub mod Surveys
+pub mod Trailer
+pub mod Looks
 pub mod Written
 pub mod Answers
 pub mod Checking

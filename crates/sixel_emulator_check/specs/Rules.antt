@@ -1,4 +1,4 @@
--- The rules of portable pictures, 1 to 13, and those that named terminals ask for, 14 to 23.
+-- The rules of portable pictures, 1 to 13, and those that named terminals ask for, 14 to 24.
 use Rattle.std.specs.Prelude.{◌++◌, ℕ, List, map}
 use Rattle.sixel_model.specs.Rules.{all_rules, number_of}
 use Rattle.sixel_emulator_rules.specs.Asked as asked

@@ -1,17 +1,17 @@
 //! Checking the bytes of a document for named terminals.
 
-ghost use Rattle.std.specs.Prelude.{◌≡◌, ℕ, IfOk, IsTrue, List};
-ghost use Rattle.sixel_omissions.specs.Seen.{HasSeenBare};
+ghost use Rattle.std.specs.Prelude.{◌≡◌, IfOk, IsTrue, None, cond};
 ghost use Rattle.sixel_model.specs.Profiles.{count_of};
 ghost use Rattle.sixel_judge.specs.Growth.{MayGrowIn};
 ghost use Rattle.sixel_check.specs.Checking.{IsWhole};
+ghost use Rattle.sixel_emulator_rules.specs.Asked.{is_asked};
 ghost use Rattle.sixel_survey.specs.Reads.{ReadsDocument};
 ghost use Rattle.sixel_emulator_check.specs.Answers.{AnswersOutcomeOn};
 ghost use Rattle.sixel_emulator_check.specs.Checking.{HaveTakenAll};
 ghost use Rattle.sixel_emulator_check.specs.Laws.{none};
-ghost use Rattle.sixel_emulator_check.specs.Written.{IsBareOn};
 
-use crate::joining::{add_bare, join_outcome};
+use crate::joining::{add_rule, join_outcome};
+use crate::looks::{Looks, follow_looking};
 use crate::verdict::NamedOutcome;
 use sixel_check::outcome_with;
 use sixel_emulator_rules::{AskedRule, Asking, Terminals};
@@ -19,7 +19,6 @@ use sixel_grammar::{Both, InputFault};
 use sixel_io::{PIECE, Source};
 use sixel_judge::Checker;
 use sixel_model::Profile;
-use sixel_omissions::{BareSelects, follow_noting};
 use sixel_plane::CoverPlane;
 use std::alloc::Global;
 
@@ -35,15 +34,15 @@ pub(crate) fn are_none(terminals: Terminals) -> bool
 struct Checked {
     /// A checker and an asking that have taken its events.
     both: Both<Checker<CoverPlane>, Asking>,
-    bare: BareSelects,
+    looks: Looks,
 }
 
-/// Where `Bare` is broken first, if one of the terminals asks for it.
-pub(crate) fn bare_for(terminals: Terminals, bare: &BareSelects) -> Option<u64>
-    ensures { (bytes : List ℕ) → HasSeenBare bare.now bytes → IsBareOn terminals bytes result }
+/// Where a rule is broken first, if one of the terminals asks for it.
+pub(crate) fn if_asked(terminals: Terminals, rule: AskedRule, first: Option<u64>) -> Option<u64>
+    ensures { result ≡ cond (is_asked terminals rule) first None }
 {
-    if terminals.asks_for(AskedRule::Bare) {
-        bare.first()
+    if terminals.asks_for(rule) {
+        first
     } else {
         None
     }
@@ -65,9 +64,9 @@ fn read_document<S: Source>(
     let one = Checker::new(alloc, profile);
     let other = Asking::new(terminals);
     let mut both = Both { one, other };
-    let mut bare = BareSelects::new();
-    follow_noting(input, piece, &mut both, &mut bare)?;
-    Ok(Checked { both, bare })
+    let mut looks = Looks::new();
+    follow_looking(input, piece, &mut both, &mut looks)?;
+    Ok(Checked { both, looks })
 }
 
 /// Checks the document that the source gives, with the registers of the profile, by the rules of portable pictures and
@@ -87,8 +86,11 @@ pub fn outcome_on<S: Source>(
         let outcome = outcome_with(alloc, profile, input, piece)?;
         return Ok(join_outcome(outcome, None));
     }
-    let Checked { both, bare } = read_document(alloc, profile, terminals, input, piece)?;
+    let Checked { both, looks } = read_document(alloc, profile, terminals, input, piece)?;
     let asked = both.other.finding();
     let by_events = join_outcome(both.one.outcome(), asked);
-    Ok(add_bare(by_events, bare_for(terminals, &bare)))
+    let bare = if_asked(terminals, AskedRule::Bare, looks.bare.first());
+    let space = if_asked(terminals, AskedRule::SpaceAfter, looks.spaces.first());
+    let with_bare = add_rule(by_events, AskedRule::Bare, bare);
+    Ok(add_rule(with_bare, AskedRule::SpaceAfter, space))
 }

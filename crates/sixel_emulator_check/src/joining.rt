@@ -1,8 +1,7 @@
-//! What is made of the answer of a checker, that of an asking, and the first select without a number.
+//! What is made of the answer of a checker, that of an asking, and the rules of which only bytes tell.
 
 ghost use Rattle.std.specs.Prelude.{◌≡◌};
 ghost use Rattle.sixel_emulator_check.specs.Checking.{earlier_outcome, earlier_than, joined_outcome, outcome_with};
-ghost use Rattle.sixel_emulator_check.specs.Written.{bare_finding};
 
 use crate::verdict::NamedOutcome;
 use sixel_emulator_rules::{AskedFinding, AskedRule};
@@ -34,40 +33,32 @@ pub fn join_outcome(outcome: Outcome, asked: Option<AskedFinding>) -> NamedOutco
     }
 }
 
-/// The finding of the rule `Bare`.
-fn bare_finding(place: u64) -> AskedFinding
-    ensures { result ≡ bare_finding place }
+/// The finding, or the other outcome, whose finding is at this offset: the earlier of the two.
+fn earlier(found: AskedFinding, place: u64, outcome: NamedOutcome) -> NamedOutcome
+    ensures { result ≡ earlier_outcome found place outcome }
 {
-    AskedFinding {
-        rule: AskedRule::Bare,
-        place,
-    }
-}
-
-/// `Bare` at the first offset, or the other outcome, whose finding is at the second one: the earlier of the two.
-fn earlier(bare: u64, place: u64, outcome: NamedOutcome) -> NamedOutcome
-    ensures { result ≡ earlier_outcome bare place outcome }
-{
-    if bare < place {
-        NamedOutcome::Asked(bare_finding(bare))
+    if found.place < place {
+        NamedOutcome::Asked(found)
     } else {
         outcome
     }
 }
 
-/// The outcome, where `Bare` is broken first at this offset, if it is.
-pub fn add_bare(outcome: NamedOutcome, bare: Option<u64>) -> NamedOutcome
-    ensures { result ≡ outcome_with bare outcome }
+/// The outcome, where the rule is broken first at this offset, if it is. Its number is greater than that of the rule that
+/// the outcome names.
+pub fn add_rule(outcome: NamedOutcome, rule: AskedRule, first: Option<u64>) -> NamedOutcome
+    ensures { result ≡ outcome_with rule first outcome }
 {
-    let Some(bare) = bare else {
+    let Some(place) = first else {
         return outcome;
     };
+    let found = AskedFinding { rule, place };
     match outcome {
-        NamedOutcome::Portable { .. } => NamedOutcome::Asked(bare_finding(bare)),
+        NamedOutcome::Portable { .. } => NamedOutcome::Asked(found),
         NamedOutcome::Broken(finding) => {
             let place = finding.place;
-            earlier(bare, place, NamedOutcome::Broken(finding))
+            earlier(found, place, NamedOutcome::Broken(finding))
         }
-        NamedOutcome::Asked(finding) => earlier(bare, finding.place, NamedOutcome::Asked(finding)),
+        NamedOutcome::Asked(finding) => earlier(found, finding.place, NamedOutcome::Asked(finding)),
     }
 }

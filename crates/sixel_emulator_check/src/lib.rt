@@ -4,8 +4,10 @@
 mod checking;
 mod joining;
 pub mod laws;
+mod looks;
 mod rule;
 mod surveying;
+mod trailer;
 mod verdict;
 
 pub use checking::outcome_on;

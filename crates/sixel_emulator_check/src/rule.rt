@@ -14,7 +14,7 @@ pub enum NamedRule {
 }
 
 /// How many there are.
-pub const NAMED_RULE_COUNT: usize = 23;
+pub const NAMED_RULE_COUNT: usize = 24;
 
 /// The rules, in order of number.
 pub const ALL_NAMED_RULES: [NamedRule; NAMED_RULE_COUNT] = [
@@ -41,10 +41,11 @@ pub const ALL_NAMED_RULES: [NamedRule; NAMED_RULE_COUNT] = [
     NamedRule::Asked(AskedRule::Far),
     NamedRule::Asked(AskedRule::Introducer),
     NamedRule::Asked(AskedRule::Bare),
+    NamedRule::Asked(AskedRule::SpaceAfter),
 ];
 
 impl NamedRule {
-    /// Its number, from 1 to 23.
+    /// Its number, from 1 to 24.
     pub fn number(self) -> u8
         ensures { result ≡ number_of_named self }
     {

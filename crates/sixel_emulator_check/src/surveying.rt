@@ -1,20 +1,19 @@
 //! Surveying the bytes of a document for named terminals.
 
 ghost use Rattle.std.specs.Prelude.{◌≡◌, ◌++◌, ◌<◌, length};
-ghost use Rattle.std.specs.Option.{option_map, option_to_list};
 ghost use Rattle.sixel_model.specs.Profiles.{count_of};
 ghost use Rattle.sixel_survey.specs.Declaring.{DeclareBoxIn};
 ghost use Rattle.sixel_survey.specs.Reads.{ReadsDocument};
 ghost use Rattle.sixel_emulator_check.specs.Surveys.{size_beside};
-ghost use Rattle.sixel_emulator_check.specs.Written.{SurveysOn, bare_entry, size_unless};
+ghost use Rattle.sixel_emulator_check.specs.Written.{SurveysOn, entry_at, size_unless};
 
-use crate::checking::{are_none, bare_for};
+use crate::checking::{are_none, if_asked};
+use crate::looks::{Looks, follow_looking};
 use arrayvec::ArrayVec;
 use sixel_emulator_rules::{AskedEntries, AskedEntry, AskedRule, Tallying, Terminals};
 use sixel_grammar::{Both, InputFault};
 use sixel_io::{PIECE, Source};
 use sixel_model::{Profile, RULE_COUNT};
-use sixel_omissions::{BareSelects, follow_noting};
 use sixel_plane::CoverPlane;
 use sixel_survey::{Entry, Survey, Surveying, survey_with};
 use std::alloc::Global;
@@ -44,11 +43,11 @@ fn join_survey(survey: Survey, asked: AskedEntries) -> NamedSurvey
     }
 }
 
-/// The survey, with an entry of the rule `Bare` if it is broken: the offset where first, and how often.
-fn add_bare(survey: NamedSurvey, first: Option<u64>, count: u64) -> NamedSurvey
-    requires { length survey.asked.items < 10 }
+/// The survey, with an entry of the rule if it is broken: the offset where first, and how often.
+fn add_entry(survey: NamedSurvey, rule: AskedRule, first: Option<u64>, count: u64) -> NamedSurvey
+    requires { length survey.asked.items < 11 }
     ensures entries { result.entries ≡ survey.entries }
-    ensures asked { result.asked.items ≡ survey.asked.items ++ option_to_list (option_map (bare_entry count) first) }
+    ensures asked { result.asked.items ≡ survey.asked.items ++ entry_at rule count first }
     ensures size { result.size ≡ size_unless first survey.size }
 {
     let Some(place) = first else {
@@ -59,11 +58,7 @@ fn add_bare(survey: NamedSurvey, first: Option<u64>, count: u64) -> NamedSurvey
         mut asked,
         ..
     } = survey;
-    asked.push(AskedEntry {
-        rule: AskedRule::Bare,
-        count,
-        place,
-    });
+    asked.push(AskedEntry { rule, count, place });
     NamedSurvey {
         entries,
         asked,
@@ -85,11 +80,19 @@ fn survey_both<S: Source>(
     let one: Surveying<CoverPlane> = Surveying::new(alloc, profile);
     let other = Tallying::new(terminals);
     let mut both = Both { one, other };
-    let mut bare = BareSelects::new();
-    follow_noting(input, piece, &mut both, &mut bare)?;
+    let mut looks = Looks::new();
+    follow_looking(input, piece, &mut both, &mut looks)?;
     let asked = both.other.entries();
     let by_events = join_survey(both.one.finish(), asked);
-    Ok(add_bare(by_events, bare_for(terminals, &bare), bare.count()))
+    let bare = if_asked(terminals, AskedRule::Bare, looks.bare.first());
+    let space = if_asked(terminals, AskedRule::SpaceAfter, looks.spaces.first());
+    let with_bare = add_entry(by_events, AskedRule::Bare, bare, looks.bare.count());
+    Ok(add_entry(
+        with_bare,
+        AskedRule::SpaceAfter,
+        space,
+        looks.spaces.count(),
+    ))
 }
 
 /// Surveys the document that the source gives, by the rules of portable pictures and by those that the terminals ask

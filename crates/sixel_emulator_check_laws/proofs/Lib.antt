@@ -1,3 +1,4 @@
 pub mod RightLemmas
 pub mod ShownLemmas
 pub mod SameLemmas
+pub mod TrailerLemmas

@@ -29,7 +29,7 @@ use Rattle.sixel_emulator_rules_laws.proofs.KonsoleShownLemmas.{konsole_shows}
 use Rattle.sixel_emulator_rules_laws.proofs.MlTermShownLemmas.{mlterm_shows}
 use Rattle.sixel_emulator_rules_laws.proofs.ShownLemmas.{foot_shows}
 use Rattle.sixel_emulator_rules_laws.proofs.XTermShownLemmas.{xterm_shows}
-use Rattle.sixel_emulator_check.specs.Written.{IsBareIf, IsBareOn}
+use Rattle.sixel_emulator_check.specs.Written.{IsBareOn, IsIfAsked}
 use Rattle.sixel_emulator_check_laws.specs.Shown.{IsNamed, IsShownOnEach}
 
 -- what a terminal of the set asks for is asked for
@@ -75,7 +75,8 @@ shown_on_all registers t events p few whole none unasked left =
 
 -- ---- as they are heard
 
-bare_if : (b : Bool) (bytes : List ℕ) (o : Option ℕ) → IsTrue b → IsBareIf b bytes o → IsFirstBare bytes o
+bare_if : (b : Bool) (bytes : List ℕ) (o : Option ℕ) → IsTrue b → IsIfAsked b (IsFirstBare bytes) o
+    → IsFirstBare bytes o
 bare_if true bytes o is bare = bare
 bare_if false bytes o is bare = cc
 

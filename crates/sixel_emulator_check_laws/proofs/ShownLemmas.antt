@@ -9,21 +9,20 @@ use Rattle.sixel_judge.specs.Portable.{IsPortable}
 use Rattle.sixel_emulator_rules.specs.declared.terminals.Terminals.{Terminals}
 use Rattle.sixel_emulator_check.specs.Answers.{AnswersOn}
 use Rattle.sixel_emulator_check.specs.Verdicts.{IsVerdictOn, named_outcome_of}
-use Rattle.sixel_emulator_check.specs.Written.{IsBareOn, IsVerdictOf}
+use Rattle.sixel_emulator_check.specs.Written.{IsVerdictOf}
 use Rattle.sixel_emulator_check.specs.declared.verdict.NamedOutcome.{NamedOutcome}
 use Rattle.sixel_emulator_check.specs.declared.verdict.NamedOutcome.TheVariants as outcome
 use Rattle.sixel_emulator_check.specs.declared.verdict.NamedVerdict.{NamedVerdict}
 use Rattle.sixel_emulator_check.specs.declared.verdict.NamedVerdict.TheVariants.{Portable, Broken, Asked}
-use Rattle.sixel_emulator_check.proofs.WrittenLemmas.{portable_alone}
+use Rattle.sixel_emulator_check.proofs.WrittenLemmas.{picture_of}
 use Rattle.sixel_emulator_check_laws.specs.Shown.{IsShownOnEach, LeavesShown, OutcomesAreShown, VerdictsAreShown}
 use Rattle.sixel_emulator_check_laws.proofs.RightLemmas.{shown_on_all, shown_on_each}
 
 pub verdicts_are_shown : (registers : ℕ) → registers ≤ 256 → VerdictsAreShown registers
 verdicts_are_shown registers few t placed bytes picture document w =
-    let alone = portable_alone w.by_events w.bare picture w.verdict_is in
-    let is : IsVerdictOn registers t placed (Portable picture) =
-    subst (IsVerdictOn registers t placed) (sym alone.1) w.is in
-    shown_on_each registers t bytes placed picture (subst (IsBareOn t bytes) alone.0 w.bare_is) is.0
+    let of = picture_of picture w in
+    let is : IsVerdictOn registers t placed (Portable picture) = of.is in
+    shown_on_each registers t bytes placed picture of.no_bare is.0
     (shown_on_all registers t (events_of placed) picture few (document_whole placed bytes document) is.0 is.1 is.2)
 
 -- the sides of an outcome
@@ -53,8 +52,8 @@ of_verdict : (registers : ℕ) (t : Terminals) (bytes : List ℕ) (width height 
     → (placed : List Placed) × Document placed bytes × LeavesShown registers t bytes placed width height
 of_verdict registers t bytes width height (Portable p) few h same =
     let w : IsVerdictOf registers t bytes h.0 (Portable p) = h.2 in
-    let alone = portable_alone w.by_events w.bare p w.verdict_is in
-    let is : IsVerdictOn registers t h.0 (Portable p) = subst (IsVerdictOn registers t h.0) (sym alone.1) w.is in (
+    let of = picture_of p w in
+    let is : IsVerdictOn registers t h.0 (Portable p) = of.is in (
       h.0,
       h.1,
       of_picture registers t bytes h.0 p width height same h.3

@@ -31,7 +31,7 @@ use Rattle.sixel_emulator_rules.specs.declared.notes.Notes.{Notes}
 use Rattle.sixel_emulator_rules.specs.declared.rule.AskedRule.{AskedRule}
 use Rattle.sixel_emulator_rules.specs.declared.rule.AskedRule.TheVariants.{RasterLate, Dropped, Stale, Large, Rows}
 use Rattle.sixel_emulator_rules.specs.declared.rule.AskedRule.TheVariants.{Past, Hue}
-use Rattle.sixel_emulator_rules.specs.declared.rule.AskedRule.TheVariants.{Far, Introducer, Bare}
+use Rattle.sixel_emulator_rules.specs.declared.rule.AskedRule.TheVariants.{Far, Introducer, Bare, SpaceAfter}
 use Rattle.sixel_emulator_rules.specs.declared.terminals.Terminals.{Terminals}
 use Rattle.sixel_emulator_rules.proofs.AskingLemmas.{none_push}
 use Rattle.sixel_emulator_rules.proofs.CountsLemmas.{breaks_counts, fresh, known_below}
@@ -157,6 +157,7 @@ none_counted {t} {before} bits Far calm asked h =
     not_far bits (raster_before before) refl calm (either_right (is_asked t Past) (is_asked t Far) asked) h
 none_counted bits Introducer calm asked h = cc
 none_counted bits Bare calm asked h = h
+none_counted bits SpaceAfter calm asked h = h
 
 known_still : (before : List Event) (bits : ℕ) → known (before ++ Step (Sixel bits) ∷ []) ≡ known before
 unfolding known

@@ -34,7 +34,7 @@ use Rattle.sixel_emulator_rules.specs.declared.notes.Notes.{Notes}
 use Rattle.sixel_emulator_rules.specs.declared.rule.AskedRule.{AskedRule}
 use Rattle.sixel_emulator_rules.specs.declared.rule.AskedRule.TheVariants.{RasterLate, Dropped, Stale, Large, Rows}
 use Rattle.sixel_emulator_rules.specs.declared.rule.AskedRule.TheVariants.{Past, Hue}
-use Rattle.sixel_emulator_rules.specs.declared.rule.AskedRule.TheVariants.{Far, Introducer, Bare}
+use Rattle.sixel_emulator_rules.specs.declared.rule.AskedRule.TheVariants.{Far, Introducer, Bare, SpaceAfter}
 use Rattle.sixel_emulator_rules.specs.declared.shade.Shade.{Shade}
 use Rattle.sixel_emulator_rules.specs.declared.shade.Shade.TheVariants.{Rgb, Hls}
 
@@ -304,6 +304,7 @@ breaks_counts before e Hue within h = h
 breaks_counts before e Far within h = h
 breaks_counts before e Introducer within h = h
 breaks_counts before e Bare within h = h
+breaks_counts before e SpaceAfter within h = h
 
 pub counts_breaks : (before : List Event) (e : Event) (rule : AskedRule) → CountsAsked rule before e
     → BreaksAsked rule before e
@@ -317,6 +318,7 @@ counts_breaks before e Hue h = h
 counts_breaks before e Far h = h
 counts_breaks before e Introducer h = h
 counts_breaks before e Bare h = h
+counts_breaks before e SpaceAfter h = h
 
 pub tallied_in : {n : Notes} {before : List Event} (e : Event) (rule : AskedRule) → IsNotesAfter n before
     → counts_in n e rule ≡ true → CountsAsked rule before e
@@ -330,6 +332,7 @@ tallied_in e Hue s h = h
 tallied_in e Far s h = sym (far_is e s) ∙ h
 tallied_in e Introducer s h = h
 tallied_in e Bare s h = cc
+tallied_in e SpaceAfter s h = cc
 
 pub is_tallied : {n : Notes} {before : List Event} (e : Event) (rule : AskedRule) → IsNotesAfter n before
     → CountsAsked rule before e → counts_in n e rule ≡ true
@@ -343,6 +346,7 @@ is_tallied e Hue s h = h
 is_tallied e Far s h = far_is e s ∙ h
 is_tallied e Introducer s h = h
 is_tallied e Bare s h = absurd h
+is_tallied e SpaceAfter s h = absurd h
 
 pub counted : {n : Notes} {before : List Event} (e : Event) (rule : AskedRule) → IsNotesAfter n before
     → counts_in n e rule ≡ true → BreaksAsked rule before e

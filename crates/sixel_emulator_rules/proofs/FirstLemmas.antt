@@ -9,7 +9,7 @@ use Rattle.sixel_emulator_rules.specs.Counts.{in_order}
 use Rattle.sixel_emulator_rules.specs.declared.rule.AskedRule.{AskedRule}
 use Rattle.sixel_emulator_rules.specs.declared.rule.AskedRule.TheVariants.{RasterLate, Dropped, Stale, Large, Rows}
 use Rattle.sixel_emulator_rules.specs.declared.rule.AskedRule.TheVariants.{Past, Hue}
-use Rattle.sixel_emulator_rules.specs.declared.rule.AskedRule.TheVariants.{Far, Introducer, Bare}
+use Rattle.sixel_emulator_rules.specs.declared.rule.AskedRule.TheVariants.{Far, Introducer, Bare, SpaceAfter}
 
 -- the rule's place in the list
 pub there : (r : AskedRule) → slice_get in_order (number_of r - 14) ≡ Some r
@@ -23,6 +23,7 @@ there Hue = refl
 there Far = refl
 there Introducer = refl
 there Bare = refl
+there SpaceAfter = refl
 
 pub same_number : (m r : AskedRule) → number_of m ≡ number_of r → m ≡ r
 same_number m r h =
@@ -35,7 +36,7 @@ AreNumbered n [] = Unit {0}
 AreNumbered n (x ∷ xs) = (number_of x ≡ n) × AreNumbered (suc n) xs
 
 in_order_numbered : AreNumbered 14 in_order
-in_order_numbered = (refl, (refl, (refl, (refl, (refl, (refl, (refl, (refl, (refl, (refl, tt))))))))))
+in_order_numbered = (refl, (refl, (refl, (refl, (refl, (refl, (refl, (refl, (refl, (refl, (refl, tt)))))))))))
 
 pub at_least : (m : AskedRule) → 14 ≤ number_of m
 at_least RasterLate = omega arith
@@ -48,8 +49,9 @@ at_least Hue = omega arith
 at_least Far = omega arith
 at_least Introducer = omega arith
 at_least Bare = omega arith
+at_least SpaceAfter = omega arith
 
-at_most : (m : AskedRule) → number_of m < 24
+at_most : (m : AskedRule) → number_of m < 25
 at_most RasterLate = omega arith
 at_most Dropped = omega arith
 at_most Stale = omega arith
@@ -60,6 +62,7 @@ at_most Hue = omega arith
 at_most Far = omega arith
 at_most Introducer = omega arith
 at_most Bare = omega arith
+at_most SpaceAfter = omega arith
 
 -- what is found passes
 found_by : (p : AskedRule → Bool) (x r : AskedRule) (o : Option AskedRule) (b : Bool) → p x ≡ b

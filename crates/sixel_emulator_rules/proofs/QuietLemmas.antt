@@ -19,7 +19,7 @@ use Rattle.sixel_emulator_rules.specs.declared.notes.Notes.{Notes}
 use Rattle.sixel_emulator_rules.specs.declared.rule.AskedRule.{AskedRule}
 use Rattle.sixel_emulator_rules.specs.declared.rule.AskedRule.TheVariants.{RasterLate, Dropped, Stale, Large, Rows}
 use Rattle.sixel_emulator_rules.specs.declared.rule.AskedRule.TheVariants.{Past, Hue}
-use Rattle.sixel_emulator_rules.specs.declared.rule.AskedRule.TheVariants.{Far, Introducer, Bare}
+use Rattle.sixel_emulator_rules.specs.declared.rule.AskedRule.TheVariants.{Far, Introducer, Bare, SpaceAfter}
 use Rattle.sixel_emulator_rules.specs.declared.terminals.Terminals.{Terminals}
 
 find_none : {X : Type 0} (p : X → Bool) (xs : List X) → ((x : X) → p x ≡ false) → find p xs ≡ None
@@ -54,6 +54,7 @@ none_counts n r Hue = refl
 none_counts n r Far = refl
 none_counts n r Introducer = refl
 none_counts n r Bare = refl
+none_counts n r SpaceAfter = refl
 
 pub quiet_select : (t : Terminals) (n : Notes) (r : ℕ) → first_in t n (Step (Select r)) ≡ None
 quiet_select t n r = none_first t n (Step (Select r)) (λ rule. and_false (is_asked t rule) _ (none_counts n r rule))
@@ -77,6 +78,7 @@ return_counts n Hue kept = refl
 return_counts n Far kept = refl
 return_counts n Introducer kept = refl
 return_counts n Bare kept = refl
+return_counts n SpaceAfter kept = refl
 
 pub quiet_return : (t : Terminals) (n : Notes) → n.droppable ≡ false → first_in t n (Step CarriageReturn) ≡ None
 quiet_return t n kept =
@@ -98,6 +100,7 @@ line_counts n Hue kept = refl
 line_counts n Far kept = refl
 line_counts n Introducer kept = refl
 line_counts n Bare kept = refl
+line_counts n SpaceAfter kept = refl
 
 pub quiet_line : (t : Terminals) (n : Notes) → n.droppable ≡ false → first_in t n (Step NextLine) ≡ None
 quiet_line t n kept =
@@ -194,6 +197,7 @@ repeat_counts t n c b Far calm =
     is_near n c b n.declared two.0 two.1)
 repeat_counts t n c b Introducer calm = and_false (is_asked t Introducer) false refl
 repeat_counts t n c b Bare calm = and_false (is_asked t Bare) false refl
+repeat_counts t n c b SpaceAfter calm = and_false (is_asked t SpaceAfter) false refl
 
 pub quiet_repeat : (t : Terminals) (n : Notes) (c b : ℕ) → is_calm_in t n c ≡ true
     → first_in t n (Step (Repeat c b)) ≡ None

@@ -32,7 +32,7 @@ use Rattle.sixel_emulator_rules.specs.declared.notes.Notes.{Notes}
 use Rattle.sixel_emulator_rules.specs.declared.rule.AskedRule.{AskedRule}
 use Rattle.sixel_emulator_rules.specs.declared.rule.AskedRule.TheVariants.{RasterLate, Dropped, Stale, Large, Rows}
 use Rattle.sixel_emulator_rules.specs.declared.rule.AskedRule.TheVariants.{Past, Hue}
-use Rattle.sixel_emulator_rules.specs.declared.rule.AskedRule.TheVariants.{Far, Introducer, Bare}
+use Rattle.sixel_emulator_rules.specs.declared.rule.AskedRule.TheVariants.{Far, Introducer, Bare, SpaceAfter}
 use Rattle.sixel_emulator_rules.specs.declared.tally.AskedEntry.{AskedEntry}
 use Rattle.sixel_emulator_rules.specs.declared.tallying.Tallying.{Tallying}
 use Rattle.sixel_emulator_rules.specs.declared.terminals.Terminals.{Terminals}
@@ -51,9 +51,9 @@ pub not_tallied : (t : Terminals) (n : Notes) (place : ℕ) (v : Event) (tallies
     (rule : AskedRule) → asked_in t n v rule ≡ false → tallied t n place v tallies rule ≡ tallies
 not_tallied t n place v tallies rule is = rw is (set_again tallies (number_of rule - 14))
 
--- ---- a list of ten
+-- ---- a list of eleven
 
-record Ten {X : Type 0} (xs : List X) : Type 0 where
+record Eleven {X : Type 0} (xs : List X) : Type 0 where
   a : X
   b : X
   c : X
@@ -64,45 +64,47 @@ record Ten {X : Type 0} (xs : List X) : Type 0 where
   h : X
   i : X
   j : X
-  are : xs ≡ a ∷ b ∷ c ∷ d ∷ e ∷ f ∷ g ∷ h ∷ i ∷ j ∷ []
+  k : X
+  are : xs ≡ a ∷ b ∷ c ∷ d ∷ e ∷ f ∷ g ∷ h ∷ i ∷ j ∷ k ∷ []
 
-ten : {X : Type 0} (xs : List X) → length xs ≡ 10 → Ten xs
-ten (a ∷ b ∷ c ∷ d ∷ e ∷ f ∷ g ∷ h ∷ i ∷ j ∷ []) is =
-    record { a = a; b = b; c = c; d = d; e = e; f = f; g = g; h = h; i = i; j = j; are = refl }
-ten _ is = absurd (omega (arith, is))
+eleven : {X : Type 0} (xs : List X) → length xs ≡ 11 → Eleven xs
+eleven (a ∷ b ∷ c ∷ d ∷ e ∷ f ∷ g ∷ h ∷ i ∷ j ∷ k ∷ []) is =
+    record { a = a; b = b; c = c; d = d; e = e; f = f; g = g; h = h; i = i; j = j; k = k; are = refl }
+eleven _ is = absurd (omega (arith, is))
 
 -- each rule's tally after one more event
-each_of : (t : Terminals) (n : Notes) (place : ℕ) (v : Event) (a b c d e f g h i j : Option AskedEntry)
+each_of : (t : Terminals) (n : Notes) (place : ℕ) (v : Event) (a b c d e f g h i j k : Option AskedEntry)
     (rule : AskedRule)
-    → (let tallies : List (Option AskedEntry) = a ∷ b ∷ c ∷ d ∷ e ∷ f ∷ g ∷ h ∷ i ∷ j ∷ [] in
+    → (let tallies : List (Option AskedEntry) = a ∷ b ∷ c ∷ d ∷ e ∷ f ∷ g ∷ h ∷ i ∷ j ∷ k ∷ [] in
     tally_in (tallied_each t n place v tallies) rule
     ≡ next_tally rule place (asked_in t n v rule) (tally_in tallies rule))
-each_of t n place v a b c d e f g h i j RasterLate = refl
-each_of t n place v a b c d e f g h i j Dropped = refl
-each_of t n place v a b c d e f g h i j Stale = refl
-each_of t n place v a b c d e f g h i j Large = refl
-each_of t n place v a b c d e f g h i j Rows = refl
-each_of t n place v a b c d e f g h i j Past = refl
-each_of t n place v a b c d e f g h i j Hue = refl
-each_of t n place v a b c d e f g h i j Far = refl
-each_of t n place v a b c d e f g h i j Introducer = refl
-each_of t n place v a b c d e f g h i j Bare = refl
+each_of t n place v a b c d e f g h i j k RasterLate = refl
+each_of t n place v a b c d e f g h i j k Dropped = refl
+each_of t n place v a b c d e f g h i j k Stale = refl
+each_of t n place v a b c d e f g h i j k Large = refl
+each_of t n place v a b c d e f g h i j k Rows = refl
+each_of t n place v a b c d e f g h i j k Past = refl
+each_of t n place v a b c d e f g h i j k Hue = refl
+each_of t n place v a b c d e f g h i j k Far = refl
+each_of t n place v a b c d e f g h i j k Introducer = refl
+each_of t n place v a b c d e f g h i j k Bare = refl
+each_of t n place v a b c d e f g h i j k SpaceAfter = refl
 
 each_after : (t : Terminals) (n : Notes) (place : ℕ) (v : Event) (tallies : List (Option AskedEntry))
-    → length tallies ≡ 10 → (rule : AskedRule)
+    → length tallies ≡ 11 → (rule : AskedRule)
     → tally_in (tallied_each t n place v tallies) rule
     ≡ next_tally rule place (asked_in t n v rule) (tally_in tallies rule)
 each_after t n place v tallies is rule =
-    let s = ten tallies is in
+    let s = eleven tallies is in
     subst (λ (l : List (Option AskedEntry)). tally_in (tallied_each t n place v l) rule
     ≡ next_tally rule place (asked_in t n v rule) (tally_in l rule)) (sym s.are)
-    (each_of t n place v s.a s.b s.c s.d s.e s.f s.g s.h s.i s.j rule)
+    (each_of t n place v s.a s.b s.c s.d s.e s.f s.g s.h s.i s.j s.k rule)
 
 length_after : (t : Terminals) (n : Notes) (place : ℕ) (v : Event) (tallies : List (Option AskedEntry))
-    → length tallies ≡ 10 → length (tallied_each t n place v tallies) ≡ 10
+    → length tallies ≡ 11 → length (tallied_each t n place v tallies) ≡ 11
 length_after t n place v tallies is =
-    let s = ten tallies is in
-    subst (λ (l : List (Option AskedEntry)). length (tallied_each t n place v l) ≡ 10) (sym s.are) refl
+    let s = eleven tallies is in
+    subst (λ (l : List (Option AskedEntry)). length (tallied_each t n place v l) ≡ 11) (sym s.are) refl
 
 -- ---- one more event
 
@@ -269,16 +271,16 @@ none_yet : (t : Terminals) (rule : AskedRule) (o : Option AskedEntry) → o ≡ 
 none_yet t rule None is = λ asked i h. cc h.here
 none_yet t rule (Some tally) is = cc
 
-none_in : (rule : AskedRule) → tally_in (replicate 10 None) rule ≡ None
+none_in : (rule : AskedRule) → tally_in (replicate 11 None) rule ≡ None
 none_in RasterLate = refl
 none_in _ = refl
 
 pub tallied_none : (t : Terminals) (n : Notes) → IsNotesAfter n []
-    → HasTallied (record { terminals = t; notes = n; tallies = replicate 10 None }) []
+    → HasTallied (record { terminals = t; notes = n; tallies = replicate 11 None }) []
 tallied_none t n s = record {
   notes_are = s;
   rules = refl;
-  each = λ rule. none_yet t rule (tally_in (replicate 10 None) rule) (none_in rule);
+  each = λ rule. none_yet t rule (tally_in (replicate 11 None) rule) (none_in rule);
 }
 
 -- ---- the entries
@@ -302,10 +304,10 @@ entry_of_tally : {placed : List Placed} {bytes : List ℕ} (t : Terminals) (rule
 entry_of_tally t rule None d is = is
 entry_of_tally t rule (Some tally) d is = (is.0, is.1, is.2, exact d is.3)
 
-kept_by_rule : (tallies : List (Option AskedEntry)) → length tallies ≡ 10
+kept_by_rule : (tallies : List (Option AskedEntry)) → length tallies ≡ 11
     → filter_map (λ tally. tally) tallies ≡ filter_map (tally_in tallies) in_order
 kept_by_rule tallies is =
-    let s = ten tallies is in
+    let s = eleven tallies is in
     subst (λ (l : List (Option AskedEntry)). filter_map (λ tally. tally) l ≡ filter_map (tally_in l) in_order)
     (sym s.are) refl
 

@@ -18,7 +18,7 @@ use Rattle.sixel_emulator_rules.specs.Stale.{IsStale}
 use Rattle.sixel_emulator_rules.specs.declared.rule.AskedRule.{AskedRule}
 use Rattle.sixel_emulator_rules.specs.declared.rule.AskedRule.TheVariants.{RasterLate, Dropped, Stale, Large, Rows}
 use Rattle.sixel_emulator_rules.specs.declared.rule.AskedRule.TheVariants.{Past, Hue}
-use Rattle.sixel_emulator_rules.specs.declared.rule.AskedRule.TheVariants.{Far, Introducer, Bare}
+use Rattle.sixel_emulator_rules.specs.declared.rule.AskedRule.TheVariants.{Far, Introducer, Bare, SpaceAfter}
 use Rattle.sixel_emulator_rules.specs.declared.terminals.Terminals.{Terminals}
 
 -- ---- where data commands stand
@@ -96,7 +96,7 @@ breaks_past before e =
 
 -- ---- the rules
 
--- the event breaks the rule. Of `Bare` only the bytes of the string tell: no event does
+-- the event breaks the rule. Of `Bare` and `SpaceAfter` only the bytes of the string tell: no event does
 abbrev pub BreaksAsked : AskedRule → List Event → Event → Type 0
 BreaksAsked RasterLate before e = IsTrue (breaks_raster_late before e)
 BreaksAsked Dropped before e = IsTrue (breaks_dropped before e)
@@ -108,6 +108,7 @@ BreaksAsked Hue before e = IsTrue (breaks_hue e)
 BreaksAsked Far before e = IsTrue (breaks_far before e)
 BreaksAsked Introducer before e = IsTrue (breaks_introducer e)
 BreaksAsked Bare before e = ⊥
+BreaksAsked SpaceAfter before e = ⊥
 
 -- the number of each rule; those of portable pictures have the numbers 1 to 13
 abbrev pub number_of : AskedRule → ℕ
@@ -121,6 +122,7 @@ number_of Hue = 20
 number_of Far = 21
 number_of Introducer = 22
 number_of Bare = 23
+number_of SpaceAfter = 24
 
 -- the terminal asks for the rule
 abbrev pub asks : Named → AskedRule → Bool
@@ -133,6 +135,7 @@ asks Konsole Past = true
 asks XTerm Hue = true
 asks XTerm Introducer = true
 asks XTerm Bare = true
+asks XTerm SpaceAfter = true
 asks MlTerm Far = true
 asks MlTerm Introducer = true
 asks MlTerm Bare = true

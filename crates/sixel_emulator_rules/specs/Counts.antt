@@ -12,7 +12,7 @@ use Rattle.sixel_emulator_rules.specs.declared.notes.Notes.{Notes}
 use Rattle.sixel_emulator_rules.specs.declared.rule.AskedRule.{AskedRule}
 use Rattle.sixel_emulator_rules.specs.declared.rule.AskedRule.TheVariants.{RasterLate, Dropped, Stale, Large, Rows}
 use Rattle.sixel_emulator_rules.specs.declared.rule.AskedRule.TheVariants.{Past, Hue}
-use Rattle.sixel_emulator_rules.specs.declared.rule.AskedRule.TheVariants.{Far, Introducer, Bare}
+use Rattle.sixel_emulator_rules.specs.declared.rule.AskedRule.TheVariants.{Far, Introducer, Bare, SpaceAfter}
 use Rattle.sixel_emulator_rules.specs.declared.terminals.Terminals.{Terminals}
 
 -- ---- where a data command stands
@@ -63,6 +63,7 @@ counts_in n e Hue = breaks_hue e
 counts_in n e Far = far_in n e
 counts_in n e Introducer = breaks_introducer e
 counts_in n e Bare = false
+counts_in n e SpaceAfter = false
 
 -- a terminal of the set asks for the rule, and the event breaks it
 abbrev pub asked_in : Terminals → Notes → Event → AskedRule → Bool
@@ -70,7 +71,8 @@ asked_in t n e rule = is_asked t rule && counts_in n e rule
 
 -- the rules in order of number
 abbrev pub in_order : List AskedRule
-in_order = RasterLate ∷ Dropped ∷ Stale ∷ Large ∷ Rows ∷ Past ∷ Hue ∷ Far ∷ Introducer ∷ Bare ∷ []
+in_order =
+    RasterLate ∷ Dropped ∷ Stale ∷ Large ∷ Rows ∷ Past ∷ Hue ∷ Far ∷ Introducer ∷ Bare ∷ SpaceAfter ∷ []
 
 abbrev pub first_in : Terminals → Notes → Event → Option AskedRule
 first_in t n e = find (asked_in t n e) in_order

@@ -60,7 +60,7 @@ IsAskedTallyOf t placed rule (Some tally) =
 -- these events were taken
 pub record HasTallied (tallying : Tallying) (placed : List Placed) : Type 0 where
   pub notes_are : IsNotesAfter tallying.notes (events_of placed)
-  pub rules : length tallying.tallies ≡ 10
+  pub rules : length tallying.tallies ≡ 11
   pub each : (rule : AskedRule) → IsAskedTallyOf tallying.terminals placed rule (tally_in tallying.tallies rule)
 
 -- the same after any that had taken none at first, for the same terminals

@@ -94,6 +94,8 @@ impl Asking {
             Some(AskedRule::Introducer)
         } else if self.breaks(AskedRule::Bare, event) {
             Some(AskedRule::Bare)
+        } else if self.breaks(AskedRule::SpaceAfter, event) {
+            Some(AskedRule::SpaceAfter)
         } else {
             None
         }

@@ -27,6 +27,8 @@ pub enum AskedRule {
     Introducer,
     /// xterm and mlterm: a select without a number. No event tells, so `Asking` and `Tallying` find none.
     Bare,
+    /// xterm: a space behind the terminator. No event tells of it, either.
+    SpaceAfter,
 }
 
 impl AskedRule {
@@ -45,6 +47,7 @@ impl AskedRule {
             AskedRule::Far => 21,
             AskedRule::Introducer => 22,
             AskedRule::Bare => 23,
+            AskedRule::SpaceAfter => 24,
         }
     }
 
@@ -64,6 +67,7 @@ impl AskedRule {
             AskedRule::Far => "Far",
             AskedRule::Introducer => "Introducer",
             AskedRule::Bare => "Bare",
+            AskedRule::SpaceAfter => "SpaceAfter",
         }
     }
 }

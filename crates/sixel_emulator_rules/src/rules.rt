@@ -156,7 +156,7 @@ impl Notes {
             AskedRule::Hue => breaks_hue(event),
             AskedRule::Far => self.breaks_far(event),
             AskedRule::Introducer => breaks_introducer(event),
-            AskedRule::Bare => false,
+            AskedRule::Bare | AskedRule::SpaceAfter => false,
         }
     }
 

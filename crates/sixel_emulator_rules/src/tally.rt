@@ -8,7 +8,7 @@ use crate::rule::AskedRule;
 use arrayvec::ArrayVec;
 
 /// How many rules there are.
-pub const ASKED_COUNT: usize = 10;
+pub const ASKED_COUNT: usize = 11;
 
 /// A broken rule: how often it counts, and where it counts first.
 ///

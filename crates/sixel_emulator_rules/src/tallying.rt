@@ -91,6 +91,7 @@ impl Tallying {
         self.count(AskedRule::Far, place, event);
         self.count(AskedRule::Introducer, place, event);
         self.count(AskedRule::Bare, place, event);
+        self.count(AskedRule::SpaceAfter, place, event);
     }
 
     /// Takes the next event.

@@ -54,7 +54,7 @@ impl Terminals {
         ensures { result ≡ is_asked self rule }
     {
         match rule {
-            AskedRule::Large | AskedRule::Hue => self.xterm,
+            AskedRule::Large | AskedRule::Hue | AskedRule::SpaceAfter => self.xterm,
             AskedRule::Far => self.mlterm,
             AskedRule::Introducer | AskedRule::Bare => self.xterm || self.mlterm,
             AskedRule::Stale => self.foot,

@@ -10,7 +10,7 @@ use Rattle.sixel_emulator_rules.specs.Asked.{breaks_past, breaks_raster_late, br
 use Rattle.sixel_emulator_rules.specs.Stale.{IsStale}
 use Rattle.sixel_emulator_rules.specs.declared.rule.AskedRule.TheVariants.{RasterLate, Dropped, Stale, Large, Rows}
 use Rattle.sixel_emulator_rules.specs.declared.rule.AskedRule.TheVariants.{Past, Hue}
-use Rattle.sixel_emulator_rules.specs.declared.rule.AskedRule.TheVariants.{Far, Introducer, Bare}
+use Rattle.sixel_emulator_rules.specs.declared.rule.AskedRule.TheVariants.{Far, Introducer, Bare, SpaceAfter}
 use Rattle.sixel_emulator_rules_laws.specs.Laws.{BreaksNoneOf}
 
 -- the event breaks a rule that the terminal asks for, besides those of portable pictures
@@ -57,3 +57,4 @@ stale_only events none Hue asked = cc
 stale_only events none Far asked = cc
 stale_only events none Introducer asked = cc
 stale_only events none Bare asked = cc
+stale_only events none SpaceAfter asked = cc

@@ -24,7 +24,7 @@ use Rattle.sixel_emulator_rules.specs.Asked.{breaks_dropped, breaks_far, breaks_
 use Rattle.sixel_emulator_rules.specs.Asked.{breaks_past}
 use Rattle.sixel_emulator_rules.specs.Asked.{breaks_raster_late, breaks_rows, leaves_box, leaves_far}
 use Rattle.sixel_emulator_rules.specs.declared.rule.AskedRule.TheVariants.{RasterLate, Dropped, Large, Rows, Past, Hue}
-use Rattle.sixel_emulator_rules.specs.declared.rule.AskedRule.TheVariants.{Far, Introducer, Bare}
+use Rattle.sixel_emulator_rules.specs.declared.rule.AskedRule.TheVariants.{Far, Introducer, Bare, SpaceAfter}
 use Rattle.sixel_emulator_rules_laws.specs.Laws.{BreaksNoneOf, CanonSuitsFoot, CanonSuitsKonsole, CanonSuitsMlTerm}
 use Rattle.sixel_emulator_rules_laws.specs.Laws.{CanonSuitsXTerm}
 use Rattle.sixel_emulator_rules_laws.specs.Laws.{HasNoHue}
@@ -266,6 +266,7 @@ xterm_none p across down none Large asked = large_nowhere p across down
 xterm_none p across down none Hue asked = hue_nowhere p none
 xterm_none p across down none Introducer asked = introducer_nowhere p
 xterm_none p across down none Bare asked = λ i h. h.holds
+xterm_none p across down none SpaceAfter asked = λ i h. h.holds
 xterm_none p across down none _ asked = absurd cc
 
 konsole_none : (registers : ℕ) (p : PictureValue) → IsPicture registers p → p.height % 6 ≡ 0

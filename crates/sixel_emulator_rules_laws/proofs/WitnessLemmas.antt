@@ -33,11 +33,11 @@ use Rattle.sixel_judge.proofs.SearchLemmas.{row_decided}
 use Rattle.sixel_emulator_rules.specs.Asked.{BreaksAsked, asks, breaks_dropped, breaks_far, breaks_hue, breaks_large}
 use Rattle.sixel_emulator_rules.specs.Asked.{breaks_introducer, breaks_past, breaks_raster_late, breaks_rows}
 use Rattle.sixel_emulator_rules.specs.Stale.{colour_at_select}
-use Rattle.sixel_emulator_rules_laws.specs.Witnesses.{EachRuleHasAWitness, asker_of, witness_of}
+use Rattle.sixel_emulator_rules_laws.specs.Witnesses.{EachRuleHasAWitness, is_of_events, asker_of, witness_of}
 use Rattle.sixel_emulator_rules.specs.declared.rule.AskedRule.{AskedRule}
 use Rattle.sixel_emulator_rules.specs.declared.rule.AskedRule.TheVariants.{RasterLate, Dropped, Stale, Large, Rows}
 use Rattle.sixel_emulator_rules.specs.declared.rule.AskedRule.TheVariants.{Past, Hue}
-use Rattle.sixel_emulator_rules.specs.declared.rule.AskedRule.TheVariants.{Far, Introducer, Bare}
+use Rattle.sixel_emulator_rules.specs.declared.rule.AskedRule.TheVariants.{Far, Introducer, Bare, SpaceAfter}
 
 -- ---- more registers
 
@@ -82,6 +82,7 @@ unbroken_16 Hue = second_of (broken_or_none 16 (witness_of Hue)) refl
 unbroken_16 Far = second_of (broken_or_none 16 (witness_of Far)) refl
 unbroken_16 Introducer = second_of (broken_or_none 16 (witness_of Introducer)) refl
 unbroken_16 Bare = second_of (broken_or_none 16 (witness_of Bare)) refl
+unbroken_16 SpaceAfter = second_of (broken_or_none 16 (witness_of SpaceAfter)) refl
 
 -- ---- the others
 
@@ -150,7 +151,7 @@ alone_past Dropped other asked = nowhere breaks_dropped (witness_of Past) refl
 alone_past Rows other asked = nowhere (λ before e. breaks_rows e) (witness_of Past) refl
 alone_past _ other asked = absurd cc
 
-alone_elsewhere : (rule m : AskedRule) → rule ≢ Bare → m ≢ rule → IsTrue (asks (asker_of rule) m)
+alone_elsewhere : (rule m : AskedRule) → IsTrue (is_of_events rule) → m ≢ rule → IsTrue (asks (asker_of rule) m)
     → HoldsNowhere (BreaksAsked m) (witness_of rule)
 unfolding breaks_large breaks_hue breaks_far breaks_introducer any_at any_below passes_at raster_before earliest band column
     since
@@ -164,11 +165,13 @@ alone_elsewhere Large Large told other asked = absurd (other refl)
 alone_elsewhere Large Hue told other asked = nowhere (λ before e. breaks_hue e) (witness_of Large) refl
 alone_elsewhere Large Introducer told other asked = nowhere (λ before e. breaks_introducer e) (witness_of Large) refl
 alone_elsewhere Large Bare told other asked = λ i h. h.holds
+alone_elsewhere Large SpaceAfter told other asked = λ i h. h.holds
 alone_elsewhere Large _ told other asked = absurd cc
 alone_elsewhere Hue Hue told other asked = absurd (other refl)
 alone_elsewhere Hue Large told other asked = nowhere (λ before e. breaks_large e) (witness_of Hue) refl
 alone_elsewhere Hue Introducer told other asked = nowhere (λ before e. breaks_introducer e) (witness_of Hue) refl
 alone_elsewhere Hue Bare told other asked = λ i h. h.holds
+alone_elsewhere Hue SpaceAfter told other asked = λ i h. h.holds
 alone_elsewhere Hue _ told other asked = absurd cc
 alone_elsewhere Far Far told other asked = absurd (other refl)
 alone_elsewhere Far Introducer told other asked = nowhere (λ before e. breaks_introducer e) (witness_of Far) refl
@@ -178,7 +181,8 @@ alone_elsewhere Introducer Introducer told other asked = absurd (other refl)
 alone_elsewhere Introducer Far told other asked = nowhere breaks_far (witness_of Introducer) refl
 alone_elsewhere Introducer Bare told other asked = λ i h. h.holds
 alone_elsewhere Introducer _ told other asked = absurd cc
-alone_elsewhere Bare m told other asked = absurd (told refl)
+alone_elsewhere Bare m told other asked = absurd cc
+alone_elsewhere SpaceAfter m told other asked = absurd cc
 
 -- ---- the rule itself
 
@@ -193,8 +197,9 @@ position_of Hue = 2
 position_of Far = 6
 position_of Introducer = 0
 position_of Bare = 0
+position_of SpaceAfter = 0
 
-broken_there : (rule : AskedRule) → rule ≢ Bare
+broken_there : (rule : AskedRule) → IsTrue (is_of_events rule)
     → HoldsAtPosition (BreaksAsked rule) (witness_of rule) (position_of rule)
 unfolding breaks_raster_late breaks_dropped breaks_large breaks_rows breaks_past breaks_hue breaks_far breaks_introducer
     known colour_of definition_of colour_at_select last_at last_below at_position any_at any_below passes_at
@@ -212,7 +217,8 @@ broken_there Past told = record { item = Step (Sixel 0); here = refl; holds = re
 broken_there Hue told = record { item = Step (Define 0 1 30 50 100); here = refl; holds = refl }
 broken_there Far told = record { item = Step (Repeat 2 0); here = refl; holds = refl }
 broken_there Introducer told = record { item = Start false (record { items = 0 ∷ 5 ∷ [] }); here = refl; holds = refl }
-broken_there Bare told = absurd (told refl)
+broken_there Bare told = cc
+broken_there SpaceAfter told = cc
 
 -- ---- all
 
@@ -227,6 +233,7 @@ asked_there Hue = refl
 asked_there Far = refl
 asked_there Introducer = refl
 asked_there Bare = refl
+asked_there SpaceAfter = refl
 
 whole_of : (rule : AskedRule) → AreWhole (witness_of rule)
 whole_of RasterLate = refl
@@ -239,6 +246,7 @@ whole_of Hue = refl
 whole_of Far = refl
 whole_of Introducer = refl
 whole_of Bare = refl
+whole_of SpaceAfter = refl
 
 pub each_rule_has_a_witness : EachRuleHasAWitness
 each_rule_has_a_witness rule told = record {

@@ -37,7 +37,7 @@ use Rattle.sixel_judge.specs.Portable.{IsInBoxOn, Shows}
 use Rattle.sixel_emulator_rules.specs.declared.rule.AskedRule.{AskedRule}
 use Rattle.sixel_emulator_rules.specs.declared.rule.AskedRule.TheVariants.{RasterLate, Dropped, Stale, Large, Rows}
 use Rattle.sixel_emulator_rules.specs.declared.rule.AskedRule.TheVariants.{Past, Hue}
-use Rattle.sixel_emulator_rules.specs.declared.rule.AskedRule.TheVariants.{Far, Introducer, Bare}
+use Rattle.sixel_emulator_rules.specs.declared.rule.AskedRule.TheVariants.{Far, Introducer, Bare, SpaceAfter}
 use Rattle.sixel_emulator_rules_laws.specs.Witnesses.{witness_of}
 use Rattle.sixel_emulator_rules_laws.proofs.WitnessLemmas.{none_below}
 use Rattle.sixel_emulator_rules_laws.specs.Laws.{EachWitnessIsShownWrong, IsShownOn, IsShownRight}
@@ -278,4 +278,5 @@ each_witness_is_shown_wrong Hue registers told le right = hue_wrong registers le
 each_witness_is_shown_wrong Far registers told le right = unsaid_wrong MlTerm registers (witness_of Far) far_unsaid right
 each_witness_is_shown_wrong Introducer registers told le right =
     unsaid_wrong MlTerm registers (witness_of Introducer) introducer_unsaid right
-each_witness_is_shown_wrong Bare registers told le right = absurd (told refl)
+each_witness_is_shown_wrong Bare registers told le right = cc
+each_witness_is_shown_wrong SpaceAfter registers told le right = cc

@@ -22,9 +22,8 @@ use Rattle.sixel_foot.specs.Settings.{foot_display}
 use Rattle.sixel_judge.specs.Portable.{Shows}
 use Rattle.sixel_encode.specs.Canon.{canon}
 use Rattle.sixel_emulator_rules.specs.Asked.{BreaksAsked, asks}
-use Rattle.sixel_emulator_rules_laws.specs.Witnesses.{asker_of, witness_of}
+use Rattle.sixel_emulator_rules_laws.specs.Witnesses.{asker_of, is_of_events, witness_of}
 use Rattle.sixel_emulator_rules.specs.declared.rule.AskedRule.{AskedRule}
-use Rattle.sixel_emulator_rules.specs.declared.rule.AskedRule.TheVariants.{Bare}
 use Rattle.sixel_emulator_rules_laws.specs.Stale.{DefinesFirst, NoneIsStale}
 
 -- the model of the terminal says all. On a screen of the background with these sides, it shows the picture at the
@@ -58,11 +57,10 @@ IsShownRight named registers events =
     → (picture_left registers events).height ≤ height
     → IsShownOn named background (width, height) events (picture_left registers events)
 
--- the document that breaks the rule alone isn't shown right by the terminal that asks for it: a rule of which events
--- tell
+-- the document that breaks the rule alone isn't shown right by the terminal that asks for it, if events tell of it
 abbrev pub EachWitnessIsShownWrong : Type 0
 EachWitnessIsShownWrong =
-    (rule : AskedRule) (registers : ℕ) → rule ≢ Bare → 16 ≤ registers
+    (rule : AskedRule) (registers : ℕ) → IsTrue (is_of_events rule) → 16 ≤ registers
     → ¬ IsShownRight (asker_of rule) registers (witness_of rule)
 
 -- ---- definitions after selects

@@ -1,5 +1,5 @@
 -- Documents that break one rule that a terminal asks for, and no other.
-use Rattle.std.specs.Prelude.{◌≢◌, ◌≤◌, ℕ, false, IsTrue, List, [], ◌∷◌}
+use Rattle.std.specs.Prelude.{◌≢◌, ◌≤◌, ℕ, Bool, true, false, IsTrue, List, [], ◌∷◌}
 use Rattle.sixel_grammar.specs.Document.{AreWhole}
 use Rattle.sixel_grammar.specs.declared.command.Command.TheVariants.{Sixel, Repeat, Raster, Select, Define}
 use Rattle.sixel_grammar.specs.declared.command.Command.TheVariants.{CarriageReturn, NextLine}
@@ -13,7 +13,7 @@ use Rattle.sixel_emulator_rules.specs.Asked.{BreaksAsked, asks}
 use Rattle.sixel_emulator_rules.specs.declared.rule.AskedRule.{AskedRule}
 use Rattle.sixel_emulator_rules.specs.declared.rule.AskedRule.TheVariants.{RasterLate, Dropped, Stale, Large, Rows}
 use Rattle.sixel_emulator_rules.specs.declared.rule.AskedRule.TheVariants.{Past, Hue}
-use Rattle.sixel_emulator_rules.specs.declared.rule.AskedRule.TheVariants.{Far, Introducer, Bare}
+use Rattle.sixel_emulator_rules.specs.declared.rule.AskedRule.TheVariants.{Far, Introducer, Bare, SpaceAfter}
 
 -- the terminal asks for the rule, and the document breaks it; it breaks no rule of portable pictures, and none of the
 -- others that the terminal asks for
@@ -58,8 +58,9 @@ witness_of Far =
 witness_of Introducer =
     Start false (record { items = 0 ∷ 5 ∷ [] }) ∷ Step (Raster 1 1 1 1) ∷ black ∷ select ∷ Step (Sixel 1)
     ∷ Finish false ∷ []
--- no list of events breaks it: this one breaks nothing
+-- no list of events breaks these: this one breaks nothing
 witness_of Bare = introducer ∷ Step (Raster 1 1 1 1) ∷ black ∷ select ∷ Step (Sixel 1) ∷ Finish false ∷ []
+witness_of SpaceAfter = introducer ∷ Step (Raster 1 1 1 1) ∷ black ∷ select ∷ Step (Sixel 1) ∷ Finish false ∷ []
 
 -- a terminal that asks for it, and shows the list otherwise
 abbrev pub asker_of : AskedRule → Named
@@ -73,9 +74,17 @@ asker_of Hue = XTerm
 asker_of Far = MlTerm
 asker_of Introducer = MlTerm
 asker_of Bare = XTerm
+asker_of SpaceAfter = XTerm
 
 -- ---- the law
 
--- the other rules don't imply it: a rule of which events tell
+-- the events of a string tell of the rule
+abbrev pub is_of_events : AskedRule → Bool
+is_of_events Bare = false
+is_of_events SpaceAfter = false
+is_of_events _ = true
+
+-- the other rules don't imply it, if events tell of it
 abbrev pub EachRuleHasAWitness : Type 0
-EachRuleHasAWitness = (rule : AskedRule) → rule ≢ Bare → IsWitness (asker_of rule) rule (witness_of rule)
+EachRuleHasAWitness =
+    (rule : AskedRule) → IsTrue (is_of_events rule) → IsWitness (asker_of rule) rule (witness_of rule)

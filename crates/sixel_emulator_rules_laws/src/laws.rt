@@ -19,13 +19,14 @@ pub fn named_terminals_show_portable_pictures()
     ensures konsole { (profile : Profile) → ShowsPortable Named.Konsole (count_of profile) }
 {}
 
-/// For each rule of which events tell there is a document that breaks it, and breaks no rule of portable pictures and no other rule that the
-/// same terminal asks for.
+/// For each rule of which events tell there is a document that breaks it, and breaks no rule of portable pictures and
+/// no other rule that the same terminal asks for.
 pub fn each_rule_has_a_witness()
     ensures { EachRuleHasAWitness }
 {}
 
-/// For each rule that a terminal asks for, and of which events tell, a document that breaks it alone isn't shown right by that terminal.
+/// For each rule that a terminal asks for, and of which events tell, a document that breaks it alone isn't shown right
+/// by that terminal.
 pub fn each_witness_is_shown_wrong()
     ensures { EachWitnessIsShownWrong }
 {}

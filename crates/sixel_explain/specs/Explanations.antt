@@ -11,7 +11,7 @@ use Rattle.sixel_emulator_rules.specs.Counts.{in_order}
 use Rattle.sixel_emulator_rules.specs.Names.{name_of}
 use Rattle.sixel_emulator_rules.specs.declared.rule.AskedRule.TheVariants.{RasterLate, Dropped, Stale, Large, Rows}
 use Rattle.sixel_emulator_rules.specs.declared.rule.AskedRule.TheVariants.{Past, Hue}
-use Rattle.sixel_emulator_rules.specs.declared.rule.AskedRule.TheVariants.{Far, Introducer, Bare}
+use Rattle.sixel_emulator_rules.specs.declared.rule.AskedRule.TheVariants.{Far, Introducer, Bare, SpaceAfter}
 use Rattle.sixel_grammar.specs.declared.fault.Reason.TheVariants.{NotSixel, BadByte, NumberTooLarge, FieldCount}
 use Rattle.sixel_grammar.specs.declared.fault.Reason.TheVariants.{BadRepeat, BadTerminator, Truncated, TooLong}
 use Rattle.sixel_grammar.specs.declared.fault.Reason.TheVariants.{Trailing}
@@ -112,6 +112,7 @@ summary (Asked Hue) = codes "a colour of hue, lightness and saturation"
 summary (Asked Far) = codes "sixels right of the box, far below it or past column 32,767"
 summary (Asked Introducer) = codes "an introducer by which xterm draws nothing or mlterm may mix colours"
 summary (Asked Bare) = codes "a selection without a number"
+summary (Asked SpaceAfter) = codes "a space after the terminator"
 summary (Grammar NotSixel) = codes "input that doesn't start like a sixel string"
 summary (Grammar BadByte) = codes "unexpected byte"
 summary (Grammar NumberTooLarge) = codes "a number above 65,535"

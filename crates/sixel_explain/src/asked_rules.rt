@@ -26,6 +26,7 @@ pub fn asked_rule_named(name: &str) -> Option<AskedRule>
         "far" => Some(AskedRule::Far),
         "introducer" => Some(AskedRule::Introducer),
         "bare" => Some(AskedRule::Bare),
+        "spaceafter" => Some(AskedRule::SpaceAfter),
         _ => None,
     }
 }
@@ -46,6 +47,7 @@ pub fn of_asked_rule(rule: AskedRule) -> &'static str
         AskedRule::Far => FAR,
         AskedRule::Introducer => INTRODUCER,
         AskedRule::Bare => BARE,
+        AskedRule::SpaceAfter => SPACE_AFTER,
     }
 }
 
@@ -181,4 +183,18 @@ String: ESC P q \"1;1;1;6#0;2;0;0;0#~ ESC \\
 Output of check --on xterm: broken Bare 21
 
 Fix: write the number, #0 for register 0, as sixel mend does.
+";
+
+const SPACE_AFTER: &str = "SpaceAfter: a space after the terminator
+
+Broken on xterm by a space after the terminator. The cursor is at the left of
+the picture's last row of text then, and the space erases a cell of the picture.
+After a line feed it does no harm, but breaks the rule all the same. show --on
+xterm draws the picture as if nothing came after it.
+
+String: ESC P q \"1;1;1;6#0;2;0;0;0#0~ ESC \\ SP
+Output of check --on xterm: broken SpaceAfter 26
+
+Fix: write nothing after the terminator, as sixel mend does, or only a line
+feed.
 ";

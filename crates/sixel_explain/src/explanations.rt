@@ -178,6 +178,7 @@ Hue: a colour of hue, lightness and saturation
 Far: sixels right of the box, far below it or past column 32,767
 Introducer: an introducer by which xterm draws nothing or mlterm may mix colours
 Bare: a selection without a number
+SpaceAfter: a space after the terminator
 NotSixel: input that doesn't start like a sixel string
 BadByte: unexpected byte
 NumberTooLarge: a number above 65,535

@@ -192,7 +192,7 @@ fn edits(alloc: Global, name: &str, word: &str) -> Result<usize, AllocError>
 }
 
 /// The listed names.
-const NAMES: [&str; 47] = [
+const NAMES: [&str; 48] = [
     "RasterFirst",
     "RasterTwice",
     "Ratio",
@@ -216,6 +216,7 @@ const NAMES: [&str; 47] = [
     "Far",
     "Introducer",
     "Bare",
+    "SpaceAfter",
     "NotSixel",
     "BadByte",
     "NumberTooLarge",

@@ -51,9 +51,9 @@ all_causes = Rule (Portable rule.RasterFirst) ∷ Rule (Portable rule.RasterTwic
     ∷ Rule (Portable rule.Redefined) ∷ Rule (Portable rule.Outside) ∷ Rule (Portable rule.Uncovered)
     ∷ Rule (Portable rule.EightBit) ∷ Rule (Asked asked.RasterLate) ∷ Rule (Asked asked.Dropped)
     ∷ Rule (Asked asked.Stale) ∷ Rule (Asked asked.Large) ∷ Rule (Asked asked.Rows) ∷ Rule (Asked asked.Past)
-    ∷ Rule (Asked asked.Hue) ∷ Rule (Asked asked.Far) ∷ Rule (Asked asked.Introducer) ∷ Rule (Asked asked.Bare) ∷ Refusal reason.NotSixel
-    ∷ Refusal reason.BadByte ∷ Refusal reason.NumberTooLarge ∷ Refusal reason.FieldCount ∷ Refusal reason.BadRepeat
-    ∷ Refusal reason.BadTerminator ∷ Refusal reason.Truncated ∷ Refusal reason.TooLong ∷ Refusal reason.Trailing ∷ []
+    ∷ Rule (Asked asked.Hue) ∷ Rule (Asked asked.Far) ∷ Rule (Asked asked.Introducer) ∷ Rule (Asked asked.Bare)
+    ∷ Rule (Asked asked.SpaceAfter) ∷ Refusal reason.NotSixel ∷ Refusal reason.BadByte ∷ Refusal reason.NumberTooLarge
+    ∷ Refusal reason.FieldCount ∷ Refusal reason.BadRepeat ∷ Refusal reason.BadTerminator ∷ Refusal reason.Truncated ∷ Refusal reason.TooLong ∷ Refusal reason.Trailing ∷ []
 
 is_one_of_all : (cause : Cause) → list_any (is_same cause) all_causes ≡ true
 unfolding all_causes
@@ -80,6 +80,7 @@ is_one_of_all (Rule (Asked asked.Hue)) = refl
 is_one_of_all (Rule (Asked asked.Far)) = refl
 is_one_of_all (Rule (Asked asked.Introducer)) = refl
 is_one_of_all (Rule (Asked asked.Bare)) = refl
+is_one_of_all (Rule (Asked asked.SpaceAfter)) = refl
 is_one_of_all (Refusal reason.NotSixel) = refl
 is_one_of_all (Refusal reason.BadByte) = refl
 is_one_of_all (Refusal reason.NumberTooLarge) = refl
@@ -101,7 +102,7 @@ distinct_more causes cause distinct absent = IsDistinct-push same_equivalence ca
 
 -- and so there was room for it
 pub has_room : (causes : List Cause) (cause : Cause) → IsDistinct is_same causes
-    → list_any (is_same cause) causes ≡ false → length causes < 32
+    → list_any (is_same cause) causes ≡ false → length causes < 33
 unfolding all_causes
 has_room causes cause distinct absent =
     let few = length-le_from_is_member same_equivalence (causes ++ cause ∷ []) all_causes

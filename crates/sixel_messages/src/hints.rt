@@ -83,9 +83,9 @@ fn hint_line(profile: Profile, cause: Cause) -> Hint
     line
 }
 
-/// How many there are: thirteen rules of portable pictures, nine that named terminals ask for, and nine reasons for no
-/// sixel text.
-const CAUSE_COUNT: usize = 32;
+/// How many there are: thirteen rules of portable pictures, eleven that named terminals ask for, and nine reasons for
+/// no sixel text.
+const CAUSE_COUNT: usize = 33;
 
 /// What was found wrong, each once, in the order in which it was found first.
 #[derive(Drop)]

@@ -78,6 +78,7 @@ asked_unfed asked.Hue = name_unfed (codes "Hue") refl
 asked_unfed asked.Far = name_unfed (codes "Far") refl
 asked_unfed asked.Introducer = name_unfed (codes "Introducer") refl
 asked_unfed asked.Bare = name_unfed (codes "Bare") refl
+asked_unfed asked.SpaceAfter = name_unfed (codes "SpaceAfter") refl
 
 -- nor do digits
 digits_unfed : (ds : Text) → AreDigits ds → All IsUnfed ds

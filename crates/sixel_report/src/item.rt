@@ -87,13 +87,13 @@ pub fn item_of(outcome: &NamedOutcome) -> Item
     }
 }
 
-/// The items of a survey, at most 23 rules and a size, or of a comparison.
-pub type Items = ArrayVec<Item, 24>;
+/// The items of a survey, at most 24 rules and a size, or of a comparison.
+pub type Items = ArrayVec<Item, 25>;
 
 /// The items of a survey: one for each entry, and the size if there is one.
 pub fn survey_items(survey: &NamedSurvey) -> Items
     ensures items { result.items ≡ survey_items survey.now }
-    ensures few { array_vec_len result ≤ 24 }
+    ensures few { array_vec_len result ≤ 25 }
 {
     let mut items = ArrayVec::new();
     push_entries(&mut items, survey.entries.as_slice());
@@ -119,9 +119,9 @@ fn push_entries(items: &mut Items, entries: &[Entry])
 /// The same for each entry of a rule that a named terminal asks for.
 fn push_asked(items: &mut Items, entries: &[AskedEntry])
     requires room { array_vec_len items.old ≤ 13 }
-    requires few { length entries.now ≤ 10 }
+    requires few { length entries.now ≤ 11 }
     ensures items { items.new.items ≡ items.old.items ++ map AskedItem entries.now }
-    ensures few { array_vec_len items.new ≤ 23 }
+    ensures few { array_vec_len items.new ≤ 24 }
 {
     for entry in entries {
         items.push(Item::AskedEntry(*entry));

@@ -20,9 +20,9 @@ pub trait PutItem {
     fn put_item<K: Sink>(&self, item: &Item, out: &mut K) -> Result<(), DeviceFault>
         ensures { Writes result (K.state out.old) (K.state out.new) (written self.now item.now) };
 
-    /// Writes what is to be written for these items, at most 24 of them, one after another.
+    /// Writes what is to be written for these items, at most 25 of them, one after another.
     fn put_items<K: Sink>(&self, items: &[Item], out: &mut K) -> Result<(), DeviceFault>
-        requires { length items.now ≤ 24 }
+        requires { length items.now ≤ 25 }
         ensures { Writes result (K.state out.old) (K.state out.new) (flat_map (written self.now) items.now) };
 }
 
@@ -42,12 +42,12 @@ impl PutItem for Plain {
     }
 }
 
-/// Room for the lines of 24 items.
-type Joined = ArrayVec<u8, 2808>;
+/// Room for the lines of 25 items.
+type Joined = ArrayVec<u8, 2925>;
 
 /// The lines of the items, one after another.
 fn joined(items: &[Item]) -> Joined
-    requires { length items.now ≤ 24 }
+    requires { length items.now ≤ 25 }
     ensures { result.items ≡ flat_map item_line items.now }
 {
     let mut text = ArrayVec::new();
@@ -59,7 +59,7 @@ fn joined(items: &[Item]) -> Joined
 
 /// Appends the line of an item.
 fn push_line(text: &mut Joined, item: &Item)
-    requires { array_vec_len text.old + 117 ≤ 2808 }
+    requires { array_vec_len text.old + 117 ≤ 2925 }
     ensures items { text.new.items ≡ text.old.items ++ item_line item.now }
     ensures len { array_vec_len text.new ≤ array_vec_len text.old + 117 }
 {

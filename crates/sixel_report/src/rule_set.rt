@@ -42,7 +42,7 @@ impl RuleSet {
 /// The place of the rule in the order of numbers, counted from 0.
 fn place_of(rule: NamedRule) -> usize
     ensures place { result ≡ number_of_named rule - 1 }
-    ensures short { result ≤ 22 }
+    ensures short { result ≤ 23 }
 {
     usize::from(rule.number()) - 1
 }

@@ -33,7 +33,8 @@ use Rattle.sixel_report.specs.Conversions.{of_input, of_mend}
 use Rattle.sixel_sheet.specs.Outputs.{HasPictureSize}
 use Rattle.sixel_run.specs.Outputs.{MendGives, mend_output, mended_status}
 use Rattle.sixel_report.specs.Outputs.{WroteBy, WroteNothing}
-use Rattle.sixel_mend.specs.Measuring.{HasMeasured, Measured}
+use Rattle.sixel_mend.specs.declared.extent.Extent.{Extent}
+use Rattle.sixel_mend.specs.Measuring.{HasMeasured}
 use Rattle.sixel_mend.specs.Sizes.{IsSize}
 use Rattle.sixel_report.specs.Texts.{Text}
 
@@ -241,27 +242,27 @@ mend_grown registers m (Some told) bytes fault same g is =
     subst (HasPictureSize m) (sym same) (sized registers m bytes fault g is)
 
 -- what was measured of bytes that aren't kept
-pub measured_refused : (registers : ℕ) (m : Mending) (measurer : Measured) (a : Option (List ℕ)) (fault : MendFault)
-    (had : Option (List ℕ)) → IfSome a (HasMeasured measurer)
-    → ((bytes : List ℕ) → HasMeasured measurer bytes → (r : ℕ) (n : Mending) → Mends r n bytes (Err fault))
+pub measured_refused : (registers : ℕ) (m : Mending) (extent : Extent) (a : Option (List ℕ)) (fault : MendFault)
+    (had : Option (List ℕ)) → IfSome a (HasMeasured extent)
+    → ((bytes : List ℕ) → HasMeasured extent bytes → (r : ℕ) (n : Mending) → Mends r n bytes (Err fault))
     → IfSome a (λ told. WroteBy (MendGives registers m told) WroteNothing (Err (of_mend fault)) had had)
-measured_refused registers m measurer None fault had has refused = tt
-measured_refused registers m measurer (Some told) fault had has refused =
+measured_refused registers m extent None fault had has refused = tt
+measured_refused registers m extent (Some told) fault had has refused =
     unmended registers m told fault had (refused told has registers m)
 
-pub measured_grown : (registers : ℕ) (m : Mending) (measurer : Measured) (a : Option (List ℕ)) (fault : MendFault)
-    → IfSome a (HasMeasured measurer)
-    → ((bytes : List ℕ) → HasMeasured measurer bytes → (r : ℕ) (n : Mending) → Mends r n bytes (Err fault))
+pub measured_grown : (registers : ℕ) (m : Mending) (extent : Extent) (a : Option (List ℕ)) (fault : MendFault)
+    → IfSome a (HasMeasured extent)
+    → ((bytes : List ℕ) → HasMeasured extent bytes → (r : ℕ) (n : Mending) → Mends r n bytes (Err fault))
     → of_mend fault ≡ OutOfMemory → IfSome a (HasPictureSize m)
-measured_grown registers m measurer None fault has refused is = tt
-measured_grown registers m measurer (Some told) fault has refused is =
+measured_grown registers m extent None fault has refused is = tt
+measured_grown registers m extent (Some told) fault has refused is =
     sized registers m told fault (refused told has registers m) is
 
-pub measured_sized : (m : Mending) (measurer : Measured) (a : Option (List ℕ)) (w h : ℕ)
-    → IfSome a (HasMeasured measurer) → IsTrue (is_side w && is_side h)
-    → ((bytes : List ℕ) → HasMeasured measurer bytes
+pub measured_sized : (m : Mending) (extent : Extent) (a : Option (List ℕ)) (w h : ℕ)
+    → IfSome a (HasMeasured extent) → IsTrue (is_side w && is_side h)
+    → ((bytes : List ℕ) → HasMeasured extent bytes
     → (events : List Placed) × Document events bytes × ((n : Mending) → IsSize n (events_of events) w h))
     → IfSome a (HasPictureSize m)
-measured_sized m measurer None w h has sides sized = tt
-measured_sized m measurer (Some told) w h has sides sized =
+measured_sized m extent None w h has sides sized = tt
+measured_sized m extent (Some told) w h has sides sized =
     let d = sized told has in (d.0, d.1, (w, h, d.2 m, sides))

@@ -114,6 +114,8 @@ status_is profile t bytes events survey Done doc is none =
         is = (unbroken.0, unbroken.1, refl);
         bare = None;
         bare_is = unbroken.2;
+        space = None;
+        space_is = unbroken.3;
         verdict_is = refl;
       },
       refl,

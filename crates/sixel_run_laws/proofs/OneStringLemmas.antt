@@ -1,6 +1,6 @@
 -- A scan of one string says what a check says.
 use Rattle.std.proofs.Common.{◌≡◌, ◌∙◌, ◌∷◌, ℕ, List, [], refl, sym, ap, subst, ◌+◌, Bool, true, false, ◌++◌, arith}
-use Rattle.std.proofs.Common.{codes, Option, None}
+use Rattle.std.proofs.Common.{codes}
 use Rattle.std.specs.Prelude.{Result, Ok}
 use Rattle.std.proofs.lemmas.List.{append-nil, take_all}
 use Rattle.sixel_grammar.specs.declared.command.Placed.{Placed}
@@ -12,7 +12,7 @@ use Rattle.sixel_judge.specs.declared.verdict.Verdict.TheVariants as judged
 use Rattle.sixel_judge.specs.Verdicts.{IsVerdict}
 use Rattle.sixel_emulator_check.specs.Laws.{named_verdict, none}
 use Rattle.sixel_emulator_check.specs.Verdicts.{IsVerdictOn}
-use Rattle.sixel_emulator_check.specs.Written.{IsVerdictOf, with_bare}
+use Rattle.sixel_emulator_check.specs.Written.{IsVerdictOf}
 use Rattle.sixel_emulator_check.specs.declared.verdict.NamedVerdict.{NamedVerdict}
 use Rattle.sixel_emulator_check.specs.declared.verdict.NamedVerdict.TheVariants.{Portable, Broken, Asked}
 use Rattle.sixel_report.specs.declared.fault.RunFault.{RunFault}
@@ -20,6 +20,7 @@ use Rattle.sixel_report.specs.declared.task.Status.{Status}
 use Rattle.sixel_run.specs.Outputs.{status_of, ScanGives}
 use Rattle.sixel_report.specs.Texts.{Text, named_verdict_line, answer_line, finding_line, string_line, verdict_line}
 use Rattle.sixel_emulator_check.proofs.NoneLemmas.{none_asked}
+use Rattle.sixel_emulator_check.proofs.WrittenLemmas.{verdict_by_events}
 use Rattle.std.proofs.lemmas.Fmt.{decimal_digit}
 use Rattle.sixel_grammar.specs.Bytes.{introducer}
 use Rattle.sixel_model.specs.Profiles.{count_of}
@@ -46,9 +47,7 @@ verdict_alone registers placed (Asked f) is = absurd ((none_asked (events_of pla
 events_alone : (registers : ℕ) (bytes : List ℕ) (placed : List Placed) (v : NamedVerdict)
     → IsVerdictOf registers none bytes placed v → IsVerdictOn registers none placed v
 events_alone registers bytes placed v is =
-    let none_bare : is.bare ≡ None = is.bare_is in
-    let same : v ≡ is.by_events = is.verdict_is ∙ ap (λ (o : Option ℕ). with_bare o is.by_events) none_bare in
-    subst (IsVerdictOn registers none placed) (sym same) is.is
+    verdict_by_events is is.bare_is is.space_is
 
 -- the report of one string with this verdict
 abbrev alone : Verdict → Scanned

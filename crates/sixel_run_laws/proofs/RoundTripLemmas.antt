@@ -66,6 +66,8 @@ encoded_checks profile p is =
       is = (found.2.0, none_asked (events_of found.0), found.2.1);
       bare = None;
       bare_is = refl;
+      space = None;
+      space_is = refl;
       verdict_is = refl;
     } in
     (found.0, found.1, (named.Portable p, verdict, refl, refl))

@@ -6,7 +6,7 @@ use Rattle.sixel_emulator_rules.specs.declared.tally.AskedEntry.{AskedEntry}
 use Rattle.sixel_emulator_rules.specs.declared.terminals.Terminals.{Terminals}
 use Rattle.sixel_emulator_check.specs.Laws.{none}
 use Rattle.sixel_emulator_check.specs.Surveys.{size_beside}
-use Rattle.sixel_emulator_check.specs.Written.{IsBareOn}
+use Rattle.sixel_emulator_check.specs.Written.{IsBareOn, IsSpaceOn}
 use Rattle.sixel_emulator_check.proofs.SurveyingLemmas.{joined, none_asked_for}
 use Rattle.sixel_emulator_check.proofs.WrittenLemmas.{survey_alone}
 use Rattle.sixel_emulator_check.proofs.surveying.survey_on.Goals as goal
@@ -20,6 +20,7 @@ returns-then-are_none g c =
       h.1,
       survey_alone (count_of c.args.profile) c.args.terminals bytes h.0 c.join_survey.result
           (subst (λ (t : Terminals). IsBareOn t bytes None) (sym is) refl)
+          (subst (λ (t : Terminals). IsSpaceOn t bytes None) (sym is) refl)
           (joined c.join_survey.result c.join_survey.ensures.entries
           (ap (λ l. l.items) c.join_survey.ensures.asked ∙ c.new.ensures)
           (c.join_survey.ensures.size

@@ -15,6 +15,6 @@ returns-clause-items c =
 pub returns-clause-len : goal.returns-clause-len
 returns-clause-len c =
     let put = c.try_extend_from_slice.ensures in
-    let fits : length c.args.text.now.items + length c.as_slice.result.now ≤ 2808 =
+    let fits : length c.args.text.now.items + length c.as_slice.result.now ≤ 2925 =
     omega (arith, c.requires, c.as_slice.ensures.fits) in
     omega (arith, on_ok c.try_extend_from_slice.result (put.variant.1 fits) put.len, c.as_slice.ensures.fits)

@@ -47,18 +47,18 @@ returns-in_err-size_of-clause-wrote g c =
     let exit = c.from_residual-in_err-size_of in
     let failed = err_from_is_err_and exit.result exit.ensures.1 in
     rw (failed.1, failed.2)
-    (measured_refused _ c.args.mending.now c.in_ok-kept.measurer (g.S.Source.state c.args.input.now).remaining
+    (measured_refused _ c.args.mending.now c.in_ok-kept.extent (g.S.Source.state c.args.input.now).remaining
     c.in_err-size_of.field-0.0 _ c.in_ok-kept.ensures.told c.in_err-size_of.ensures.refused)
 
 pub returns-in_err-size_of-clause-memory : goal.returns-in_err-size_of-clause-memory
 returns-in_err-size_of-clause-memory g c = λ is.
     let exit = c.from_residual-in_err-size_of in
     let failed = err_from_is_err_and exit.result exit.ensures.1 in
-    measured_grown 0 c.args.mending.now c.in_ok-kept.measurer (g.S.Source.state c.args.input.now).remaining
+    measured_grown 0 c.args.mending.now c.in_ok-kept.extent (g.S.Source.state c.args.input.now).remaining
     c.in_err-size_of.field-0.0 c.in_ok-kept.ensures.told c.in_err-size_of.ensures.refused (cc (failed.1, failed.2, is))
 
 pub returns-in_default-clause-memory : goal.returns-in_default-clause-memory
 returns-in_default-clause-memory g c = λ is.
-    measured_sized c.args.mending.now c.in_ok-kept.measurer (g.S.Source.state c.args.input.now).remaining
+    measured_sized c.args.mending.now c.in_ok-kept.extent (g.S.Source.state c.args.input.now).remaining
     c.in_ok-size_of.field-0.0 c.in_ok-size_of.field-0.1 c.in_ok-kept.ensures.told c.in_ok-size_of.ensures.sides
     c.in_ok-size_of.ensures.sized
