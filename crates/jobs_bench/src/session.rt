@@ -11,11 +11,7 @@ use std::alloc::{AllocError, Global};
 use std::io;
 use std::io::Read;
 
-const NO_TERMINALS: Terminals = Terminals {
-    input: false,
-    output: false,
-    errors: false,
-};
+const NO_TERMINALS: Terminals = Terminals::none();
 
 /// Files in memory. The name of each is its index.
 #[derive(Drop)]

@@ -45,6 +45,10 @@ on = record (new_rule (codes "on")) { long = Some (codes "on"); value_names = 1 
 abbrev pub names : Rule
 names = record on { action = Some Append }
 
+-- `--ignore RULES`, any number of times
+abbrev pub ignore : Rule
+ignore = record (new_rule (codes "ignore")) { long = Some (codes "ignore"); value_names = 1; action = Some Append }
+
 -- `--background COLOUR`, with the default `fallback`
 abbrev pub background : Text → Rule
 background fallback = record (new_rule (codes "background")) {
@@ -57,24 +61,15 @@ background fallback = record (new_rule (codes "background")) {
 abbrev pub profiled_app : Text → App
 profiled_app name = with_rule (with_rule (new_app name) (flag (codes "wide"))) file
 
--- `check`
-abbrev pub check_app : App
-check_app =
-    with_rule (with_rule (with_rule (with_rule (with_rule (with_rule (with_rule (new_app (codes "check"))
+-- a subcommand that looks for broken rules
+abbrev pub checking_app : Text → App
+checking_app name =
+    with_rule (with_rule (with_rule (with_rule (with_rule (with_rule (with_rule (with_rule (new_app name)
     (flag (codes "wide")))
     names)
+    ignore)
     quiet)
     (flag (codes "failed")))
-    (flag (codes "json")))
-    (flag (codes "explain")))
-    files
-
--- `survey`
-abbrev pub survey_app : App
-survey_app =
-    with_rule (with_rule (with_rule (with_rule (with_rule (new_app (codes "survey"))
-    (flag (codes "wide")))
-    names)
     (flag (codes "json")))
     (flag (codes "explain")))
     files
@@ -130,7 +125,7 @@ explain_app =
     with_rule (new_app (codes "explain")) (record (new_rule (codes "name")) { action = Some Append; value_names = 1 })
 
 -- `sixel`, with a version, which each subcommand has too, and with a required subcommand; an option may be given again,
--- and its last value counts; of `--on NAMES` all do
+-- and its last value counts; of `--on NAMES` and `--ignore RULES` all do
 abbrev pub sixel_app : App
 sixel_app =
     with_subcommand (with_subcommand (with_subcommand (with_subcommand (with_subcommand (with_subcommand
@@ -141,7 +136,7 @@ sixel_app =
       subcommand_required = true;
       args_override_self = true;
     }) (new_app (codes "sixel")))
-    (plain_app (codes "list")).top) check_app.top) survey_app.top) scan_app.top) (profiled_app (codes "render")).top)
+    (plain_app (codes "list")).top) (checking_app (codes "check")).top) (checking_app (codes "survey")).top) scan_app.top) (profiled_app (codes "render")).top)
     (profiled_app (codes "encode")).top) show_app.top) differ_app.top) mend_app.top) explain_app.top
 
 -- the names of the subcommands

@@ -4,9 +4,9 @@ ghost use Rattle.std.specs.Prelude.{◌≡◌, IfOk, codes, false};
 ghost use Rattle.clap.specs.Walk.{rule_of};
 ghost use Rattle.clap.specs.Simple.{app_of, new_app};
 ghost use Rattle.clap.specs.declared.builder.command.Command.TheViews.{out-Command as fields_of};
-ghost use Rattle.sixel_commands.specs.Commands.{background, check_app, differ_app, explain_app, file, files, flag};
-ghost use Rattle.sixel_commands.specs.Commands.{mend_app, names, on, plain_app, profiled_app, quiet, scan_app, show_app};
-ghost use Rattle.sixel_commands.specs.Commands.{side, sixel_app, survey_app};
+ghost use Rattle.sixel_commands.specs.Commands.{background, checking_app, differ_app, explain_app, file, files, flag};
+ghost use Rattle.sixel_commands.specs.Commands.{ignore, mend_app, names, on, plain_app, profiled_app, quiet, scan_app};
+ghost use Rattle.sixel_commands.specs.Commands.{show_app, side, sixel_app};
 
 mod help;
 
@@ -139,46 +139,55 @@ pub fn explain_command<'a>(alloc: Global) -> Result<Command<'a>, AllocError>
     )
 }
 
-/// `check`, with any number of files.
+/// `check`, with seven options and any number of files.
 pub fn check_command<'a>(alloc: Global) -> Result<Command<'a>, AllocError>
-    ensures app { IfOk result (λ c. app_of c ≡ check_app) }
+    ensures app { IfOk result (λ c. app_of c ≡ checking_app (codes "check")) }
     ensures local { IfOk result (λ c. (fields_of c).has_globals ≡ false) }
 {
-    task_command(
+    checking_command(
         alloc,
         "check",
         "Says whether the picture is portable, or which rule it breaks first",
         help::CHECK,
-    )?
-    .arg(wide_arg(alloc))?
-    .arg(names_arg(alloc))?
-    .arg(quiet_arg(alloc, "Print no verdict; use the exit status"))?
-    .arg(flag_arg(
-        alloc,
-        "failed",
-        "Print only the lines of files that aren't portable",
-    ))?
-    .arg(json_arg(alloc))?
-    .arg(explain_arg(alloc))?
-    .arg(files_arg(alloc))
+    )
 }
 
-/// `survey`, with any number of files.
+/// `survey`, with the same.
 pub fn survey_command<'a>(alloc: Global) -> Result<Command<'a>, AllocError>
-    ensures app { IfOk result (λ c. app_of c ≡ survey_app) }
+    ensures app { IfOk result (λ c. app_of c ≡ checking_app (codes "survey")) }
     ensures local { IfOk result (λ c. (fields_of c).has_globals ≡ false) }
 {
-    task_command(
+    checking_command(
         alloc,
         "survey",
         "Says which rules the picture breaks, how often, and where first",
         help::SURVEY,
-    )?
-    .arg(wide_arg(alloc))?
-    .arg(names_arg(alloc))?
-    .arg(json_arg(alloc))?
-    .arg(explain_arg(alloc))?
-    .arg(files_arg(alloc))
+    )
+}
+
+/// A subcommand that looks for broken rules.
+fn checking_command<'a>(
+    alloc: Global,
+    name: &'a str,
+    about: &'a str,
+    help: &'a str,
+) -> Result<Command<'a>, AllocError>
+    ensures app { IfOk result (λ c. app_of c ≡ checking_app name.entry.now) }
+    ensures local { IfOk result (λ c. (fields_of c).has_globals ≡ false) }
+{
+    task_command(alloc, name, about, help)?
+        .arg(wide_arg(alloc))?
+        .arg(names_arg(alloc))?
+        .arg(ignore_arg(alloc))?
+        .arg(quiet_arg(alloc, "Print no result; use the exit status"))?
+        .arg(flag_arg(
+            alloc,
+            "failed",
+            "Print only the lines of files that aren't portable",
+        ))?
+        .arg(json_arg(alloc))?
+        .arg(explain_arg(alloc))?
+        .arg(files_arg(alloc))
 }
 
 /// `scan`, with four options and any number of files.
@@ -248,7 +257,7 @@ pub fn show_command<'a>(alloc: Global) -> Result<Command<'a>, AllocError>
     .arg(background_arg(
         alloc,
         "100,100,100",
-        "With --on: the screen before the picture, in percent, or '#RRGGBB'",
+        "With --on: the screen before the picture, in percent, '#RRGGBB' or a name",
     ))?
     .arg(file_arg(alloc))
 }
@@ -267,7 +276,7 @@ pub fn differ_command<'a>(alloc: Global) -> Result<Command<'a>, AllocError>
     .arg(background_arg(
         alloc,
         "100,100,100",
-        "The screens before the picture, in percent, or '#RRGGBB'",
+        "The screens before the picture, in percent, '#RRGGBB' or a name",
     ))?
     .arg(flag_arg(
         alloc,
@@ -296,7 +305,7 @@ pub fn mend_command<'a>(alloc: Global) -> Result<Command<'a>, AllocError>
     .arg(background_arg(
         alloc,
         "0,0,0",
-        "What isn't painted: red, green and blue in percent, or '#RRGGBB'",
+        "What isn't painted: red, green and blue in percent, '#RRGGBB' or a name",
     ))?
     .arg(flag_arg(
         alloc,
@@ -357,6 +366,18 @@ fn names_arg<'a>(alloc: Global) -> Arg<'a>
         "Count the rules of these terminals, too: xterm, mlterm, foot, konsole or all",
     )
     .action(ArgAction::Append)
+}
+
+/// `--ignore RULES`, of rules of named terminals that don't count: the values of all its uses.
+fn ignore_arg<'a>(alloc: Global) -> Arg<'a>
+    ensures rule { rule_of result ≡ ignore }
+    ensures local { result.global ≡ false }
+{
+    Arg::new(alloc, "ignore")
+        .long("ignore")
+        .value_name("RULES")
+        .help("With --on: leave out these rules of terminals, such as Rows,Past")
+        .action(ArgAction::Append)
 }
 
 /// `--background COLOUR`, with a default.

@@ -6,6 +6,6 @@ mod usage_errors;
 
 pub use commands::sixel_command;
 pub use usage_errors::{
-    background_error, conflict_error, sheet_error, terminal_error, unchecked_error,
+    NamesFault, background_error, conflict_error, sheet_error, terminal_error, unchecked_error,
     uncoloured_error, undiffered_error, unnamed_error, unsurveyed_error, usage_error, with_tip,
 };

@@ -78,11 +78,24 @@ pub fn terminal_error(alloc: Global, name: &str) -> Result<Error, AllocError>
     )
 }
 
-/// A usage error of `check`: this value of `--on` names no terminals.
-pub fn unchecked_error(alloc: Global, value: &str) -> Result<Error, AllocError>
+/// What is wrong with the terminals or the rules that `check` or `survey` was given.
+#[derive(Clone, Copy, Debug, PartialEq, Eq)]
+pub enum NamesFault<'a> {
+    /// This value of `--on` names no terminals.
+    Terminals(&'a str),
+    /// This value of `--ignore` names no rules.
+    Rules(&'a str),
+    /// This value of `--ignore` names a rule of portable pictures.
+    Portable(&'a str),
+    /// `--ignore` is given without `--on`.
+    Alone,
+}
+
+/// A usage error of `check`: its terminals or the rules to ignore.
+pub fn unchecked_error(alloc: Global, fault: NamesFault<'_>) -> Result<Error, AllocError>
     ensures { IfOk result (λ e. kind_of e ≡ ErrorKind.InvalidValue) }
 {
-    let reason = names_reason(alloc, value)?;
+    let reason = names_reason(alloc, fault)?;
     error_of(
         check_command(alloc)?,
         "sixel check",
@@ -92,10 +105,10 @@ pub fn unchecked_error(alloc: Global, value: &str) -> Result<Error, AllocError>
 }
 
 /// The same of `survey`.
-pub fn unsurveyed_error(alloc: Global, value: &str) -> Result<Error, AllocError>
+pub fn unsurveyed_error(alloc: Global, fault: NamesFault<'_>) -> Result<Error, AllocError>
     ensures { IfOk result (λ e. kind_of e ≡ ErrorKind.InvalidValue) }
 {
-    let reason = names_reason(alloc, value)?;
+    let reason = names_reason(alloc, fault)?;
     error_of(
         survey_command(alloc)?,
         "sixel survey",
@@ -104,12 +117,35 @@ pub fn unsurveyed_error(alloc: Global, value: &str) -> Result<Error, AllocError>
     )
 }
 
-fn names_reason(alloc: Global, value: &str) -> Result<String, AllocError> {
-    let value = printed(alloc, value)?;
-    format!(in alloc;
-        "invalid value '{value}' for '--on <NAMES>'\n  \
-        [possible values: xterm, mlterm, foot, konsole with commas between them, or all]"
-    )
+fn names_reason(alloc: Global, fault: NamesFault<'_>) -> Result<String, AllocError> {
+    match fault {
+        NamesFault::Terminals(value) => {
+            let value = printed(alloc, value)?;
+            format!(in alloc;
+                "invalid value '{value}' for '--on <NAMES>'\n  \
+                [possible values: xterm, mlterm, foot, konsole with commas between them, or all]"
+            )
+        }
+        NamesFault::Rules(value) => {
+            let value = printed(alloc, value)?;
+            format!(in alloc;
+                "invalid value '{value}' for '--ignore <RULES>'\n  \
+                [possible values: RasterLate, Dropped, Stale, Large, Rows, Past, Hue, Far, Introducer,\n  \
+                Bare, SpaceAfter with commas between them]"
+            )
+        }
+        NamesFault::Portable(value) => {
+            let value = printed(alloc, value)?;
+            format!(in alloc;
+                "invalid value '{value}' for '--ignore <RULES>'\n  \
+                a rule of portable pictures can't be ignored; 'sixel survey' lists each broken rule"
+            )
+        }
+        NamesFault::Alone => String::from_str(
+            alloc,
+            "the argument '--ignore <RULES>' cannot be used without '--on <NAMES>'",
+        ),
+    }
 }
 
 /// A usage error of `mend`: this value of `--background` is no colour.
@@ -167,7 +203,7 @@ fn colour_reason(alloc: Global, value: &str) -> Result<String, AllocError> {
     let value = printed(alloc, value)?;
     format!(in alloc;
         "invalid value '{value}' for '--background <COLOUR>': \
-        expected three percentages, as in 100,50,0, or samples, as in '#ff8000'"
+        expected three percentages, as in 100,50,0, samples, as in '#ff8000', or a name, as in navy"
     )
 }
 

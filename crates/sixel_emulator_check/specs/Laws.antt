@@ -8,7 +8,7 @@ use Rattle.sixel_judge.specs.declared.verdict.Verdict.TheVariants as verdict
 use Rattle.sixel_check.specs.Answers.{Answers}
 use Rattle.sixel_survey.specs.Laws.{IsFirstFinding}
 use Rattle.sixel_survey.specs.declared.entry.Entry.{Entry}
-use Rattle.sixel_emulator_rules.specs.Asked.{BreaksNoneAsked}
+use Rattle.sixel_emulator_rules.specs.Asked.{BreaksNoneAsked, no_rules}
 use Rattle.sixel_emulator_rules.specs.Asked as asked
 use Rattle.sixel_emulator_rules.specs.declared.tally.AskedEntry.{AskedEntry}
 use Rattle.sixel_emulator_rules.specs.declared.terminals.Terminals.{Terminals}
@@ -54,7 +54,7 @@ FirstIsVerdictOn registers =
 -- ---- no terminal
 
 abbrev pub none : Terminals
-none = record { xterm = false; mlterm = false; foot = false; konsole = false }
+none = record { xterm = false; mlterm = false; foot = false; konsole = false; ignored = no_rules }
 
 -- a verdict as one for named terminals
 abbrev pub named_verdict : Verdict → NamedVerdict

@@ -20,7 +20,7 @@ use Rattle.sixel_named_terminals.specs.declared.named.Named.{Named}
 use Rattle.sixel_named_terminals.specs.declared.named.Named.TheVariants.{XTerm, MlTerm, Foot, Konsole}
 use Rattle.sixel_named_terminals.specs.Named.{heard_on, hears_on}
 use Rattle.sixel_emulator.proofs.HeardLemmas.{HasHeight, heard_boxes, heard_whole}
-use Rattle.sixel_emulator_rules.specs.Asked.{BreaksNoneAsked, asks, is_asked}
+use Rattle.sixel_emulator_rules.specs.Asked.{BreaksNoneAsked, asks, has_rule, is_asked, one_asks}
 use Rattle.sixel_emulator_rules.specs.declared.rule.AskedRule.{AskedRule}
 use Rattle.sixel_emulator_rules.specs.declared.rule.AskedRule.TheVariants.{Bare}
 use Rattle.sixel_emulator_rules.specs.declared.terminals.Terminals.{Terminals}
@@ -30,25 +30,32 @@ use Rattle.sixel_emulator_rules_laws.proofs.MlTermShownLemmas.{mlterm_shows}
 use Rattle.sixel_emulator_rules_laws.proofs.ShownLemmas.{foot_shows}
 use Rattle.sixel_emulator_rules_laws.proofs.XTermShownLemmas.{xterm_shows}
 use Rattle.sixel_emulator_check.specs.Written.{IsBareOn, IsIfAsked}
-use Rattle.sixel_emulator_check_laws.specs.Shown.{IsNamed, IsShownOnEach}
+use Rattle.sixel_emulator_check_laws.specs.Shown.{IsHeeded, IsNamed, IsShownOnEach}
 
--- what a terminal of the set asks for is asked for
-asked_by : (t : Terminals) (named : Named) (rule : AskedRule) → IsNamed t named → IsTrue (asks named rule)
-    → IsTrue (is_asked t rule)
-asked_by t XTerm rule is asked =
+-- a rule that a terminal of the set asks for has an asker
+asker_of : (t : Terminals) (named : Named) (rule : AskedRule) → IsNamed t named → IsTrue (asks named rule)
+    → IsTrue (one_asks t rule)
+asker_of t XTerm rule is asked =
     or_left ((t.xterm && asks XTerm rule) || (t.mlterm && asks MlTerm rule)) _
     (or_left (t.xterm && asks XTerm rule) _ (and_from t.xterm (asks XTerm rule) is asked))
-asked_by t MlTerm rule is asked =
+asker_of t MlTerm rule is asked =
     or_left ((t.xterm && asks XTerm rule) || (t.mlterm && asks MlTerm rule)) _
     (or_right (t.xterm && asks XTerm rule) _ (and_from t.mlterm (asks MlTerm rule) is asked))
-asked_by t Foot rule is asked =
+asker_of t Foot rule is asked =
     or_right ((t.xterm && asks XTerm rule) || (t.mlterm && asks MlTerm rule)) _
     (or_left (t.foot && asks Foot rule) _ (and_from t.foot (asks Foot rule) is asked))
-asked_by t Konsole rule is asked =
+asker_of t Konsole rule is asked =
     or_right ((t.xterm && asks XTerm rule) || (t.mlterm && asks MlTerm rule)) _
     (or_right (t.foot && asks Foot rule) _ (and_from t.konsole (asks Konsole rule) is asked))
 
-none_of : (t : Terminals) (named : Named) (events : List Event) → IsNamed t named → BreaksNoneAsked t events
+-- what a terminal that is heeded asks for is asked for
+asked_by : (t : Terminals) (named : Named) (rule : AskedRule) → IsHeeded t named → IsTrue (asks named rule)
+    → IsTrue (is_asked t rule)
+asked_by t named rule is asked =
+    and_from (one_asks t rule) (not (has_rule t.ignored rule)) (asker_of t named rule is.0 asked)
+    (ap not (is.1 rule asked))
+
+none_of : (t : Terminals) (named : Named) (events : List Event) → IsHeeded t named → BreaksNoneAsked t events
     → BreaksNoneOf named events
 none_of t named events is none rule asked = none rule (asked_by t named rule is asked)
 
@@ -58,10 +65,10 @@ shows registers MlTerm few = mlterm_shows registers few
 shows registers Foot few = foot_shows registers (omega arith)
 shows registers Konsole few = konsole_shows registers few
 
--- each terminal of the set shows the picture of the events
+-- each terminal of the set that is heeded shows the picture of the events
 abbrev pub AreShown : Terminals → List Event → PictureValue → Type 0
 AreShown t events p =
-    (named : Named) (background : Parts) (width height : ℕ) → IsNamed t named → p.width ≤ width → p.height ≤ height
+    (named : Named) (background : Parts) (width height : ℕ) → IsHeeded t named → p.width ≤ width → p.height ≤ height
     → IsShownOn named background (width, height) events p
 
 pub shown_on_all : (registers : ℕ) (t : Terminals) (events : List Event) (p : PictureValue) → registers ≤ 256
@@ -110,7 +117,7 @@ heard_all registers named bytes placed bare none =
     heard_whole (hears_on named) bytes placed bare (have_heights registers placed none)
 
 -- and where none lacks it of those that matter
-heard_by : (registers : ℕ) (t : Terminals) (named : Named) (bytes : List ℕ) (placed : List Placed) → IsNamed t named
+heard_by : (registers : ℕ) (t : Terminals) (named : Named) (bytes : List ℕ) (placed : List Placed) → IsHeeded t named
     → IsBareOn t bytes None → BreaksNone registers last_rule (events_of placed) → heard_on named bytes placed ≡ placed
 heard_by registers t XTerm bytes placed is bare none =
     heard_all registers XTerm bytes placed (bare_if (is_asked t Bare) bytes None (asked_by t XTerm Bare is refl) bare) none

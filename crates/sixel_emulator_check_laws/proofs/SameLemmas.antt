@@ -34,7 +34,11 @@ use Rattle.sixel_judge.specs.Portable.{IsInBoxOn, Shows}
 use Rattle.sixel_judge.proofs.CoverLemmas.{box_there}
 use Rattle.sixel_judge.proofs.OptionLemmas.{some_value}
 use Rattle.sixel_judge.proofs.ShownLemmas.{size_left}
-use Rattle.sixel_emulator_rules.specs.Asked.{BreaksNoneAsked}
+use Rattle.sixel_emulator_rules.specs.Asked.{BreaksNoneAsked, has_rule, no_rules}
+use Rattle.sixel_emulator_rules.specs.declared.rule.AskedRule.{AskedRule}
+use Rattle.sixel_emulator_rules.specs.declared.rule.AskedRule.TheVariants.{RasterLate, Dropped, Stale, Large, Rows}
+use Rattle.sixel_emulator_rules.specs.declared.rule.AskedRule.TheVariants.{Past, Hue}
+use Rattle.sixel_emulator_rules.specs.declared.rule.AskedRule.TheVariants.{Far, Introducer, Bare, SpaceAfter}
 use Rattle.sixel_emulator_rules_laws.specs.Laws.{IsShownOn}
 use Rattle.sixel_emulator_rules_laws.proofs.InkLemmas.{inked_painted}
 use Rattle.sixel_differ.specs.declared.view.View.{View}
@@ -47,7 +51,7 @@ use Rattle.sixel_differ_laws.proofs.GroupLemmas.{one_group_where_alike}
 use Rattle.sixel_differ_laws.proofs.OnceLemmas.{some_mending}
 use Rattle.sixel_differ.proofs.ShowingLemmas.{have_sides}
 use Rattle.sixel_emulator_check_laws.specs.Laws.{PortableOnAllIsTheSame, all_terminals}
-use Rattle.sixel_emulator_check_laws.specs.Shown.{IsNamed}
+use Rattle.sixel_emulator_check_laws.specs.Shown.{IsHeeded, IsNamed}
 use Rattle.sixel_emulator_check_laws.proofs.RightLemmas.{AreShown, heard_all, shown_on_all}
 
 is_one : (named : Named) → IsNamed all_terminals named
@@ -55,6 +59,22 @@ is_one XTerm = refl
 is_one MlTerm = refl
 is_one Foot = refl
 is_one Konsole = refl
+
+none_ignored : (rule : AskedRule) → has_rule no_rules rule ≡ false
+none_ignored RasterLate = refl
+none_ignored Dropped = refl
+none_ignored Stale = refl
+none_ignored Large = refl
+none_ignored Rows = refl
+none_ignored Past = refl
+none_ignored Hue = refl
+none_ignored Far = refl
+none_ignored Introducer = refl
+none_ignored Bare = refl
+none_ignored SpaceAfter = refl
+
+is_heeded : (named : Named) → IsHeeded all_terminals named
+is_heeded named = (is_one named, λ rule asked. none_ignored rule)
 
 -- ---- the terminal's screen
 
@@ -251,7 +271,7 @@ of_views n background bytes v are few none asked bare =
     shown_on_all n all_terminals (events_of are.placed) _ few (document_whole are.placed bytes are.document) none asked
     refl in
     all_alike n background bytes v are (λ named. heard_all n named bytes are.placed bare none) (λ named.
-    shown named background v.width v.height (is_one named) fits.across fits.down)
+    shown named background v.width v.height (is_heeded named) fits.across fits.down)
 
 pub portable_on_all : (n : ℕ) → n ≤ 256 → PortableOnAllIsTheSame n
 portable_on_all n few background placed bytes v c document none asked bare are is =

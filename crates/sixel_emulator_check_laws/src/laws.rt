@@ -12,9 +12,9 @@ pub fn portable_on_all_is_the_same()
     ensures { (registers : ℕ) → registers ≤ 256 → PortableOnAllIsTheSame registers }
 {}
 
-/// The picture of a verdict for named terminals is shown by each of them, on each screen of one colour with room. Where
-/// `sixel_emulator_check::outcome_on` answers a size, the events of the document leave a picture with these sides, which
-/// is portable, and which each of the terminals shows.
+/// The picture of a verdict for named terminals is shown by each of them of which no rule is ignored, on each screen of
+/// one colour with room. Where `sixel_emulator_check::outcome_on` answers a size, the events of the document leave a
+/// picture with these sides, which is portable, and which each of these terminals shows.
 pub fn portable_is_shown_on_each()
     ensures verdicts { (profile : Profile) → VerdictsAreShown (count_of profile) }
     ensures outcomes { (profile : Profile) → OutcomesAreShown (count_of profile) }

@@ -15,6 +15,7 @@ use Rattle.sixel_mlterm.specs.MlTerm.{may_mix}
 use Rattle.sixel_named_terminals.specs.declared.named.Named.{Named}
 use Rattle.sixel_named_terminals.specs.declared.named.Named.TheVariants.{XTerm, MlTerm, Foot, Konsole}
 use Rattle.sixel_emulator_rules.specs.Stale.{IsStale}
+use Rattle.sixel_emulator_rules.specs.declared.asked_rules.AskedRules.{AskedRules}
 use Rattle.sixel_emulator_rules.specs.declared.rule.AskedRule.{AskedRule}
 use Rattle.sixel_emulator_rules.specs.declared.rule.AskedRule.TheVariants.{RasterLate, Dropped, Stale, Large, Rows}
 use Rattle.sixel_emulator_rules.specs.declared.rule.AskedRule.TheVariants.{Past, Hue}
@@ -141,13 +142,50 @@ asks MlTerm Introducer = true
 asks MlTerm Bare = true
 asks _ _ = false
 
+-- ---- sets of rules
+
+-- the rule is one of the set
+abbrev pub has_rule : AskedRules → AskedRule → Bool
+has_rule s RasterLate = s.raster_late
+has_rule s Dropped = s.dropped
+has_rule s Stale = s.stale
+has_rule s Large = s.large
+has_rule s Rows = s.rows
+has_rule s Past = s.past
+has_rule s Hue = s.hue
+has_rule s Far = s.far
+has_rule s Introducer = s.introducer
+has_rule s Bare = s.bare
+has_rule s SpaceAfter = s.space_after
+
+abbrev pub no_rules : AskedRules
+no_rules = record {
+  raster_late = false;
+  dropped = false;
+  stale = false;
+  large = false;
+  rows = false;
+  past = false;
+  hue = false;
+  far = false;
+  introducer = false;
+  bare = false;
+  space_after = false;
+}
+
+-- ---- what counts
+
 -- a terminal of the set asks for the rule
-abbrev pub is_asked : Terminals → AskedRule → Bool
-is_asked t rule =
+abbrev pub one_asks : Terminals → AskedRule → Bool
+one_asks t rule =
     ((t.xterm && asks XTerm rule) || (t.mlterm && asks MlTerm rule))
     || ((t.foot && asks Foot rule) || (t.konsole && asks Konsole rule))
 
--- no event breaks a rule that a terminal of the set asks for
+-- a terminal of the set asks for the rule, and it isn't ignored
+abbrev pub is_asked : Terminals → AskedRule → Bool
+is_asked t rule = one_asks t rule && not (has_rule t.ignored rule)
+
+-- no event breaks a rule that counts
 abbrev pub BreaksNoneAsked : Terminals → List Event → Type 0
 BreaksNoneAsked t events = (rule : AskedRule) → IsTrue (is_asked t rule) → HoldsNowhere (BreaksAsked rule) events
 

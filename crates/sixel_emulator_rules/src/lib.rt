@@ -1,6 +1,7 @@
 //! The rules that named terminals ask for, besides those of portable pictures.
 #![tactic(auto)]
 
+mod asked_rules;
 mod asking;
 mod events;
 pub mod laws;
@@ -12,8 +13,9 @@ mod tally;
 mod tallying;
 mod terminals;
 
+pub use asked_rules::AskedRules;
 pub use asking::{AskedFinding, Asking};
-pub use rule::AskedRule;
-pub use tally::{ASKED_COUNT, AskedEntries, AskedEntry};
+pub use rule::{ALL_ASKED_RULES, ASKED_COUNT, AskedRule};
+pub use tally::{AskedEntries, AskedEntry};
 pub use tallying::Tallying;
 pub use terminals::Terminals;

@@ -4,6 +4,9 @@ ghost use Rattle.std.specs.Prelude.{◌≡◌, ◌≤◌, length};
 ghost use Rattle.sixel_emulator_rules.specs.Asked.{number_of};
 ghost use Rattle.sixel_emulator_rules.specs.Names.{name_of};
 
+/// How many rules there are.
+pub const ASKED_COUNT: usize = 11;
+
 /// A rule that some of the named terminals ask for, besides those of portable pictures.
 #[derive(Clone, Copy, Debug, PartialEq, Eq)]
 pub enum AskedRule {
@@ -30,6 +33,21 @@ pub enum AskedRule {
     /// xterm: a space behind the terminator. No event tells of it, either.
     SpaceAfter,
 }
+
+/// Each of them, in order of number.
+pub const ALL_ASKED_RULES: [AskedRule; ASKED_COUNT] = [
+    AskedRule::RasterLate,
+    AskedRule::Dropped,
+    AskedRule::Stale,
+    AskedRule::Large,
+    AskedRule::Rows,
+    AskedRule::Past,
+    AskedRule::Hue,
+    AskedRule::Far,
+    AskedRule::Introducer,
+    AskedRule::Bare,
+    AskedRule::SpaceAfter,
+];
 
 impl AskedRule {
     /// Its number. Those of portable pictures have the numbers 1 to 13.

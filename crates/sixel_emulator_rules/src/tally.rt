@@ -4,11 +4,8 @@ ghost use Rattle.std.specs.Prelude.{◌≡◌, ◌-◌, ◌<◌, Some, filter_ma
 ghost use Rattle.sixel_emulator_rules.specs.Asked.{number_of};
 ghost use Rattle.sixel_emulator_rules.specs.Tallying.{next_tally, tally_in};
 
-use crate::rule::AskedRule;
+use crate::rule::{ASKED_COUNT, AskedRule};
 use arrayvec::ArrayVec;
-
-/// How many rules there are.
-pub const ASKED_COUNT: usize = 11;
 
 /// A broken rule: how often it counts, and where it counts first.
 ///

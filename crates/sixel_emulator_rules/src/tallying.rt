@@ -14,8 +14,8 @@ ghost use Rattle.sixel_emulator_rules.specs.Tallies.{AreAskedEntries};
 ghost use Rattle.sixel_emulator_rules.specs.Tallying.{HasTallied, HasTalliedOn, TalliesOn, tallied, tallied_each};
 
 use crate::notes::Notes;
-use crate::rule::AskedRule;
-use crate::tally::{ASKED_COUNT, AskedEntries, AskedEntry, counted, entries_of, put, tally_of};
+use crate::rule::{ASKED_COUNT, AskedRule};
+use crate::tally::{AskedEntries, AskedEntry, counted, entries_of, put, tally_of};
 use crate::terminals::Terminals;
 use sixel_grammar::{Command, Event, Follower, Placed};
 use std::convert::Infallible;

@@ -63,7 +63,7 @@ module _ {O : Type 0} (folder : FolderView O) (x : Exit) (i : Change SourceState
   request_read (task.Check profile named) q h names ended =
       inr (q, sym (labels_read (task.Check profile named) names refl), ended)
   request_read (task.Survey profile named) q h names ended =
-      inr (all_of q, sym (labels_read (task.Survey profile named) names refl), ended)
+      inr (q, sym (labels_read (task.Survey profile named) names refl), ended)
   request_read (task.Scan profile eight) q h names ended =
       inr (all_of q, sym (labels_read (task.Scan profile eight) names refl), ended)
   request_read (task.Differ background) q h names ended =

@@ -385,13 +385,13 @@ FilesEnd t lines shown folder labels exit input output errors =
 -- ---- requests
 
 -- how a request ended. A task with lines is of all files that are named, and any other task of the first; without names
--- it is of standard input. Only a check may leave out lines, and a comparison of terminals has no JSON
+-- it is of standard input. Only a check or a survey may leave out lines, and a comparison of terminals has no JSON
 abbrev pub RequestEnds : {O : Type 0} → Task → Lines → Shown → List Text → FolderView O → Exit → Change SourceState
     → Change SinkState → Change SinkState → Type 0
 RequestEnds (Check profile named) lines shown names folder exit input output errors =
     FilesEnd (Check profile named) lines shown folder (labels_for names) exit input output errors
 RequestEnds (Survey profile named) lines shown names folder exit input output errors =
-    FilesEnd (Survey profile named) (all_of lines) shown folder (labels_for names) exit input output errors
+    FilesEnd (Survey profile named) lines shown folder (labels_for names) exit input output errors
 RequestEnds (Scan profile eight) lines shown names folder exit input output errors =
     FilesEnd (Scan profile eight) (all_of lines) shown folder (labels_for names) exit input output errors
 RequestEnds (Differ background) lines shown names folder exit input output errors =

@@ -282,8 +282,8 @@ fn check_input<F: Folder, S: Source, K: Sink, E: Sink>(
 /// Checks, surveys, scans or compares the files with these names in turn; one `-` at most is among them. Without names it is over
 /// standard input. A refused file doesn't end this, but a failed write does. The exit status is the greatest of theirs.
 /// At a terminal a hint on what was found wrong first comes last, or if hints are asked for one on each, but only after a
-/// check that isn't quiet or a survey; then a scan's note on wrapped strings; and then how many of several files failed, which a check
-/// of only failures says too.
+/// check or a survey that isn't quiet; then a scan's note on wrapped strings; and then how many of several files failed,
+/// which a check or a survey of only failures says too.
 ///
 /// It isn't inlined, or its room would be on the stack of every task.
 #[inline(never)]

@@ -3,7 +3,8 @@
 ghost use Rattle.std.specs.Prelude.{◌≡◌, ◌+◌, ◌≤◌, ◌++◌, ◌∷◌, cond, decimal, length};
 ghost use Rattle.arrayvec.specs.ArrayVec.{array_vec_len};
 ghost use Rattle.sixel_io.specs.Devices.{change};
-ghost use Rattle.sixel_program.specs.Counts.{count_line, count_of, count_words, has_failed, is_counted};
+ghost use Rattle.sixel_program.specs.Counts.{wants_failures, count_line, count_of, count_words, has_failed};
+ghost use Rattle.sixel_program.specs.Counts.{is_counted};
 ghost use Rattle.sixel_report.specs.Exits.{IsPut};
 
 use arrayvec::ArrayVec;
@@ -83,12 +84,23 @@ fn count_line(failed: usize, all: usize) -> CountLine
     line
 }
 
-/// The line of a task over so many inputs, of which so many failed. Only a check of two or more has one.
+/// Whether only the lines of failures are wanted.
+fn wants_failures(lines: Lines) -> bool
+    ensures { result ≡ wants_failures lines }
+{
+    match lines {
+        Lines::Nothing { .. } => false,
+        Lines::Plain { only_failed } | Lines::Json { only_failed } => only_failed,
+    }
+}
+
+/// The line of a task over so many inputs, of which so many failed. Only a check or a survey of two or more has one.
 fn count_of(task: &Task, lines: Lines, is_shown: bool, failed: usize, all: usize) -> CountLine
     ensures { result.items ≡ count_of task.now lines is_shown failed all }
 {
     match task {
         Task::Check { .. } if all > 1 && is_counted(lines, is_shown) => count_line(failed, all),
+        Task::Survey { .. } if all > 1 && wants_failures(lines) => count_line(failed, all),
         _ => ArrayVec::new(),
     }
 }

@@ -80,7 +80,7 @@ fn report_file<F: Folder, S: Source, K: Sink, E: Sink>(
 
 /// Carries out a request that names standard input once at most. A task with lines reads all files that are named: a
 /// check, a survey, a scan or a comparison of terminals. Any other task reads the first. Without names standard input is
-/// read. A check and a survey end with a hint on what is wrong first, if `errors` is a terminal and the check isn't quiet.
+/// read. A check and a survey end with a hint on what is wrong first, if `errors` is a terminal and they aren't quiet.
 pub fn answer<F: Folder, S: Source, K: Sink, E: Sink>(
     alloc: Global,
     request: &Request,
@@ -104,10 +104,10 @@ pub fn answer<F: Folder, S: Source, K: Sink, E: Sink>(
     let lines = request.lines;
     let shown = shown_at(terminals, lines, request.explains);
     match (request.task, names) {
-        (Task::Check { .. }, _) => check_files(
+        (Task::Check { .. } | Task::Survey { .. }, _) => check_files(
             alloc, task, lines, shown, names, folder, input, output, errors,
         ),
-        (Task::Survey { .. } | Task::Scan { .. }, _) => check_files(
+        (Task::Scan { .. }, _) => check_files(
             alloc,
             task,
             all_of(lines),

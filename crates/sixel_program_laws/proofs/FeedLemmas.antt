@@ -22,7 +22,7 @@ use Rattle.sixel_report.specs.declared.item.Item.{Item}
 use Rattle.sixel_report.specs.declared.item.Item.TheVariants as item
 use Rattle.sixel_report.specs.Texts.{IsLine, Text, entry_line, line, numbers, pixel_parts, rule_name, spaced}
 use Rattle.sixel_report.specs.Texts.{answer_line, column_and_row, item_line, outcome_line, reason_name, terminal_name}
-use Rattle.sixel_report.specs.Texts.{terminals_in}
+use Rattle.sixel_report.specs.Texts.{members_in}
 use Rattle.sixel_explain_laws.proofs.DigitLemmas.{AreDigits, number_digits}
 
 -- a text without line feeds
@@ -196,10 +196,10 @@ item_is_line (item.Same width height) =
     is_line (codes "same") (numbers (width ∷ height ∷ [])) (name_unfed (codes "same") refl)
     (number_unfed width, (number_unfed height, tt))
 item_is_line (item.Group g) =
-    is_line (terminal_name g.leader) (map terminal_name (terminals_in g.others) ++ column_and_row g.pixel)
+    is_line (terminal_name g.leader) (map terminal_name (members_in g.others) ++ column_and_row g.pixel)
     (terminal_unfed g.leader)
-    (both_unfed (map terminal_name (terminals_in g.others)) (column_and_row g.pixel)
-    (terminals_unfed (terminals_in g.others)) (place_unfed g.pixel))
+    (both_unfed (map terminal_name (members_in g.others)) (column_and_row g.pixel)
+    (terminals_unfed (members_in g.others)) (place_unfed g.pixel))
 item_is_line (item.Unmodelled named place) =
     is_line (terminal_name named) (codes "unmodelled" ∷ decimal place ∷ []) (terminal_unfed named)
     (name_unfed (codes "unmodelled") refl, (number_unfed place, tt))

@@ -14,12 +14,7 @@ use std::test::Fail;
 /// A check for no named terminal.
 const CHECK: Task = Task::Check {
     profile: Profile::Registers16,
-    terminals: NamedTerminals {
-        xterm: false,
-        mlterm: false,
-        foot: false,
-        konsole: false,
-    },
+    terminals: NamedTerminals::none(),
 };
 
 /// No standard stream is a terminal.

@@ -17,7 +17,7 @@ use Rattle.sixel_named_terminals.specs.declared.named.Named.{Named}
 use Rattle.sixel_named_terminals.specs.Named.{heard_on, model_of, terminal_on}
 use Rattle.sixel_judge.specs.Portable.{IsPortable, Shows}
 use Rattle.sixel_emulator_rules.specs.declared.terminals.Terminals.{Terminals}
-use Rattle.sixel_emulator_check_laws.specs.Shown.{IsNamed}
+use Rattle.sixel_emulator_check_laws.specs.Shown.{IsHeeded}
 use Rattle.sixel_report.specs.declared.fault.RunFault.{RunFault}
 use Rattle.sixel_report.specs.declared.task.Status.{Status}
 use Rattle.sixel_report.specs.declared.task.Status.TheVariants.{Done}
@@ -52,11 +52,11 @@ pub record IsShownFrom (named : Named) (background : Parts) (sides : ℕ × ℕ)
   pub is_reading : IsReading (model_of named) events drawing
   pub shows : Shows (from_origin x y (terminal_on named background ((model_of named).opening events) sides)) drawing p
 
--- each terminal of the set shows the picture from each origin with room, on each screen of one colour: of the document
--- of these bytes, as the terminal hears it
+-- each terminal of the set that is heeded shows the picture from each origin with room, on each screen of one colour: of
+-- the document of these bytes, as the terminal hears it
 abbrev pub IsShownFromEach : Terminals → List ℕ → List Placed → PictureValue → Type 0
 IsShownFromEach t bytes events p =
-    (named : Named) (background : Parts) (width height x y : ℕ) → IsNamed t named → x + p.width ≤ width
+    (named : Named) (background : Parts) (width height x y : ℕ) → IsHeeded t named → x + p.width ≤ width
     → y + p.height ≤ height
     → IsShownFrom named background (width, height) x y (events_of (heard_on named bytes events)) p
 
@@ -64,7 +64,7 @@ IsShownFromEach t bytes events p =
 
 -- the bytes are a document that leaves the picture. The picture has the size of the declared box, and each terminal of
 -- the class with room shows it in the box and paints nothing outside; `render` writes it; and each terminal of the set
--- shows it
+-- that is heeded shows it
 pub record IsTruePortable (profile : Profile) (t : Terminals) (bytes : List ℕ) (p : PictureValue) : Type 0 where
   pub events : List Placed
   pub document : Document events bytes

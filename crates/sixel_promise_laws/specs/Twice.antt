@@ -12,7 +12,7 @@ use Rattle.sixel_emulator_check.specs.Answers.{AnswersOn}
 use Rattle.sixel_emulator_check.specs.Laws.{named_verdict, none}
 use Rattle.sixel_emulator_check.specs.declared.verdict.NamedVerdict.{NamedVerdict}
 use Rattle.sixel_emulator_check_laws.specs.Laws.{all_terminals}
-use Rattle.sixel_emulator_check_laws.specs.Shown.{IsNamed}
+use Rattle.sixel_emulator_check_laws.specs.Shown.{IsHeeded}
 use Rattle.sixel_report.specs.declared.fault.RunFault.{RunFault}
 use Rattle.sixel_report.specs.declared.task.Area.TheVariants.{Box}
 use Rattle.sixel_report.specs.declared.task.Status.{Status}
@@ -22,12 +22,12 @@ use Rattle.sixel_report.specs.Texts.{Text, portable_line, same_line, verdict_lin
 use Rattle.sixel_run.specs.Outputs.{Gives, status_of}
 use Rattle.sixel_run_laws.specs.Laws.{GiveTheSame}
 
--- if a check for a set of terminals is done, `show --on` with `--box` gives for each of them, on each background, what
--- `render` gives
+-- if a check for a set of terminals is done, `show --on` with `--box` gives for each of them that is heeded, on each
+-- background, what `render` gives
 abbrev pub ShowGivesWhatRenderGives : Type 0
 ShowGivesWhatRenderGives =
     (profile : Profile) (t : Terminals) (bytes : List ℕ) (text : Text) (named : Named) (background : Parts)
-    → Gives (Check profile t) bytes text (Ok Done) → IsNamed t named
+    → Gives (Check profile t) bytes text (Ok Done) → IsHeeded t named
     → GiveTheSame bytes (ShowOn named background Box) (Render profile)
 
 -- so does `show --box` without `--on`, on a terminal of the class, whatever is chosen for it

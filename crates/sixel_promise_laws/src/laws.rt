@@ -13,7 +13,7 @@ ghost use Rattle.sixel_promise_laws.specs.Twice.{ShowBoxGivesWhatRenderGives, Sh
 /// If a check for some terminals, or for none, is done, it printed `portable` and the size of a picture, the one that
 /// the document leaves. `render` of the same bytes writes this picture, or refuses a colour that isn't RGB. Every
 /// terminal of the class with room shows it in the box, and paints nothing outside it. So does each of the terminals of
-/// the check, on each screen of one colour, from each origin with room.
+/// the check of which no rule is ignored, on each screen of one colour, from each origin with room.
 pub fn a_portable_line_is_true()
     ensures { PortableLineIsTrue }
 {}
@@ -31,8 +31,8 @@ pub fn an_unbroken_document_is_portable()
     ensures { UnbrokenIsDone }
 {}
 
-/// If a check for some terminals is done, `show --on NAME --box` writes for each of them what `render` writes, on each
-/// background. So does `show --box` without `--on`, after any check that is done, with each of its options.
+/// If a check for some terminals is done, `show --on NAME --box` writes for each of them of which no rule is ignored what
+/// `render` writes, on each background. So does `show --box` without `--on`, after any check that is done, with each of its options.
 pub fn show_gives_what_render_gives()
     ensures named { ShowGivesWhatRenderGives }
     ensures class { ShowBoxGivesWhatRenderGives }

@@ -8,7 +8,7 @@ use Rattle.sixel_differ.specs.declared.comparison.Standing.{Standing}
 use Rattle.sixel_differ.specs.declared.comparison.Standing.TheVariants.{First, Differs, Like, Unmodelled}
 use Rattle.sixel_differ.specs.Comparisons.{rank, standing_in}
 use Rattle.sixel_report.specs.declared.differences.Group.{Group}
-use Rattle.sixel_emulator_rules.specs.declared.terminals.Terminals.{Terminals}
+use Rattle.sixel_report.specs.declared.differences.Members.{Members}
 use Rattle.sixel_report.specs.declared.item.Item.{Item}
 use Rattle.sixel_report.specs.declared.item.Item.TheVariants as item
 use Rattle.sixel_report.specs.declared.task.Status.{Status}
@@ -21,7 +21,7 @@ is_like leader (Like other) = rank other == rank leader
 is_like leader standing = false
 
 -- the terminals in the group that this one leads, but for itself
-abbrev pub others_of : Comparison → Named → Terminals
+abbrev pub others_of : Comparison → Named → Members
 others_of c leader = record {
   xterm = is_like leader c.xterm;
   mlterm = is_like leader c.mlterm;

@@ -28,7 +28,7 @@ use Rattle.sixel_survey.specs.declared.entry.Entry.{Entry}
 use Rattle.sixel_emulator_rules.specs.Names.{name_of}
 use Rattle.sixel_emulator_rules.specs.declared.asking.AskedFinding.{AskedFinding}
 use Rattle.sixel_emulator_rules.specs.declared.tally.AskedEntry.{AskedEntry}
-use Rattle.sixel_emulator_rules.specs.declared.terminals.Terminals.{Terminals}
+use Rattle.sixel_report.specs.declared.differences.Members.{Members}
 use Rattle.sixel_emulator_check.specs.declared.rule.NamedRule.{NamedRule}
 use Rattle.sixel_emulator_check.specs.declared.rule.NamedRule.TheVariants as named
 use Rattle.sixel_emulator_check.specs.declared.surveying.NamedSurvey.{NamedSurvey}
@@ -253,20 +253,20 @@ abbrev pub all_named : List Named
 all_named = XTerm ∷ MlTerm ∷ Foot ∷ Konsole ∷ []
 
 -- whether the terminal is one of these
-abbrev pub has_terminal : Terminals → Named → Bool
+abbrev pub has_terminal : Members → Named → Bool
 has_terminal some XTerm = some.xterm
 has_terminal some MlTerm = some.mlterm
 has_terminal some Foot = some.foot
 has_terminal some Konsole = some.konsole
 
 -- these terminals, in their order
-abbrev pub terminals_in : Terminals → List Named
-terminals_in some = filter (has_terminal some) all_named
+abbrev pub members_in : Members → List Named
+members_in some = filter (has_terminal some) all_named
 
 -- the line of a group: the names of its members, and its pixel if it has one
 abbrev pub group_line : Group → Text
 group_line g =
-    line (terminal_name g.leader) (map terminal_name (terminals_in g.others) ++ column_and_row g.pixel)
+    line (terminal_name g.leader) (map terminal_name (members_in g.others) ++ column_and_row g.pixel)
 
 -- the line of a terminal whose model ends: its name, and the offset of the event at which it does
 abbrev pub unmodelled_line : Named → ℕ → Text

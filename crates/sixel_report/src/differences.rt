@@ -5,7 +5,7 @@ ghost use Rattle.arrayvec.specs.ArrayVec.{array_vec_len};
 ghost use Rattle.sixel_report.specs.Differing.{differ_items, differ_status, end_items, ends_led, group_items};
 ghost use Rattle.sixel_report.specs.Differing.{groups_led, is_like, others_of};
 ghost use Rattle.sixel_differ.specs.Comparisons.{standing_in};
-ghost use Rattle.sixel_report.specs.Texts.{column_and_row, group_line, same_line, spaced, terminal_name, terminals_in};
+ghost use Rattle.sixel_report.specs.Texts.{column_and_row, group_line, same_line, spaced, terminal_name, members_in};
 ghost use Rattle.sixel_report.specs.Texts.{unmodelled_line};
 ghost use Rattle.sixel_report.specs.declared.item.Item.TheVariants.{Group as GroupItem};
 
@@ -14,8 +14,16 @@ use crate::lines::{Line, push_all, push_number};
 use crate::task::Status;
 use arrayvec::ArrayVec;
 use sixel_differ::{Comparison, Standing};
-use sixel_emulator_rules::Terminals;
 use sixel_named_terminals::Named;
+
+/// Some of the named terminals.
+#[derive(Clone, Copy, Debug, PartialEq, Eq)]
+pub struct Members {
+    pub xterm: bool,
+    pub mlterm: bool,
+    pub foot: bool,
+    pub konsole: bool,
+}
 
 /// Named terminals with equal screens.
 #[derive(Clone, Copy, Debug, PartialEq, Eq)]
@@ -23,7 +31,7 @@ pub struct Group {
     /// The first of them. The order is xterm, mlterm, foot, konsole.
     pub leader: Named,
     /// The others.
-    pub others: Terminals,
+    pub others: Members,
     /// The column and the row of the first pixel, row by row, that differs from the screen of the first group. The first
     /// group has none.
     pub pixel: Option<(u32, u32)>,
@@ -80,9 +88,9 @@ pub fn same_line(width: u32, height: u32) -> Line
 }
 
 /// The names of these terminals, each after a space: at most 28 bytes.
-fn push_others(line: &mut Line, others: Terminals)
+fn push_others(line: &mut Line, others: Members)
     requires { array_vec_len line.old ≤ 7 }
-    ensures items { line.new.items ≡ line.old.items ++ spaced (map terminal_name (terminals_in others)) }
+    ensures items { line.new.items ≡ line.old.items ++ spaced (map terminal_name (members_in others)) }
     ensures len { array_vec_len line.new ≤ 33 }
 {
     if others.xterm {
@@ -170,10 +178,10 @@ fn push_group(items: &mut Items, comparison: &Comparison, named: Named)
 }
 
 /// The terminals in the group that this one leads, but for itself.
-fn others_of(comparison: &Comparison, leader: Named) -> Terminals
+fn others_of(comparison: &Comparison, leader: Named) -> Members
     ensures { result ≡ others_of comparison.now leader }
 {
-    Terminals {
+    Members {
         xterm: is_like(leader, comparison.xterm),
         mlterm: is_like(leader, comparison.mlterm),
         foot: is_like(leader, comparison.foot),

@@ -17,7 +17,7 @@ mod task;
 mod wanted_lines;
 
 pub use differences::{
-    Group, differ_items, differ_status, group_line, same_line, terminal_name, unmodelled_line,
+    Group, Members, differ_items, differ_status, group_line, same_line, terminal_name, unmodelled_line,
 };
 pub use exit::{Exit, code_of, exit_of};
 pub use fault::RunFault;

@@ -13,12 +13,7 @@ use sixel_report::{RuleSet, RunFault, Status, Task};
 use std::alloc::Global;
 
 /// No named terminal.
-const NO_TERMINALS: Terminals = Terminals {
-    xterm: false,
-    mlterm: false,
-    foot: false,
-    konsole: false,
-};
+const NO_TERMINALS: Terminals = Terminals::none();
 
 const CHECK: Task = Task::Check {
     profile: Profile::Registers16,

@@ -9,7 +9,8 @@ use Rattle.std.proofs.lemmas.Str.Pattern.{IsSplitOnceResult, split_after, split_
 use Rattle.sixel_model.specs.declared.colour.Parts.{Parts}
 use Rattle.sixel_model.specs.declared.colour.Parts.TheVariants.{Rgb, Hls}
 use Rattle.clap.specs.Walk.{Text}
-use Rattle.sixel_words.specs.Words.{ArePercentages, AreSamples, IsColourText, IsPercentage, IsSample}
+use Rattle.sixel_words.specs.Words.{ArePercentages, AreSamples, AreShortSamples, IsColourText, IsPercentage}
+use Rattle.sixel_words.specs.Words.{IsSample, basic_colour}
 
 -- a digit is no comma
 digits_without : (c : ℕ) → (digit_value c < 10 → ⊥) → (ds : Text) → AllDigits 10 ds → (i : ℕ) → i < length ds
@@ -88,11 +89,18 @@ same_text o a b e f = ap (λ (k : Option Text). unwrap_or k []) (sym e ∙ f)
 
 -- ---- samples
 
--- a text that is neither is no colour
-pub neither : (text : Text) (colour : Parts) → (AreSamples text colour → ⊥) → (ArePercentages text colour → ⊥)
-    → IsColourText text colour → ⊥
-neither text colour samples percentages (inl are) = percentages are
-neither text colour samples percentages (inr are) = samples are
+pub no_some : {X : Type 0} (o : Option X) → ((x : X) → o ≡ Some x → ⊥) → o ≡ None
+no_some None other = refl
+no_some (Some x) other = absurd (other x refl)
+
+-- a text that is none of the four is no colour
+pub neither : (text : Text) (colour : Parts) → (basic_colour text ≡ None) → (AreSamples text colour → ⊥)
+    → (AreShortSamples text colour → ⊥) → (ArePercentages text colour → ⊥) → IsColourText text colour → ⊥
+neither text colour unnamed samples short percentages (inl are) = percentages are
+neither text colour unnamed samples short percentages (inr (inl are)) = samples are
+neither text colour unnamed samples short percentages (inr (inr (inl are))) = short are
+neither text colour unnamed samples short percentages (inr (inr (inr is))) =
+    let bad : None ≡ Some colour = sym unnamed ∙ is in cc
 
 -- the digits of the three samples, and the samples
 abbrev pub HaveDigits : Text → Type 0
@@ -148,3 +156,26 @@ seven_bytes (a ∷ b ∷ c ∷ d ∷ e ∷ f ∷ g ∷ []) long short hash =
     ap (λ (x : ℕ). x ∷ b ∷ c ∷ d ∷ e ∷ f ∷ g ∷ []) hash
 seven_bytes (a ∷ b ∷ c ∷ d ∷ e ∷ f ∷ g ∷ h ∷ t) long short hash =
     let bad : ⊥ = omega (arith, short) in absurd bad
+
+-- four bytes, of which the first is a `#`
+pub four_bytes : (t : Text) → 4 ≤ length t → length t < 5 → get_or t 0 0 ≡ 35
+    → t ≡ 35 ∷ get_or t 1 0 ∷ get_or t 2 0 ∷ get_or t 3 0 ∷ []
+four_bytes [] long short hash = let bad : ⊥ = omega (arith, long) in absurd bad
+four_bytes (a ∷ []) long short hash = let bad : ⊥ = omega (arith, long) in absurd bad
+four_bytes (a ∷ b ∷ []) long short hash = let bad : ⊥ = omega (arith, long) in absurd bad
+four_bytes (a ∷ b ∷ c ∷ []) long short hash = let bad : ⊥ = omega (arith, long) in absurd bad
+four_bytes (a ∷ b ∷ c ∷ d ∷ []) long short hash = ap (λ (x : ℕ). x ∷ b ∷ c ∷ d ∷ []) hash
+four_bytes (a ∷ b ∷ c ∷ d ∷ e ∷ t) long short hash = let bad : ⊥ = omega (arith, short) in absurd bad
+
+-- samples, and the short form, of bytes that are the text
+pub samples_of : (bytes text : Text) (colour : Parts) → text ≡ bytes → AreSamples bytes colour → AreSamples text colour
+samples_of bytes text colour same are = subst (λ (t : Text). AreSamples t colour) (sym same) are
+
+pub short_digits : (text : Text) (a b c : ℕ) (colour : Parts) → text ≡ 35 ∷ a ∷ b ∷ c ∷ [] → AreShortSamples text colour
+    → AreSamples (35 ∷ a ∷ a ∷ b ∷ b ∷ c ∷ c ∷ []) colour
+short_digits text a b c colour same (r, g, d, is, are) =
+    let one : 35 ∷ a ∷ b ∷ c ∷ [] ≡ 35 ∷ r ∷ g ∷ d ∷ [] = sym same ∙ is in
+    let first : a ≡ r = ap (λ (t : Text). get_or t 1 0) one in
+    let second : b ≡ g = ap (λ (t : Text). get_or t 2 0) one in
+    let third : c ≡ d = ap (λ (t : Text). get_or t 3 0) one in
+    rw (first, second, third) are

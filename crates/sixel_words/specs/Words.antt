@@ -2,7 +2,7 @@
 use Rattle.std.specs.Prelude.{◌≡◌, ◌≢◌, ◌⊎◌, ◌≤◌, ℕ, Bool, false, true, List, [], ◌∷◌, Option, Some, None, codes, ◌++◌}
 use Rattle.std.specs.Prelude.{◌==◌, ◌||◌, ⊤, find, length, map, if◌then◌else◌, unwrap_or}
 use Rattle.std.specs.List.{list_all, list_any, slice_split}
-use Rattle.std.specs.Option.{option_and_then, option_map_or}
+use Rattle.std.specs.Option.{option_and_then, option_map, option_map_or}
 use Rattle.std.specs.Str.{bytes_eq, str_eq_ignore_ascii_case}
 use Rattle.std.specs.Str.Parse.{IsNumeral, digits_value, without_leading_plus}
 use Rattle.sixel_model.specs.declared.colour.Parts.{Parts}
@@ -11,6 +11,13 @@ use Rattle.sixel_model.specs.declared.profile.Profile.{Profile}
 use Rattle.sixel_model.specs.declared.profile.Profile.TheVariants.{Registers16, Registers256}
 use Rattle.sixel_named_terminals.specs.declared.named.Named.{Named}
 use Rattle.sixel_named_terminals.specs.declared.named.Named.TheVariants.{XTerm, MlTerm, Foot, Konsole}
+use Rattle.sixel_emulator_rules.specs.Asked.{no_rules}
+use Rattle.sixel_emulator_rules.specs.Counts.{in_order}
+use Rattle.sixel_emulator_rules.specs.Names.{name_of}
+use Rattle.sixel_emulator_rules.specs.declared.asked_rules.AskedRules.{AskedRules}
+use Rattle.sixel_emulator_rules.specs.declared.rule.AskedRule.TheVariants.{RasterLate, Dropped, Stale, Large, Rows}
+use Rattle.sixel_emulator_rules.specs.declared.rule.AskedRule.TheVariants.{Past, Hue}
+use Rattle.sixel_emulator_rules.specs.declared.rule.AskedRule.TheVariants.{Far, Introducer, Bare, SpaceAfter}
 use Rattle.sixel_emulator_rules.specs.declared.terminals.Terminals.{Terminals}
 use Rattle.sixel_ppm.specs.PpmReading as ppm
 use Rattle.sixel_terminal.specs.Limits.{most_screen_side}
@@ -96,9 +103,43 @@ AreSamples text colour = (r : Text) × (g : Text) × (b : Text) × (red : ℕ) �
     × (text ≡ codes "#" ++ r ++ g ++ b) × IsSample r red × IsSample g green × IsSample b blue
     × (colour ≡ ppm.colour_of 255 red green blue)
 
--- the text is this colour, in percentages or in samples
+-- the text is this name, in any case of letters
+abbrev pub is_called : Text → Text → Bool
+is_called name text = str_eq_ignore_ascii_case text name
+
+-- the text is `#` and three hexadecimal digits, each of which stands for two
+abbrev pub AreShortSamples : Text → Parts → Type 0
+AreShortSamples text colour = (r : ℕ) × (g : ℕ) × (b : ℕ) × (text ≡ codes "#" ++ r ∷ g ∷ b ∷ [])
+    × AreSamples (codes "#" ++ r ∷ r ∷ g ∷ g ∷ b ∷ b ∷ []) colour
+
+-- the basic colours of CSS. Of their samples 128 is 50 percent, and 192 is 75
+abbrev pub basic_colours : List (Text × Parts)
+basic_colours =
+    (codes "black", Rgb 0 0 0)
+    ∷ (codes "silver", Rgb 75 75 75)
+    ∷ (codes "gray", Rgb 50 50 50)
+    ∷ (codes "white", Rgb 100 100 100)
+    ∷ (codes "maroon", Rgb 50 0 0)
+    ∷ (codes "red", Rgb 100 0 0)
+    ∷ (codes "purple", Rgb 50 0 50)
+    ∷ (codes "fuchsia", Rgb 100 0 100)
+    ∷ (codes "green", Rgb 0 50 0)
+    ∷ (codes "lime", Rgb 0 100 0)
+    ∷ (codes "olive", Rgb 50 50 0)
+    ∷ (codes "yellow", Rgb 100 100 0)
+    ∷ (codes "navy", Rgb 0 0 50)
+    ∷ (codes "blue", Rgb 0 0 100)
+    ∷ (codes "teal", Rgb 0 50 50)
+    ∷ (codes "aqua", Rgb 0 100 100) ∷ []
+
+-- the basic colour with this name, in any case of letters
+abbrev pub basic_colour : Text → Option Parts
+basic_colour text = option_map (λ c. c.1) (find (λ c. is_called c.0 text) basic_colours)
+
+-- the text is this colour, in percentages, in samples or by its name
 abbrev pub IsColourText : Text → Parts → Type 0
-IsColourText text colour = ArePercentages text colour ⊎ AreSamples text colour
+IsColourText text colour = ArePercentages text colour ⊎ AreSamples text colour ⊎ AreShortSamples text colour
+    ⊎ (basic_colour text ≡ Some colour)
 
 -- the value of the option is this colour
 abbrev pub HasColour : Text → List Row → Parts → Type 0
@@ -125,10 +166,6 @@ terminal_name Konsole = codes "konsole"
 abbrev pub terminal_names : List Text
 terminal_names = map terminal_name (XTerm ∷ MlTerm ∷ Foot ∷ Konsole ∷ [])
 
--- the text is this name, in any case of letters
-abbrev pub is_called : Text → Text → Bool
-is_called name text = str_eq_ignore_ascii_case text name
-
 -- the text is the name of a terminal
 abbrev pub is_terminal : Text → Bool
 is_terminal text = list_any (λ name. is_called name text) terminal_names
@@ -139,14 +176,18 @@ HasNamed rows named = (text : Text) × (first_of (codes "on") rows ≡ Some text
     × (is_called (terminal_name named) text ≡ true)
 
 abbrev pub no_terminals : Terminals
-no_terminals = record { xterm = false; mlterm = false; foot = false; konsole = false }
+no_terminals = record { xterm = false; mlterm = false; foot = false; konsole = false; ignored = no_rules }
 
 abbrev pub all_terminals : Terminals
-all_terminals = record { xterm = true; mlterm = true; foot = true; konsole = true }
+all_terminals = record { xterm = true; mlterm = true; foot = true; konsole = true; ignored = no_rules }
 
 -- the parts of a text between its commas
 abbrev pub parts_of : Text → List Text
 parts_of text = slice_split (λ byte. byte == 44) text
+
+-- the name is one of the parts of the text
+abbrev pub has_part : Text → Text → Bool
+has_part name text = list_any (is_called name) (parts_of text)
 
 -- the text names terminals: it is `all`, or each of its parts is the name of one
 abbrev pub names_terminals : Text → Bool
@@ -154,28 +195,69 @@ names_terminals text = is_called (codes "all") text || list_all is_terminal (par
 
 -- the text names the terminal with this name
 abbrev pub names_it : Text → Text → Bool
-names_it name text = is_called (codes "all") text || list_any (is_called name) (parts_of text)
+names_it name text = is_called (codes "all") text || has_part name text
 
--- the terminals that one of the texts names
-abbrev pub terminals_in : List Text → Terminals
-terminals_in texts = record {
+-- the terminals that one of the texts names, without these rules
+abbrev pub terminals_in : List Text → AskedRules → Terminals
+terminals_in texts ignored = record {
   xterm = list_any (names_it (terminal_name XTerm)) texts;
   mlterm = list_any (names_it (terminal_name MlTerm)) texts;
   foot = list_any (names_it (terminal_name Foot)) texts;
   konsole = list_any (names_it (terminal_name Konsole)) texts;
+  ignored = ignored;
 }
 
--- each of the texts names terminals, and they are these
-abbrev pub NameTerminals : List Text → Terminals → Type 0
-NameTerminals texts terminals = (list_all names_terminals texts ≡ true) × (terminals ≡ terminals_in texts)
+-- each of the texts names terminals, and they are these, without these rules
+abbrev pub NameTerminals : List Text → AskedRules → Terminals → Type 0
+NameTerminals texts ignored terminals =
+    (list_all names_terminals texts ≡ true) × (terminals ≡ terminals_in texts ignored)
 
 -- the values of `--on`, of all its uses
 abbrev pub on_values : List Row → List Text
 on_values rows = unwrap_or (all_of (codes "on") rows) []
 
--- the values of `--on` name these terminals; without the option there are none
-abbrev pub HasTerminals : List Row → Terminals → Type 0
-HasTerminals rows = NameTerminals (on_values rows)
+-- the text is the name of a rule of named terminals
+abbrev pub is_rule : Text → Bool
+is_rule text = list_any (λ rule. is_called (name_of rule) text) in_order
+
+-- each part of the text is such a name
+abbrev pub names_rules : Text → Bool
+names_rules text = list_all is_rule (parts_of text)
+
+-- the rules that one of the texts names
+abbrev pub rules_in : List Text → AskedRules
+rules_in texts = record {
+  raster_late = list_any (has_part (name_of RasterLate)) texts;
+  dropped = list_any (has_part (name_of Dropped)) texts;
+  stale = list_any (has_part (name_of Stale)) texts;
+  large = list_any (has_part (name_of Large)) texts;
+  rows = list_any (has_part (name_of Rows)) texts;
+  past = list_any (has_part (name_of Past)) texts;
+  hue = list_any (has_part (name_of Hue)) texts;
+  far = list_any (has_part (name_of Far)) texts;
+  introducer = list_any (has_part (name_of Introducer)) texts;
+  bare = list_any (has_part (name_of Bare)) texts;
+  space_after = list_any (has_part (name_of SpaceAfter)) texts;
+}
+
+-- each of the texts names rules, and they are these
+abbrev pub NameRules : List Text → AskedRules → Type 0
+NameRules texts rules = (list_all names_rules texts ≡ true) × (rules ≡ rules_in texts)
+
+-- the values of `--ignore`, of all its uses
+abbrev pub ignore_values : List Row → List Text
+ignore_values rows = unwrap_or (all_of (codes "ignore") rows) []
+
+-- the values of `--ignore` name these rules; without the option there are none
+abbrev pub HasIgnored : List Row → AskedRules → Type 0
+HasIgnored rows = NameRules (ignore_values rows)
+
+-- the values of `--on` name these terminals, and those of `--ignore` the rules that don't count. Without `--on` there are
+-- no terminals, and no rules are ignored
+pub record HasTerminals (rows : List Row) (terminals : Terminals) : Type 0 where
+  pub ignored : HasIgnored rows terminals.ignored
+  pub named : NameTerminals (on_values rows) terminals.ignored terminals
+  pub together : all_of (codes "on") rows ≡ None → terminals.ignored ≡ no_rules
 
 -- a flag that describes the terminal of `show` is given
 abbrev pub describes : List Row → Bool

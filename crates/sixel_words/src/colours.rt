@@ -4,8 +4,10 @@ ghost use Rattle.std.specs.Prelude.{◌≡◌, ◌∷◌, ◌<◌, ◌≤◌, []
 ghost use Rattle.std.specs.Char.{digit_value};
 ghost use Rattle.sixel_model.specs.declared.colour.Parts.{Parts};
 ghost use Rattle.sixel_ppm.specs.PpmReading.{percent};
-ghost use Rattle.sixel_words.specs.Words.{ArePercentages, AreSamples, IsColourText, IsPercentage, IsSample};
+ghost use Rattle.sixel_words.specs.Words.{ArePercentages, AreSamples, AreShortSamples, IsColourText, IsPercentage};
+ghost use Rattle.sixel_words.specs.Words.{IsSample, basic_colour};
 
+use crate::show_words::is_called;
 use sixel_model::Colour;
 
 /// The percentage that a text is.
@@ -58,28 +60,92 @@ fn percent_of(high: u8, low: u8) -> Option<u8>
     Some(share as u8)
 }
 
+/// The colour with the samples that these digits are, two for each of red, green and blue.
+fn colour_of_digits(a: u8, b: u8, c: u8, d: u8, e: u8, f: u8) -> Option<Colour>
+    ensures some { IfSome result (AreSamples (35 ∷ a ∷ b ∷ c ∷ d ∷ e ∷ f ∷ [])) }
+    ensures none { IsNone result → (colour : Parts) → AreSamples (35 ∷ a ∷ b ∷ c ∷ d ∷ e ∷ f ∷ []) colour → ⊥ }
+{
+    let red = percent_of(a, b)?;
+    let green = percent_of(c, d)?;
+    let blue = percent_of(e, f)?;
+    Some(Colour::of_percentages(red, green, blue))
+}
+
 /// The colour that a text such as `#ff0080` is: the samples of red, green and blue.
 fn colour_of_samples(text: &str) -> Option<Colour>
     ensures some { IfSome result (AreSamples text.now) }
     ensures none { IsNone result → (colour : Parts) → AreSamples text.now colour → ⊥ }
 {
     match text.as_bytes() {
-        [b'#', a, b, c, d, e, f] => {
-            let red = percent_of(*a, *b)?;
-            let green = percent_of(*c, *d)?;
-            let blue = percent_of(*e, *f)?;
-            Some(Colour::of_percentages(red, green, blue))
-        }
+        [b'#', a, b, c, d, e, f] => colour_of_digits(*a, *b, *c, *d, *e, *f),
         _ => None,
     }
 }
 
-/// The colour that a text is: three percentages, or `#` and three samples.
+/// The colour that a text such as `#f08` is: samples of which each digit counts twice.
+fn colour_of_short_samples(text: &str) -> Option<Colour>
+    ensures some { IfSome result (AreShortSamples text.now) }
+    ensures none { IsNone result → (colour : Parts) → AreShortSamples text.now colour → ⊥ }
+{
+    match text.as_bytes() {
+        [b'#', red, green, blue] => colour_of_digits(*red, *red, *green, *green, *blue, *blue),
+        _ => None,
+    }
+}
+
+/// The basic colour of CSS with this name, in any case of letters.
+fn colour_named(text: &str) -> Option<Colour>
+    ensures { result ≡ basic_colour text.now }
+{
+    if is_called(text, "black") {
+        Some(Colour::of_percentages(0, 0, 0))
+    } else if is_called(text, "silver") {
+        Some(Colour::of_percentages(75, 75, 75))
+    } else if is_called(text, "gray") {
+        Some(Colour::of_percentages(50, 50, 50))
+    } else if is_called(text, "white") {
+        Some(Colour::of_percentages(100, 100, 100))
+    } else if is_called(text, "maroon") {
+        Some(Colour::of_percentages(50, 0, 0))
+    } else if is_called(text, "red") {
+        Some(Colour::of_percentages(100, 0, 0))
+    } else if is_called(text, "purple") {
+        Some(Colour::of_percentages(50, 0, 50))
+    } else if is_called(text, "fuchsia") {
+        Some(Colour::of_percentages(100, 0, 100))
+    } else if is_called(text, "green") {
+        Some(Colour::of_percentages(0, 50, 0))
+    } else if is_called(text, "lime") {
+        Some(Colour::of_percentages(0, 100, 0))
+    } else if is_called(text, "olive") {
+        Some(Colour::of_percentages(50, 50, 0))
+    } else if is_called(text, "yellow") {
+        Some(Colour::of_percentages(100, 100, 0))
+    } else if is_called(text, "navy") {
+        Some(Colour::of_percentages(0, 0, 50))
+    } else if is_called(text, "blue") {
+        Some(Colour::of_percentages(0, 0, 100))
+    } else if is_called(text, "teal") {
+        Some(Colour::of_percentages(0, 50, 50))
+    } else if is_called(text, "aqua") {
+        Some(Colour::of_percentages(0, 100, 100))
+    } else {
+        None
+    }
+}
+
+/// The colour that a text is: three percentages, `#` and three samples, or a name.
 pub fn colour_of(text: &str) -> Option<Colour>
     ensures some { IfSome result (IsColourText text.now) }
     ensures none { IsNone result → (colour : Parts) → IsColourText text.now colour → ⊥ }
 {
-    match colour_of_samples(text) {
+    if let Some(colour) = colour_named(text) {
+        return Some(colour);
+    }
+    if let Some(colour) = colour_of_samples(text) {
+        return Some(colour);
+    }
+    match colour_of_short_samples(text) {
         Some(colour) => Some(colour),
         None => colour_of_percentages(text),
     }

@@ -12,7 +12,7 @@ ghost use Rattle.sixel_words.specs.Words.{IsNoHelp, IsSortedOut, IsTask, IsTaskO
 ghost use Rattle.sixel_words.specs.Words.{kinds_of, lines_of};
 ghost use Rattle.sixel_explain.specs.Explanations.{Asks};
 
-use crate::check_words::{check_task, survey_task, unnamed_value};
+use crate::check_words::{check_task, names_fault, survey_task};
 use crate::differ_words::{differ_error, differ_task};
 use crate::explain_errors::explain_error;
 use crate::options::{colour_in, flag_of, profile_of};
@@ -126,12 +126,12 @@ fn unexplained(alloc: Global, said: &[&str]) -> WordsFault
     }
 }
 
-/// A usage error of `check`: a value of `--on` names no terminals.
+/// A usage error of `check`: its terminals, or the rules to ignore.
 fn unchecked(alloc: Global, matches: &ArgMatches<'_>) -> WordsFault
     ensures sorted { IsSortedOut result }
     ensures refusal { IsRefusal result }
 {
-    match unchecked_error(alloc, unnamed_value(matches).unwrap_or("")) {
+    match unchecked_error(alloc, names_fault(matches)) {
         Ok(unchecked) => WordsFault::Usage(unchecked),
         Err(_) => WordsFault::OutOfMemory,
     }
@@ -142,7 +142,7 @@ fn unsurveyed(alloc: Global, matches: &ArgMatches<'_>) -> WordsFault
     ensures sorted { IsSortedOut result }
     ensures refusal { IsRefusal result }
 {
-    match unsurveyed_error(alloc, unnamed_value(matches).unwrap_or("")) {
+    match unsurveyed_error(alloc, names_fault(matches)) {
         Ok(unsurveyed) => WordsFault::Usage(unsurveyed),
         Err(_) => WordsFault::OutOfMemory,
     }

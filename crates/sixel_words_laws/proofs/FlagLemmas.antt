@@ -14,7 +14,8 @@ use Rattle.sixel_model.specs.declared.profile.Profile.TheVariants.{Registers16, 
 use Rattle.sixel_report.specs.declared.task.Task.TheVariants.{Check}
 use Rattle.sixel_words.specs.Words.{HasTerminals, IsRequestOf, files_of, is_among, is_given, lines_of, no_terminals}
 use Rattle.sixel_words.specs.Words.{profile_of}
-use Rattle.sixel_commands.specs.Commands.{check_app, sixel_app}
+use Rattle.sixel_words.proofs.NamesLemmas.{has_nobody}
+use Rattle.sixel_commands.specs.Commands.{checking_app, sixel_app}
 use Rattle.sixel_words_laws.specs.Laws.{check_flags}
 use Rattle.sixel_report.specs.declared.wanted_lines.Lines.TheVariants.{Nothing, Plain}
 
@@ -23,7 +24,7 @@ whole = built sixel_app
 
 -- `check`, as it is built
 abbrev shape : Shape
-shape = unwrap_or (find (λ s. answers_to (codes "check") (label_of s)) whole.subs) check_app.top
+shape = unwrap_or (find (λ s. answers_to (codes "check") (label_of s)) whole.subs) (checking_app (codes "check")).top
 
 -- which flags were given, and which of two was given last
 data Given : Type 0 where
@@ -268,13 +269,22 @@ record AsksSo (g : Given) : Type 0 where
   pub explains : is_given (codes "explain") (rows_for g) ≡ false
   pub files : files_of (rows_for g) ≡ []
 
+-- neither `--on` nor `--ignore` is among the flags
+named_nobody : (g : Given) → HasTerminals (rows_for g) no_terminals
+unfolding walked
+named_nobody none = has_nobody (rows_for none) refl refl
+named_nobody wide = has_nobody (rows_for wide) refl refl
+named_nobody quiet = has_nobody (rows_for quiet) refl refl
+named_nobody wide_quiet = has_nobody (rows_for wide_quiet) refl refl
+named_nobody quiet_wide = has_nobody (rows_for quiet_wide) refl refl
+
 asks_so : (g : Given) → AsksSo g
 unfolding walked
-asks_so none = record { profile = refl; terminals = (refl, refl); lines = refl; explains = refl; files = refl }
-asks_so wide = record { profile = refl; terminals = (refl, refl); lines = refl; explains = refl; files = refl }
-asks_so quiet = record { profile = refl; terminals = (refl, refl); lines = refl; explains = refl; files = refl }
-asks_so wide_quiet = record { profile = refl; terminals = (refl, refl); lines = refl; explains = refl; files = refl }
-asks_so quiet_wide = record { profile = refl; terminals = (refl, refl); lines = refl; explains = refl; files = refl }
+asks_so none = record { profile = refl; terminals = named_nobody none; lines = refl; explains = refl; files = refl }
+asks_so wide = record { profile = refl; terminals = named_nobody wide; lines = refl; explains = refl; files = refl }
+asks_so quiet = record { profile = refl; terminals = named_nobody quiet; lines = refl; explains = refl; files = refl }
+asks_so wide_quiet = record { profile = refl; terminals = named_nobody wide_quiet; lines = refl; explains = refl; files = refl }
+asks_so quiet_wide = record { profile = refl; terminals = named_nobody quiet_wide; lines = refl; explains = refl; files = refl }
 
 pub flags_ask : (program : Text) (flags : List Text) → AreFlags flags
     → IsRequestOf (program ∷ codes "check" ∷ flags)

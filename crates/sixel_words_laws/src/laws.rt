@@ -6,6 +6,7 @@ ghost use Rattle.sixel_model.specs.declared.profile.Profile.TheVariants.{Registe
 ghost use Rattle.clap.specs.Takes.{takes};
 ghost use Rattle.clap.specs.declared.error.kind.ErrorKind.TheVariants.{DisplayHelp, DisplayVersion, MissingSubcommand};
 ghost use Rattle.clap.specs.declared.error.kind.ErrorKind.TheVariants.{UnknownArgument, ValueValidation};
+ghost use Rattle.sixel_emulator_rules.specs.Asked.{no_rules};
 ghost use Rattle.sixel_explain.specs.declared.explanations.Topic.{Topic};
 ghost use Rattle.sixel_named_terminals.specs.declared.named.Named.TheVariants.{Konsole, XTerm};
 ghost use Rattle.sixel_report.specs.declared.task.Area.TheVariants.{Box, Sides};
@@ -46,14 +47,14 @@ pub fn the_option_on_names_terminals()
         takes sixel_app (program ∷ codes "check" ∷ codes "--on" ∷ codes "xterm,Foot,xterm" ∷ []) ≡ true }
     ensures several { (program : Text) →
         IsTaskOf (program ∷ codes "check" ∷ codes "--on" ∷ codes "xterm,Foot,xterm" ∷ [])
-        (Check Registers16 (record { xterm = true; mlterm = false; foot = true; konsole = false })) }
+        (Check Registers16 (record no_terminals { xterm = true; foot = true })) }
     ensures every { (program : Text) → IsTaskOf (program ∷ codes "survey" ∷ codes "--on" ∷ codes "ALL" ∷ [])
         (Survey Registers16 all_terminals) }
     ensures both_taken { (program : Text) → takes sixel_app (program ∷ codes "check" ∷ codes "--on" ∷ codes "xterm"
         ∷ codes "--on" ∷ codes "foot" ∷ []) ≡ true }
     ensures both { (program : Text) →
         IsTaskOf (program ∷ codes "check" ∷ codes "--on" ∷ codes "xterm" ∷ codes "--on" ∷ codes "foot" ∷ [])
-        (Check Registers16 (record { xterm = true; mlterm = false; foot = true; konsole = false })) }
+        (Check Registers16 (record no_terminals { xterm = true; foot = true })) }
     ensures one_is_wrong { (program : Text) (task : Task) → IsTaskOf
         (program ∷ codes "check" ∷ codes "--on" ∷ codes "kitty" ∷ codes "--on" ∷ codes "konsole" ∷ []) task → ⊥ }
     ensures no_other_name { (program : Text) (task : Task) →
@@ -64,6 +65,28 @@ pub fn the_option_on_names_terminals()
         IsTaskOf (program ∷ codes "check" ∷ codes "--on" ∷ [] ∷ []) task → ⊥ }
     ensures no_more_than_all { (program : Text) (task : Task) →
         IsTaskOf (program ∷ codes "check" ∷ codes "--on" ∷ codes "all,foot" ∷ []) task → ⊥ }
+{}
+
+/// `--ignore` beside `--on` leaves out the rules that it names, in any case of letters: all that one of its values names.
+/// There is no task without `--on`, for a rule of portable pictures, and if a part between commas is no name of a rule.
+pub fn the_option_ignore_leaves_out_rules()
+    ensures taken { (program : Text) → takes sixel_app (program ∷ codes "check" ∷ codes "--on" ∷ codes "all"
+        ∷ codes "--ignore" ∷ codes "Rows" ∷ []) ≡ true }
+    ensures one { (program : Text) → IsTaskOf
+        (program ∷ codes "check" ∷ codes "--on" ∷ codes "all" ∷ codes "--ignore" ∷ codes "Rows" ∷ [])
+        (Check Registers16 (record all_terminals { ignored = record no_rules { rows = true } })) }
+    ensures several { (program : Text) → IsTaskOf (program ∷ codes "survey" ∷ codes "--ignore" ∷ codes "Hue" ∷ codes "--on"
+        ∷ codes "xterm" ∷ codes "--ignore" ∷ codes "rows,BARE" ∷ [])
+        (Survey Registers16 (record no_terminals {
+          xterm = true;
+          ignored = record no_rules { rows = true; hue = true; bare = true };
+        })) }
+    ensures not_alone { (program : Text) (task : Task) →
+        IsTaskOf (program ∷ codes "check" ∷ codes "--ignore" ∷ codes "Rows" ∷ []) task → ⊥ }
+    ensures no_portable_rule { (program : Text) (task : Task) → IsTaskOf (program ∷ codes "check" ∷ codes "--on"
+        ∷ codes "all" ∷ codes "--ignore" ∷ codes "Ratio" ∷ []) task → ⊥ }
+    ensures no_other_name { (program : Text) (task : Task) → IsTaskOf (program ∷ codes "survey" ∷ codes "--on"
+        ∷ codes "all" ∷ codes "--ignore" ∷ codes "Rows," ∷ []) task → ⊥ }
 {}
 
 /// `sixel scan` is accepted, and scans with 16 registers and without 8-bit controls. So it is with `--wide` and
@@ -79,7 +102,7 @@ pub fn the_word_scan_gives_a_scan()
 {}
 
 /// `sixel mend` is accepted, and mends without any flag, with 16 registers and a black background. So is `--background`,
-/// whose colour is red, green and blue: three percentages, or `#` and three samples. So is `-q`, for no note.
+/// whose colour is red, green and blue: three percentages, `#` and three samples, or a name. So is `-q`, for no note.
 pub fn the_word_mend_gives_a_mend()
     ensures taken { (program : Text) → takes sixel_app (program ∷ codes "mend" ∷ []) ≡ true }
     ensures task { (program : Text) →
@@ -94,6 +117,9 @@ pub fn the_word_mend_gives_a_mend()
     ensures sampled { (program : Text) →
         IsTaskOf (program ∷ codes "mend" ∷ codes "--background" ∷ codes "#Ff8002" ∷ [])
         (Mend Registers16 (Rgb 100 50 1) false false) }
+    ensures called { (program : Text) →
+        IsTaskOf (program ∷ codes "mend" ∷ codes "--background" ∷ codes "Navy" ∷ [])
+        (Mend Registers16 (Rgb 0 0 50) false false) }
     ensures quiet { (program : Text) → IsRequestOf (program ∷ codes "mend" ∷ codes "-q" ∷ [])
         (Mend Registers16 (Rgb 0 0 0) false false) (Nothing false) false [] }
 {}

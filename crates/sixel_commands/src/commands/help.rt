@@ -26,13 +26,16 @@ line on standard error says how many of several files aren't portable.
 Terminals that were measured have rules of their own: xterm, for example, draws
 nothing of a box with a side above 1,000 pixels. These rules count with --on.
 NAMES are one or more of xterm, mlterm, foot and konsole, with commas between
-them, or all.
+them, or all. --ignore leaves out the rules that it names: konsole, for example,
+fills up to five rows below a picture whose height is no multiple of six, which
+is the rule Rows.
 
 Exit status: 0 portable, 1 broken, 2 refused, 3 usage error; with several files
 the greatest.
 
 Examples: sixel check plots/*.six
-          sixel check --on xterm,foot plot.six";
+          sixel check --on xterm,foot plot.six
+          sixel check --on all --ignore Rows,Past plot.six";
 
 pub const SURVEY: &str =
     "Reads sixel text from each FILE in turn or, without one, from standard input.
@@ -41,8 +44,9 @@ broken, the byte offset of the first time and, for two rules, a pixel. If none
 is broken, it writes `portable` and the size. With files, each line starts with
 `FILE: `. If a file is refused, the reason goes to standard error, and the files
 after it are still read. sixel explain NAME says what a rule or a refusal means,
-and how to fix it. With --on NAMES the rules of these terminals count, too, as
-in check.
+and how to fix it. With --on NAMES the rules of these terminals count, too, but
+for those of --ignore, as in check. With --failed the last line on standard
+error says how many of several files aren't portable.
 
 Exit status: 0 portable, 1 broken, 2 refused, 3 usage error; with several files
 the greatest.
@@ -118,10 +122,11 @@ terminal would, and writes what that shows to standard output, as portable sixel
 text. The terminal has 256 registers, which start as the VT340's 16 colours over
 and over. The picture is as large as the declared box, and larger if something
 is painted outside it. Black ink is lost on a black background: for a plot or a
-page, choose a white one. COLOUR is three percentages, as in 100,50,0, or three
-samples, as in '#ff8000', each of which becomes the nearest percentage. Refused:
-a picture without pixels, with a side above 2,048, or of more than 16 colours,
-or 256 with --wide.
+page, choose a white one. COLOUR is three percentages, as in 100,50,0; or three
+samples, as in '#ff8000' or '#f80', each of which becomes the nearest
+percentage; or one of the 16 basic colours of CSS, as in navy. Refused: a
+picture without pixels, with a side above 2,048, or of more than 16 colours, or
+256 with --wide.
 
 Exit status: 0 done, 2 refused, 3 usage error.
 

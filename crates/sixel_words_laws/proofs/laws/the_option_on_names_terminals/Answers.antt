@@ -18,7 +18,7 @@ returns-clause-several c = λ program. (
   codes "check",
   _,
   refl,
-  (refl, refl, (refl, refl)),
+  (refl, refl, record { ignored = (refl, refl); named = (refl, refl); together = λ none. refl }),
 )
 
 pub returns-clause-every : goal.returns-clause-every
@@ -27,7 +27,7 @@ returns-clause-every c = λ program. (
   codes "survey",
   _,
   refl,
-  (refl, refl, (refl, refl)),
+  (refl, refl, record { ignored = (refl, refl); named = (refl, refl); together = λ none. refl }),
 )
 
 pub returns-clause-both_taken : goal.returns-clause-both_taken
@@ -40,7 +40,7 @@ returns-clause-both c = λ program. (
   codes "check",
   _,
   refl,
-  (refl, refl, (refl, refl)),
+  (refl, refl, record { ignored = (refl, refl); named = (refl, refl); together = λ none. refl }),
 )
 
 pub returns-clause-one_is_wrong : goal.returns-clause-one_is_wrong

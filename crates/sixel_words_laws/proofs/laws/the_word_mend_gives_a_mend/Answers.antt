@@ -83,7 +83,7 @@ returns-clause-sampled c = λ program. (
     (
       codes "#Ff8002",
       refl,
-      inr (
+      inr (inl (
         codes "Ff",
         codes "80",
         codes "02",
@@ -95,7 +95,7 @@ returns-clause-sampled c = λ program. (
         half_sample,
         low_sample,
         refl,
-      ),
+      )),
     ),
     refl,
     refl,
@@ -105,3 +105,12 @@ returns-clause-sampled c = λ program. (
 pub returns-clause-sampled_taken : goal.returns-clause-sampled_taken
 unfolding walked walk_passes
 returns-clause-sampled_taken c = λ program. refl
+
+pub returns-clause-called : goal.returns-clause-called
+unfolding walked
+returns-clause-called c = λ program. (
+  codes "mend",
+  _,
+  refl,
+  (refl, refl, (codes "Navy", refl, inr (inr (inr refl))), refl, refl),
+)
