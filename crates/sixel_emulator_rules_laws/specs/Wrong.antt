@@ -1,0 +1,97 @@
+-- Where the terminals show the documents wrong that break one of their rules.
+use Rattle.std.specs.Prelude.{◌≡◌, ◌≢◌, ◌<◌, ◌≤◌, ◌&&◌, ℕ, Bool, IsTrue, List, Option, Some, nat_lt}
+use Rattle.std.specs.Prelude.{if◌then◌else◌}
+use Rattle.sixel_grammar.specs.declared.command.Event.{Event}
+use Rattle.sixel_model.specs.declared.colour.Parts.{Parts}
+use Rattle.sixel_model.specs.declared.colour.Parts.TheVariants.{Rgb, Hls}
+use Rattle.sixel_model.specs.Colours.{palette_at}
+use Rattle.sixel_model.specs.Pictures.{PictureValue, register_of}
+use Rattle.sixel_model.specs.Rules.{picture_left}
+use Rattle.sixel_terminal.specs.Drawing.{shown_on}
+use Rattle.sixel_emulator.specs.Readings.{EndsAt, IsReading, IsSaid}
+use Rattle.sixel_mlterm.specs.MlTerm.{mlterm_model}
+use Rattle.sixel_named_terminals.specs.declared.named.Named.{Named}
+use Rattle.sixel_named_terminals.specs.declared.named.Named.TheVariants.{MlTerm}
+use Rattle.sixel_named_terminals.specs.Named.{model_of, terminal_on}
+use Rattle.sixel_emulator_rules.specs.Asked.{asks}
+use Rattle.sixel_emulator_rules.specs.declared.rule.AskedRule.{AskedRule}
+use Rattle.sixel_emulator_rules.specs.declared.rule.AskedRule.TheVariants.{RasterLate, Dropped, Stale, Large, Rows}
+use Rattle.sixel_emulator_rules.specs.declared.rule.AskedRule.TheVariants.{Past, Hue}
+use Rattle.sixel_emulator_rules.specs.declared.rule.AskedRule.TheVariants.{Far, Introducer, Bare, SpaceAfter}
+use Rattle.sixel_emulator_rules_laws.specs.Witnesses.{is_of_events, witness_of}
+
+abbrev pub white_parts : Parts
+white_parts = Rgb 100 100 100
+
+abbrev pub black_parts : Parts
+black_parts = Rgb 0 0 0
+
+-- a pixel, counted from the top left of a screen, the colour that it is shown in, and the one that is wanted
+pub record Wrong : Type 0 where
+  pub x : ℕ
+  pub y : ℕ
+  pub shown : Parts
+  pub wanted : Parts
+
+abbrev pub wrong_at : ℕ → ℕ → Parts → Parts → Wrong
+wrong_at x y shown wanted = record { x = x; y = y; shown = shown; wanted = wanted }
+
+-- where the witness of the rule is shown wrong, by a terminal that asks for the rule and isn't mlterm
+abbrev pub wrong_of : AskedRule → Wrong
+-- konsole fills 30 columns
+wrong_of RasterLate = wrong_at 1 0 black_parts white_parts
+-- on konsole register 1 is blue at the start
+wrong_of Dropped = wrong_at 0 0 (Rgb 20 20 80) (Rgb 100 0 0)
+-- foot paints black in a register that had no colour
+wrong_of Stale = wrong_at 0 0 black_parts (Rgb 100 0 0)
+-- xterm draws nothing
+wrong_of Large = wrong_at 0 0 white_parts black_parts
+-- konsole fills six rows
+wrong_of Rows = wrong_at 0 1 black_parts white_parts
+-- konsole fills the band of the blank
+wrong_of Past = wrong_at 0 6 black_parts white_parts
+-- xterm takes the hue down to a multiple of 60
+wrong_of Hue = wrong_at 0 0 (Hls 0 50 100) (Hls 30 50 100)
+-- xterm draws nothing
+wrong_of Introducer = wrong_at 0 0 white_parts black_parts
+-- only mlterm asks for this, and of these events don't tell
+wrong_of Far = wrong_at 0 0 black_parts black_parts
+wrong_of Bare = wrong_at 0 0 black_parts black_parts
+wrong_of SpaceAfter = wrong_at 0 0 black_parts black_parts
+
+-- the pixel is one of the picture at the top left
+abbrev pub is_inside : PictureValue → ℕ → ℕ → Bool
+is_inside p x y = nat_lt x p.width && nat_lt y p.height
+
+-- the colour of the picture at the top left, and white around it
+abbrev pub wanted_at : PictureValue → ℕ → ℕ → Option Parts
+wanted_at p x y = if is_inside p x y then palette_at p.palette (register_of p x y) else Some white_parts
+
+-- the model of the terminal says all of the document. On some white screen with room for the picture that the events
+-- leave, and for the pixel, it shows the pixel in this colour; the picture has the other there, or white is around it
+pub record IsShownOtherwise (named : Named) (registers : ℕ) (events : List Event) (w : Wrong) : Type 0 where
+  pub said : IsSaid (model_of named) events
+  pub drawing : List Event
+  pub is_reading : IsReading (model_of named) events drawing
+  pub sides : ℕ × ℕ
+  pub across : (picture_left registers events).width ≤ sides.0
+  pub down : (picture_left registers events).height ≤ sides.1
+  pub right : w.x < sides.0
+  pub below : w.y < sides.1
+  pub is_shown : shown_on (terminal_on named white_parts ((model_of named).opening events) sides) drawing w.x w.y
+      ≡ w.shown
+  pub is_wanted : wanted_at (picture_left registers events) w.x w.y ≡ Some w.wanted
+  pub differs : w.shown ≢ w.wanted
+
+-- ---- the laws
+
+-- each terminal but mlterm shows a pixel otherwise, if the document breaks a rule alone that it asks for
+abbrev pub EachWitnessHasAPixel : Type 0
+EachWitnessHasAPixel =
+    (named : Named) (rule : AskedRule) (registers : ℕ) → IsTrue (asks named rule) → IsTrue (is_of_events rule)
+    → named ≢ MlTerm → 16 ≤ registers → IsShownOtherwise named registers (witness_of rule) (wrong_of rule)
+
+-- mlterm's model ends at the event that breaks a rule that mlterm asks for
+abbrev pub MlTermEndsAtEach : Type 0
+MlTermEndsAtEach =
+    EndsAt mlterm_model (witness_of Far) 6 × EndsAt mlterm_model (witness_of Introducer) 0
