@@ -8,7 +8,7 @@ use Rattle.std.proofs.lemmas.Bool.{cases_lt, or_parts}
 use Rattle.sixel_grammar.specs.declared.command.Command.TheVariants.{CarriageReturn, Define, NextLine, Raster, Select}
 use Rattle.sixel_grammar.specs.declared.command.Command.TheVariants.{Sixel}
 use Rattle.sixel_grammar.specs.declared.command.Event.{Event}
-use Rattle.sixel_grammar.specs.declared.command.Event.TheVariants.{Step}
+use Rattle.sixel_grammar.specs.declared.command.Event.TheVariants.{Step, Finish}
 use Rattle.sixel_model.specs.declared.colour.Parts.{Parts}
 use Rattle.sixel_model.specs.declared.colour.Parts.TheVariants.{Rgb, Hls}
 use Rattle.sixel_model.specs.Geometry.{band, column, covers, falls, touches}
@@ -31,6 +31,7 @@ use Rattle.sixel_xterm.specs.XTerm.{xterm_model, xterm_pen}
 use Rattle.sixel_named_terminals.specs.Named.{terminal_on}
 use Rattle.sixel_emulator.specs.Readings.{EndsAt, IsReading, IsSaid, IsUnsaid, Model, StopsNowhereBelow, carries_on}
 use Rattle.sixel_emulator.specs.Readings.{drawn_by, is_stop, is_unsaid_control, read_at}
+use Rattle.sixel_emulator.specs.Heard.{zeros}
 use Rattle.sixel_emulator.specs.Readings.IsUnsaid.{Behaviour, Control}
 use Rattle.sixel_konsole.specs.Settings.{konsole_colours}
 use Rattle.sixel_xterm.specs.Settings.{xterm_colours}
@@ -41,10 +42,11 @@ use Rattle.sixel_emulator_rules.specs.declared.rule.AskedRule.{AskedRule}
 use Rattle.sixel_emulator_rules.specs.declared.rule.AskedRule.TheVariants.{RasterLate, Dropped, Stale, Large, Rows}
 use Rattle.sixel_emulator_rules.specs.declared.rule.AskedRule.TheVariants.{Past, Hue}
 use Rattle.sixel_emulator_rules.specs.declared.rule.AskedRule.TheVariants.{Far, Introducer, Bare, SpaceAfter}
-use Rattle.sixel_emulator_rules_laws.specs.Witnesses.{box, select, six_pixels, witness_of}
+use Rattle.sixel_emulator_rules_laws.specs.Witnesses.{black, box, introducer, select, six_pixels, witness_of}
+use Rattle.sixel_emulator_rules_laws.specs.Wrong.{BareStringIsShownWrong, bare_on}
 use Rattle.sixel_emulator_rules_laws.specs.Wrong.{EachWitnessHasAPixel, IsShownOtherwise, MlTermEndsAtEach}
 use Rattle.sixel_emulator_rules_laws.specs.Wrong.{is_inside, wanted_at, white_parts, wrong_of}
-use Rattle.sixel_emulator_rules_laws.proofs.WitnessLemmas.{none_below, unbroken_16}
+use Rattle.sixel_emulator_rules_laws.proofs.WitnessLemmas.{bare_alone, none_below, unbroken_16, unbroken_for}
 use Rattle.sixel_emulator_rules_laws.proofs.DrawingLemmas.{drawing_is_reading, foot_drawing}
 use Rattle.sixel_emulator_rules_laws.proofs.KonsoleSaidLemmas as konsole
 use Rattle.sixel_emulator_rules_laws.proofs.SaidLemmas as foot
@@ -426,6 +428,58 @@ introducer_ends = ends_at mlterm_model (witness_of Introducer) 0 (lit< tt) refl 
 
 pub mlterm_ends_at_each : MlTermEndsAtEach
 mlterm_ends_at_each = (far_ends, introducer_ends)
+
+-- ---- a select without a number
+
+-- what xterm and mlterm hear
+bare_heard : List Event
+bare_heard = introducer ∷ box ∷ black ∷ zeros ∷ six_pixels ∷ Finish false ∷ []
+
+xterm_hears : bare_on XTerm ≡ bare_heard
+unfolding bare_heard
+xterm_hears = refl
+
+mlterm_hears : bare_on MlTerm ≡ bare_heard
+unfolding bare_heard
+mlterm_hears = refl
+
+bare_said : IsSaid xterm_model bare_heard
+unfolding any_below greatest band latest xterm_pen after_each after_first bare_heard
+bare_said = stopped_said xterm_model bare_heard 3 refl refl refl
+
+bare_read : IsReading xterm_model bare_heard (black ∷ [])
+unfolding any_below greatest band latest xterm_pen after_each after_first bare_heard
+bare_read = record {
+  end = 3;
+  within = lit≤ tt;
+  goes_on = goes_below xterm_model bare_heard 3 refl;
+  stops = λ below. refl;
+  drawing_is = refl;
+}
+
+bare_shown : shown_on (terminal_on XTerm white_parts [] (1, 6)) (black ∷ []) 0 0 ≡ white_parts
+unfolding shown_on last_at last_below at_position is_seen_on paints_on is_kept_on touches_on touches covers any_below
+    height_of selected_on map_on latest earliest raster_before band column since xterm_colours
+bare_shown = refl
+
+bare_ends : EndsAt mlterm_model bare_heard 3
+unfolding any_below is_said_colour latest column band since after_each after_first bare_heard
+bare_ends = ends_at mlterm_model bare_heard 3 (lit< tt) refl refl refl
+
+pub bare_string_is_shown_wrong : BareStringIsShownWrong
+unfolding picture_left row_by_row register_at known raster_before earliest latest last_at last_below at_position falls
+    touches covers any_below band column since colour_of definition_of
+bare_string_is_shown_wrong registers le = record {
+  events_are = refl;
+  unbroken = unbroken_for registers Bare le;
+  alone = bare_alone;
+  said = subst (IsSaid xterm_model) (sym xterm_hears) bare_said;
+  drawing = black ∷ [];
+  is_reading = subst (λ (events : List Event). IsReading xterm_model events (black ∷ [])) (sym xterm_hears) bare_read;
+  is_shown = bare_shown;
+  is_wanted = first_wanted Bare registers 0 (Rgb 0 0 0) (lit< tt) le refl refl refl;
+  ends = subst (λ (events : List Event). EndsAt mlterm_model events 3) (sym mlterm_hears) bare_ends;
+}
 
 -- ---- all
 

@@ -211,26 +211,52 @@ not_stale SpaceAfter told other = cc
 
 -- ---- alone
 
-alone_by : (rule m : AskedRule) → IsTrue (is_of_events rule) → m ≢ rule
-    → any_at (tests m) (witness_of rule) ≡ false → HoldsNowhere (BreaksAsked m) (witness_of rule)
-alone_by rule RasterLate told other none = nowhere breaks_raster_late (witness_of rule) none
-alone_by rule Dropped told other none = nowhere breaks_dropped (witness_of rule) none
-alone_by rule Stale told other none = not_stale rule told other
-alone_by rule Large told other none = nowhere (λ before e. breaks_large e) (witness_of rule) none
-alone_by rule Rows told other none = nowhere (λ before e. breaks_rows e) (witness_of rule) none
-alone_by rule Past told other none = nowhere breaks_past (witness_of rule) none
-alone_by rule Hue told other none = nowhere (λ before e. breaks_hue e) (witness_of rule) none
-alone_by rule Far told other none = nowhere breaks_far (witness_of rule) none
-alone_by rule Introducer told other none = nowhere (λ before e. breaks_introducer e) (witness_of rule) none
-alone_by rule Bare told other none = λ i h. h.holds
-alone_by rule SpaceAfter told other none = λ i h. h.holds
+alone_in : (events : List Event) (m : AskedRule) → (m ≡ Stale → HoldsNowhere IsStale events)
+    → any_at (tests m) events ≡ false → HoldsNowhere (BreaksAsked m) events
+alone_in events RasterLate fresh none = nowhere breaks_raster_late events none
+alone_in events Dropped fresh none = nowhere breaks_dropped events none
+alone_in events Stale fresh none = fresh refl
+alone_in events Large fresh none = nowhere (λ before e. breaks_large e) events none
+alone_in events Rows fresh none = nowhere (λ before e. breaks_rows e) events none
+alone_in events Past fresh none = nowhere breaks_past events none
+alone_in events Hue fresh none = nowhere (λ before e. breaks_hue e) events none
+alone_in events Far fresh none = nowhere breaks_far events none
+alone_in events Introducer fresh none = nowhere (λ before e. breaks_introducer e) events none
+alone_in events Bare fresh none = λ i h. h.holds
+alone_in events SpaceAfter fresh none = λ i h. h.holds
 
 alone : (rule m : AskedRule) → IsTrue (is_of_events rule) → m ≢ rule → IsFalse (goes_with rule m)
     → HoldsNowhere (BreaksAsked m) (witness_of rule)
 alone rule m told other apart = elim (others rule m told) [
   | inl same ↦ absurd (other same)
-  | inr none ↦ alone_by rule m told other (none ∙ apart)
+  | inr none ↦ alone_in (witness_of rule) m (λ stale. not_stale rule told (λ same. other (stale ∙ same))) (none ∙ apart)
 ]
+
+-- the document that breaks nothing
+clean : (m : AskedRule) → any_at (tests m) (witness_of Bare) ≡ false
+unfolding breaks_raster_late breaks_dropped breaks_large breaks_rows breaks_past breaks_hue breaks_far breaks_introducer
+    any_at any_below passes_at raster_before earliest latest band column since
+clean RasterLate = refl
+clean Dropped = refl
+clean Stale = refl
+clean Large = refl
+clean Rows = refl
+clean Past = refl
+clean Hue = refl
+clean Far = refl
+clean Introducer = refl
+clean Bare = refl
+clean SpaceAfter = refl
+
+pub bare_alone : (m : AskedRule) → HoldsNowhere (BreaksAsked m) (witness_of Bare)
+bare_alone m =
+    alone_in (witness_of Bare) m
+    (λ stale. early (introducer ∷ box ∷ black ∷ []) ending (refl, (refl, (refl, tt))) (refl, (refl, (refl, tt))))
+    (clean m)
+
+pub unbroken_for : (registers : ℕ) (rule : AskedRule) → 16 ≤ registers
+    → BreaksNone registers last_rule (witness_of rule)
+unbroken_for registers rule le = none_less registers (witness_of rule) le (unbroken_16 rule)
 
 -- ---- the rule itself
 
@@ -286,7 +312,7 @@ whole_of SpaceAfter = refl
 pub each_rule_has_a_witness : EachRuleHasAWitness
 each_rule_has_a_witness rule told = record {
   whole = whole_of rule;
-  unbroken = λ registers le. none_less registers (witness_of rule) le (unbroken_16 rule);
+  unbroken = λ registers le. unbroken_for registers rule le;
   position = position_of rule;
   broken = broken_there rule told;
   alone = λ m other apart. alone rule m told other apart;

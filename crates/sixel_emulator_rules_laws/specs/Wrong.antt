@@ -1,24 +1,31 @@
 -- Where the terminals show the documents wrong that break one of their rules.
-use Rattle.std.specs.Prelude.{◌≡◌, ◌≢◌, ◌<◌, ◌≤◌, ◌&&◌, ℕ, Bool, IsTrue, List, Option, Some, nat_lt}
+use Rattle.std.specs.Prelude.{◌≡◌, ◌≢◌, ◌<◌, ◌≤◌, ◌&&◌, ◌∷◌, [], ℕ, Bool, false, IsTrue, List, Option, Some, nat_lt}
 use Rattle.std.specs.Prelude.{if◌then◌else◌}
+use Rattle.sixel_grammar.specs.Document.{events_of}
 use Rattle.sixel_grammar.specs.declared.command.Event.{Event}
+use Rattle.sixel_grammar.specs.declared.command.Event.TheVariants.{Finish}
+use Rattle.sixel_grammar.specs.declared.command.Placed.{Placed}
 use Rattle.sixel_model.specs.declared.colour.Parts.{Parts}
 use Rattle.sixel_model.specs.declared.colour.Parts.TheVariants.{Rgb, Hls}
 use Rattle.sixel_model.specs.Colours.{palette_at}
 use Rattle.sixel_model.specs.Pictures.{PictureValue, register_of}
-use Rattle.sixel_model.specs.Rules.{picture_left}
+use Rattle.sixel_model.specs.Positions.{HoldsNowhere}
+use Rattle.sixel_model.specs.Rules.{BreaksNone, last_rule, picture_left}
 use Rattle.sixel_terminal.specs.Drawing.{shown_on}
+use Rattle.sixel_emulator.specs.Modelled.{placed_at}
 use Rattle.sixel_emulator.specs.Readings.{EndsAt, IsReading, IsSaid}
 use Rattle.sixel_mlterm.specs.MlTerm.{mlterm_model}
+use Rattle.sixel_xterm.specs.XTerm.{xterm_model}
 use Rattle.sixel_named_terminals.specs.declared.named.Named.{Named}
-use Rattle.sixel_named_terminals.specs.declared.named.Named.TheVariants.{MlTerm}
-use Rattle.sixel_named_terminals.specs.Named.{model_of, terminal_on}
-use Rattle.sixel_emulator_rules.specs.Asked.{asks}
+use Rattle.sixel_named_terminals.specs.declared.named.Named.TheVariants.{MlTerm, XTerm}
+use Rattle.sixel_named_terminals.specs.Named.{heard_on, model_of, terminal_on}
+use Rattle.sixel_emulator_rules.specs.Asked.{BreaksAsked, asks}
 use Rattle.sixel_emulator_rules.specs.declared.rule.AskedRule.{AskedRule}
 use Rattle.sixel_emulator_rules.specs.declared.rule.AskedRule.TheVariants.{RasterLate, Dropped, Stale, Large, Rows}
 use Rattle.sixel_emulator_rules.specs.declared.rule.AskedRule.TheVariants.{Past, Hue}
 use Rattle.sixel_emulator_rules.specs.declared.rule.AskedRule.TheVariants.{Far, Introducer, Bare, SpaceAfter}
-use Rattle.sixel_emulator_rules_laws.specs.Witnesses.{is_of_events, witness_of}
+use Rattle.sixel_emulator_rules_laws.specs.Witnesses.{black, box, introducer, is_of_events, select, six_pixels}
+use Rattle.sixel_emulator_rules_laws.specs.Witnesses.{witness_of}
 
 abbrev pub white_parts : Parts
 white_parts = Rgb 100 100 100
@@ -83,6 +90,37 @@ pub record IsShownOtherwise (named : Named) (registers : ℕ) (events : List Eve
   pub is_wanted : wanted_at (picture_left registers events) w.x w.y ≡ Some w.wanted
   pub differs : w.shown ≢ w.wanted
 
+-- ---- a select without a number
+
+-- ESC P q "1;1;1;6#0;2;0;0;0#~ ESC \
+abbrev pub bare_bytes : List ℕ
+bare_bytes =
+    27 ∷ 80 ∷ 113 ∷ 34 ∷ 49 ∷ 59 ∷ 49 ∷ 59 ∷ 49 ∷ 59 ∷ 54 ∷ 35 ∷ 48 ∷ 59 ∷ 50 ∷ 59 ∷ 48 ∷ 59 ∷ 48 ∷ 59 ∷ 48 ∷ 35 ∷ 126
+    ∷ 27 ∷ 92 ∷ []
+
+-- its events, with their offsets; the select names no register
+abbrev pub bare_placed : List Placed
+bare_placed =
+    placed_at 0 introducer ∷ placed_at 3 box ∷ placed_at 11 black ∷ placed_at 21 select ∷ placed_at 22 six_pixels
+    ∷ placed_at 23 (Finish false) ∷ []
+
+-- what the terminal hears of them
+abbrev pub bare_on : Named → List Event
+bare_on named = events_of (heard_on named bare_bytes bare_placed)
+
+-- The events break no rule, of portable pictures or asked for. The model of xterm says all of what it hears of them: on
+-- a white screen the first pixel stays white, and the picture has it black. mlterm's model ends at the select
+pub record IsBareWrong (registers : ℕ) : Type 0 where
+  pub events_are : events_of bare_placed ≡ witness_of Bare
+  pub unbroken : BreaksNone registers last_rule (witness_of Bare)
+  pub alone : (m : AskedRule) → HoldsNowhere (BreaksAsked m) (witness_of Bare)
+  pub said : IsSaid xterm_model (bare_on XTerm)
+  pub drawing : List Event
+  pub is_reading : IsReading xterm_model (bare_on XTerm) drawing
+  pub is_shown : shown_on (terminal_on XTerm white_parts [] (1, 6)) drawing 0 0 ≡ white_parts
+  pub is_wanted : wanted_at (picture_left registers (witness_of Bare)) 0 0 ≡ Some black_parts
+  pub ends : EndsAt mlterm_model (bare_on MlTerm) 3
+
 -- ---- the laws
 
 -- each terminal but mlterm shows a pixel otherwise, if the document breaks a rule alone that it asks for
@@ -95,3 +133,7 @@ EachWitnessHasAPixel =
 abbrev pub MlTermEndsAtEach : Type 0
 MlTermEndsAtEach =
     EndsAt mlterm_model (witness_of Far) 6 × EndsAt mlterm_model (witness_of Introducer) 0
+
+-- this string breaks `Bare` alone, and both that ask for it show it wrong or don't say
+abbrev pub BareStringIsShownWrong : Type 0
+BareStringIsShownWrong = (registers : ℕ) → 16 ≤ registers → IsBareWrong registers

@@ -10,7 +10,7 @@ ghost use Rattle.sixel_emulator_rules_laws.specs.Laws.{CanonSuitsXTerm};
 ghost use Rattle.sixel_emulator_rules_laws.specs.Laws.{CanonDefinesFirst, CanonShownOnFoot, FirstIsNotStale};
 ghost use Rattle.sixel_emulator_rules_laws.specs.Laws.{ShowsPortable};
 ghost use Rattle.sixel_emulator_rules_laws.specs.Laws.{EachWitnessIsShownWrong, LateDefinitionsCanDiffer};
-ghost use Rattle.sixel_emulator_rules_laws.specs.Wrong.{EachWitnessHasAPixel, MlTermEndsAtEach};
+ghost use Rattle.sixel_emulator_rules_laws.specs.Wrong.{BareStringIsShownWrong, EachWitnessHasAPixel, MlTermEndsAtEach};
 
 /// If a list breaks no rule, and none of those that a named terminal asks for, that terminal shows the picture.
 pub fn named_terminals_show_portable_pictures()
@@ -36,6 +36,12 @@ pub fn far_breaks_past()
 pub fn each_witness_has_a_pixel()
     ensures pixel { EachWitnessHasAPixel }
     ensures mlterm { MlTermEndsAtEach }
+{}
+
+/// A string with a select without a number breaks `Bare` and no other rule. xterm shows its first pixel wrong, and
+/// mlterm's model ends at the select.
+pub fn bare_string_is_shown_wrong()
+    ensures { BareStringIsShownWrong }
 {}
 
 /// No terminal that asks for a rule, of which events tell, shows that document right.
