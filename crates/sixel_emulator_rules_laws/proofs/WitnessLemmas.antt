@@ -198,7 +198,8 @@ not_stale Past told other =
     (select ∷ six_pixels ∷ Step NextLine ∷ Step (Sixel 0) ∷ Finish false ∷ []) (refl, (refl, (refl, tt)))
     (refl, (refl, (refl, (refl, (refl, tt)))))
 not_stale Hue told other =
-    early (introducer ∷ box ∷ Step (Define 0 1 30 50 100) ∷ []) ending (refl, (refl, (refl, tt))) (refl, (refl, (refl, tt)))
+    early (introducer ∷ box ∷ Step (Define 0 1 30 50 100) ∷ []) ending (refl, (refl, (refl, tt)))
+    (refl, (refl, (refl, tt)))
 not_stale Far told other =
     early (introducer ∷ box ∷ black ∷ [])
     (select ∷ six_pixels ∷ Step NextLine ∷ Step (Repeat 2 0) ∷ Finish false ∷ []) (refl, (refl, (refl, tt)))

@@ -24,8 +24,8 @@ abbrev pub goes_with : AskedRule → AskedRule → Bool
 goes_with Far Past = true
 goes_with _ _ = false
 
--- the document breaks the rule. It breaks no rule of portable pictures, and no other that a named terminal asks for, but
--- for what goes with it
+-- the document breaks the rule. It breaks no rule of portable pictures, and no other that a named terminal asks for,
+-- but for what goes with it
 pub record IsWitness (rule : AskedRule) (events : List Event) : Type 0 where
   pub whole : AreWhole events
   pub unbroken : (registers : ℕ) → 16 ≤ registers → BreaksNone registers last_rule events
