@@ -42,5 +42,6 @@ pub mod ProfileLemmas
 pub mod LateLemmas
 pub mod WitnessLemmas
 pub mod FarLemmas
+pub mod BareDocumentLemmas
 pub mod PixelLemmas
 pub mod WrongLemmas

@@ -46,6 +46,7 @@ use Rattle.sixel_emulator_rules_laws.specs.Witnesses.{black, box, introducer, se
 use Rattle.sixel_emulator_rules_laws.specs.Wrong.{BareStringIsShownWrong, bare_on}
 use Rattle.sixel_emulator_rules_laws.specs.Wrong.{EachWitnessHasAPixel, IsShownOtherwise, MlTermEndsAtEach}
 use Rattle.sixel_emulator_rules_laws.specs.Wrong.{is_inside, wanted_at, white_parts, wrong_of}
+use Rattle.sixel_emulator_rules_laws.proofs.BareDocumentLemmas.{bare_document}
 use Rattle.sixel_emulator_rules_laws.proofs.WitnessLemmas.{bare_alone, none_below, unbroken_16, unbroken_for}
 use Rattle.sixel_emulator_rules_laws.proofs.DrawingLemmas.{drawing_is_reading, foot_drawing}
 use Rattle.sixel_emulator_rules_laws.proofs.KonsoleSaidLemmas as konsole
@@ -470,6 +471,8 @@ pub bare_string_is_shown_wrong : BareStringIsShownWrong
 unfolding picture_left row_by_row register_at known raster_before earliest latest last_at last_below at_position falls
     touches covers any_below band column since colour_of definition_of
 bare_string_is_shown_wrong registers le = record {
+  document = bare_document;
+  bare = refl;
   events_are = refl;
   unbroken = unbroken_for registers Bare le;
   alone = bare_alone;

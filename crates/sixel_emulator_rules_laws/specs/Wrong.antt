@@ -1,7 +1,7 @@
 -- Where the terminals show the documents wrong that break one of their rules.
 use Rattle.std.specs.Prelude.{◌≡◌, ◌≢◌, ◌<◌, ◌≤◌, ◌&&◌, ◌∷◌, [], ℕ, Bool, false, IsTrue, List, Option, Some, nat_lt}
 use Rattle.std.specs.Prelude.{if◌then◌else◌}
-use Rattle.sixel_grammar.specs.Document.{events_of}
+use Rattle.sixel_grammar.specs.Document.{Document, events_of}
 use Rattle.sixel_grammar.specs.declared.command.Event.{Event}
 use Rattle.sixel_grammar.specs.declared.command.Event.TheVariants.{Finish}
 use Rattle.sixel_grammar.specs.declared.command.Placed.{Placed}
@@ -12,6 +12,7 @@ use Rattle.sixel_model.specs.Pictures.{PictureValue, register_of}
 use Rattle.sixel_model.specs.Positions.{HoldsNowhere}
 use Rattle.sixel_model.specs.Rules.{BreaksNone, last_rule, picture_left}
 use Rattle.sixel_terminal.specs.Drawing.{shown_on}
+use Rattle.sixel_emulator.specs.Heard.{first_bare}
 use Rattle.sixel_emulator.specs.Modelled.{placed_at}
 use Rattle.sixel_emulator.specs.Readings.{EndsAt, IsReading, IsSaid}
 use Rattle.sixel_mlterm.specs.MlTerm.{mlterm_model}
@@ -108,9 +109,12 @@ bare_placed =
 abbrev pub bare_on : Named → List Event
 bare_on named = events_of (heard_on named bare_bytes bare_placed)
 
--- The events break no rule, of portable pictures or asked for. The model of xterm says all of what it hears of them: on
--- a white screen the first pixel stays white, and the picture has it black. mlterm's model ends at the select
+-- The bytes are a document of these events. They have a select without a number at offset 21, and the events break no
+-- rule, of portable pictures or asked for. The model of xterm says all of what it hears of them: on a white screen the
+-- first pixel stays white, and the picture has it black. mlterm's model ends at the select
 pub record IsBareWrong (registers : ℕ) : Type 0 where
+  pub document : Document bare_placed bare_bytes
+  pub bare : first_bare bare_bytes ≡ Some 21
   pub events_are : events_of bare_placed ≡ witness_of Bare
   pub unbroken : BreaksNone registers last_rule (witness_of Bare)
   pub alone : (m : AskedRule) → HoldsNowhere (BreaksAsked m) (witness_of Bare)
