@@ -176,6 +176,18 @@ impl<F: Listener> Hearing<F> {
             self.listener.hear(place, event);
         }
     }
+
+    /// Takes what is heard of a select.
+    #[inline(always)]
+    fn push_select(&mut self, place: u64, register: u16)
+        ensures { TakesEvents (HasHeardOn F.has_taken) self.old self.new
+            (placed_at place (Step (Select register)) ∷ []) }
+    {
+        match self.omitted.bare {
+            Some(first) if place == first => self.listener.hear(place, raster(0, 0, 0, 0)),
+            _ => self.listener.hear_select(place, register),
+        }
+    }
 }
 
 impl<F: Listener> Follower for Hearing<F> {
@@ -191,15 +203,16 @@ impl<F: Listener> Follower for Hearing<F> {
     }
 
     fn take_command(&mut self, place: u64, command: Command) -> Result<(), Infallible> {
-        self.push(place, Event::Step(command));
+        match command {
+            Command::Select(register) => self.push_select(place, register),
+            Command::Raster { .. } => self.push(place, Event::Step(command)),
+            other => self.listener.hear_command(place, other),
+        }
         Ok(())
     }
 
     fn take_select(&mut self, place: u64, register: u16) -> Result<(), Infallible> {
-        match self.omitted.bare {
-            Some(first) if place == first => self.listener.hear(place, raster(0, 0, 0, 0)),
-            _ => self.listener.hear_select(place, register),
-        }
+        self.push_select(place, register);
         Ok(())
     }
 

@@ -136,6 +136,29 @@ impl Measuring {
         self.add(event);
     }
 
+    /// Takes a command that comes next, of a kind that is rare.
+    #[inline(never)]
+    fn push_rarely(&mut self, command: Command)
+        ensures taken { (before : List AnEvent) → HasTakenAll self.old before
+            → HasTakenAll self.new (before ++ Step command ∷ []) }
+    {
+        self.push(Event::Step(command));
+    }
+
+    /// Takes the command that comes next. Each kind that is frequent gets its own inlined call, with the code for that
+    /// kind alone.
+    #[inline(always)]
+    fn push_command(&mut self, command: Command)
+        ensures taken { (before : List AnEvent) → HasTakenAll self.old before
+            → HasTakenAll self.new (before ++ Step command ∷ []) }
+    {
+        match command {
+            Command::CarriageReturn => self.push(Event::Step(Command::CarriageReturn)),
+            Command::NextLine => self.push(Event::Step(Command::NextLine)),
+            other => self.push_rarely(other),
+        }
+    }
+
     /// Takes the sixels of these data bytes, in order.
     fn push_stretch(&mut self, bytes: &[u8])
         requires { (k : ℕ) → k < length bytes.now → IsTrue (is_data (slice_index bytes.now k)) }
@@ -171,6 +194,11 @@ impl Listener for Measuring {
     #[inline(always)]
     fn hear(&mut self, _place: u64, event: Event) {
         self.push(event);
+    }
+
+    #[inline(always)]
+    fn hear_command(&mut self, _place: u64, command: Command) {
+        self.push_command(command);
     }
 
     #[inline(always)]
