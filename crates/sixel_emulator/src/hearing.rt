@@ -188,6 +188,23 @@ impl<F: Listener> Hearing<F> {
             _ => self.listener.hear_select(place, register),
         }
     }
+
+    /// The same, by a call.
+    #[inline(never)]
+    fn push_lone_select(&mut self, place: u64, register: u16)
+        ensures { TakesEvents (HasHeardOn F.has_taken) self.old self.new
+            (placed_at place (Step (Select register)) ∷ []) }
+    {
+        self.push_select(place, register);
+    }
+
+    /// Takes what is heard of a command of a kind that is rare.
+    #[inline(never)]
+    fn push_rarely(&mut self, place: u64, command: Command)
+        ensures { TakesEvents (HasHeardOn F.has_taken) self.old self.new (placed_at place (Step command) ∷ []) }
+    {
+        self.push(place, Event::Step(command));
+    }
 }
 
 impl<F: Listener> Follower for Hearing<F> {
@@ -204,8 +221,8 @@ impl<F: Listener> Follower for Hearing<F> {
 
     fn take_command(&mut self, place: u64, command: Command) -> Result<(), Infallible> {
         match command {
-            Command::Select(register) => self.push_select(place, register),
-            Command::Raster { .. } => self.push(place, Event::Step(command)),
+            Command::Select(register) => self.push_lone_select(place, register),
+            Command::Raster { .. } => self.push_rarely(place, command),
             other => self.listener.hear_command(place, other),
         }
         Ok(())

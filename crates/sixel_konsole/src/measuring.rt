@@ -4,7 +4,8 @@ ghost use Rattle.std.specs.Prelude.{◌≡◌, ◌<◌, ◌++◌, ◌∷◌, [],
 ghost use Rattle.std.specs.Prelude.{slice_index, true};
 ghost use Rattle.std.specs.Option.{option_to_list};
 ghost use Rattle.sixel_grammar.specs.Bytes.{is_data};
-ghost use Rattle.sixel_grammar.specs.declared.command.Command.TheVariants.{Repeat, Select};
+ghost use Rattle.sixel_grammar.specs.declared.command.Command.TheVariants.{CarriageReturn, NextLine, Repeat};
+ghost use Rattle.sixel_grammar.specs.declared.command.Command.TheVariants.{Select};
 ghost use Rattle.sixel_grammar.specs.declared.command.Event.{Event as AnEvent};
 ghost use Rattle.sixel_grammar.specs.declared.command.Event.TheVariants.{Step};
 ghost use Rattle.sixel_terminal.specs.Stretches.{sixels_of};
@@ -136,6 +137,24 @@ impl Measuring {
         self.add(event);
     }
 
+    /// Takes a return that comes next.
+    #[inline(never)]
+    fn push_return(&mut self)
+        ensures taken { (before : List AnEvent) → HasTakenAll self.old before
+            → HasTakenAll self.new (before ++ Step CarriageReturn ∷ []) }
+    {
+        self.push(Event::Step(Command::CarriageReturn));
+    }
+
+    /// Takes a new line that comes next.
+    #[inline(never)]
+    fn push_next_line(&mut self)
+        ensures taken { (before : List AnEvent) → HasTakenAll self.old before
+            → HasTakenAll self.new (before ++ Step NextLine ∷ []) }
+    {
+        self.push(Event::Step(Command::NextLine));
+    }
+
     /// Takes a command that comes next, of a kind that is rare.
     #[inline(never)]
     fn push_rarely(&mut self, command: Command)
@@ -145,16 +164,15 @@ impl Measuring {
         self.push(Event::Step(command));
     }
 
-    /// Takes the command that comes next. Each kind that is frequent gets its own inlined call, with the code for that
-    /// kind alone.
+    /// Takes the command that comes next. It is inlined, since it only tells the kinds apart.
     #[inline(always)]
     fn push_command(&mut self, command: Command)
         ensures taken { (before : List AnEvent) → HasTakenAll self.old before
             → HasTakenAll self.new (before ++ Step command ∷ []) }
     {
         match command {
-            Command::CarriageReturn => self.push(Event::Step(Command::CarriageReturn)),
-            Command::NextLine => self.push(Event::Step(Command::NextLine)),
+            Command::CarriageReturn => self.push_return(),
+            Command::NextLine => self.push_next_line(),
             other => self.push_rarely(other),
         }
     }

@@ -1,6 +1,6 @@
 -- What an `XTerm` keeps, with one more event.
 use Rattle.std.proofs.Common.{◌≡◌, ◌==◌, ◌≤◌, ◌<◌, ◌+◌, ◌-◌, ◌%◌, ℕ, zero, suc, Bool, true, false, not, ◌&&◌, ◌||◌}
-use Rattle.std.proofs.Common.{length, List, [], ◌∷◌, ◌++◌, max, min, Option, refl, sym, subst, ap, ◌∙◌, append-nil, arith}
+use Rattle.std.proofs.Common.{length, List, [], ◌∷◌, ◌++◌, max, Option, refl, sym, subst, ap, ◌∙◌, append-nil, arith}
 use Rattle.std.specs.Prelude.{nat_le, nat_lt, unwrap_or, if◌then◌else◌}
 use Rattle.std.proofs.lemmas.Bool.{and_parts, leb-true, not-true, or_parts}
 use Rattle.std.proofs.lemmas.Bool.Decides.{nat_tests}
@@ -23,7 +23,7 @@ use Rattle.sixel_xterm.specs.XTerm.{xterm_columns, xterm_painting, xterm_pen, xt
 use Rattle.sixel_xterm.specs.XTermSeen.{HasSeenXTerm, has_room, is_free, next_rows}
 use Rattle.sixel_emulator.proofs.PlainLemmas.{data_over, first_before, kept_whole, same_over}
 use Rattle.sixel_emulator.proofs.WordLemmas.{any_push, greatest_push, second_push}
-use Rattle.sixel_xterm.proofs.PenLemmas.{past_over, pen_none, pen_over, pen_push, rows_over, rows_push}
+use Rattle.sixel_xterm.proofs.PenLemmas.{blank_pen, past_over, pen_none, pen_over, pen_push, rows_over, rows_push}
 
 pub xterm_none : HasSeenXTerm (record {
   pen = pen_at 0;
@@ -182,10 +182,6 @@ repeat_plain before count bits next some is room =
     rw (f.goes, counted, f.filled, f.here) (ap Draws (blank_or_room before count bits room some))
 
 -- ---- sixels without a set bit
-
-blank_pen : (p : Pen) (is_past : Bool) (bits : ℕ) → p.ended ≡ false → is_painting (Step (Sixel bits)) ≡ false
-    → pen_after p is_past (Step (Sixel bits)) ≡ pen_at (min (p.column + 1) xterm_side)
-blank_pen p is_past bits goes blank = rw (goes, blank) refl
 
 free_next : (before : List Event) (b : ℕ) → IsFree before → is_painting (Step (Sixel (b - 63))) ≡ false
     → IsFree (before ++ Step (Sixel (b - 63)) ∷ [])
