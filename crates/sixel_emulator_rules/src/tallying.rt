@@ -1,18 +1,20 @@
 //! Counts how often each rule is broken that a set of terminals asks for, while a document is read.
 
 ghost use Rattle.std.specs.Prelude.{◌≡◌, ◌++◌, ◌∷◌, ◌<◌, ◌+◌, ◌≤◌, [], ℕ, IsTrue, List, None, length, slice_index};
-ghost use Rattle.std.specs.Prelude.{take};
+ghost use Rattle.std.specs.Prelude.{take, true};
 ghost use Rattle.sixel_grammar.specs.Bytes.{is_data};
 ghost use Rattle.sixel_grammar.specs.Document.{Document, most_bytes};
 ghost use Rattle.sixel_grammar.specs.Stretches.{sixels_from};
 ghost use Rattle.sixel_grammar.specs.declared.command.Command.TheVariants.{Repeat};
 ghost use Rattle.sixel_grammar.specs.declared.command.Event.TheVariants.{Step};
 ghost use Rattle.sixel_grammar.specs.declared.command.Placed.{Placed as PlacedValue};
+ghost use Rattle.sixel_model.specs.Events.{is_data_command};
 ghost use Rattle.sixel_emulator_rules.specs.Asking.{placed_at};
 ghost use Rattle.sixel_emulator_rules.specs.Counts.{asked_in, first_in, is_calm_in};
 ghost use Rattle.sixel_emulator_rules.specs.Tallies.{AreAskedEntries};
 ghost use Rattle.sixel_emulator_rules.specs.Tallying.{HasTallied, HasTalliedOn, TalliesOn, tallied, tallied_each};
 
+use crate::events::columns_of;
 use crate::notes::Notes;
 use crate::rule::AskedRule;
 use crate::tally::{ASKED_COUNT, AskedEntries, AskedEntry, counted, entries_of, put, tally_of};
@@ -94,6 +96,41 @@ impl Tallying {
         self.count(AskedRule::SpaceAfter, place, event);
     }
 
+    /// Counts a sixel or a repeat for each rule. It can break only these three.
+    #[inline(always)]
+    fn count_data(&mut self, place: u64, event: &Event)
+        requires { is_data_command event.now ≡ true }
+        ensures { self.new ≡ record self.old {
+          tallies = tallied_each self.old.terminals self.old.notes place event.now self.old.tallies;
+        } }
+    {
+        self.count(AskedRule::Stale, place, event);
+        self.count(AskedRule::Past, place, event);
+        self.count(AskedRule::Far, place, event);
+    }
+
+    /// Takes a sixel or a repeat.
+    #[inline(always)]
+    fn push_data(&mut self, place: u64, event: &Event)
+        requires { is_data_command event.now ≡ true }
+        ensures terminals { self.new.terminals ≡ self.old.terminals }
+        ensures taken { (seen : List PlacedValue) → HasTallied self.old seen
+            → HasTallied self.new (seen ++ placed_at place event.now ∷ []) }
+    {
+        self.count_data(place, event);
+        self.notes.pass(u32::from(columns_of(event)));
+    }
+
+    /// Takes a repeat that may break a rule.
+    #[inline(never)]
+    fn push_far_repeat(&mut self, place: u64, count: u16, bits: u8)
+        ensures terminals { self.new.terminals ≡ self.old.terminals }
+        ensures taken { (seen : List PlacedValue) → HasTallied self.old seen
+            → HasTallied self.new (seen ++ placed_at place (Step (Repeat count bits)) ∷ []) }
+    {
+        self.push_data(place, &Event::Step(Command::Repeat { count, bits }));
+    }
+
     /// Takes the next event.
     ///
     /// It is inlined, so that a caller that knows the kind of the event keeps only the code for that kind.
@@ -135,11 +172,10 @@ impl Tallying {
         ensures taken { (seen : List PlacedValue) → HasTallied self.old seen
             → HasTallied self.new (seen ++ placed_at place (Step (Repeat count bits)) ∷ []) }
     {
-        let event = Event::Step(Command::Repeat { count, bits });
         if self.is_calm(u32::from(count)) {
-            self.pass_by(&event);
+            self.pass_by(&Event::Step(Command::Repeat { count, bits }));
         } else {
-            self.push_rarely(place, &event);
+            self.push_far_repeat(place, count, bits);
         }
     }
 
@@ -172,7 +208,7 @@ impl Tallying {
     {
         for (index, byte) in stretch.iter().enumerate() {
             let event = Event::Step(Command::Sixel(byte - b'?'));
-            self.push(place + index as u64, &event);
+            self.push_data(place + index as u64, &event);
         }
     }
 
