@@ -177,25 +177,19 @@ impl<F: Listener> Hearing<F> {
         }
     }
 
-    /// Takes what is heard of a select.
-    #[inline(always)]
-    fn push_select(&mut self, place: u64, register: u16)
-        ensures { TakesEvents (HasHeardOn F.has_taken) self.old self.new
-            (placed_at place (Step (Select register)) ∷ []) }
-    {
-        match self.omitted.bare {
-            Some(first) if place == first => self.listener.hear(place, raster(0, 0, 0, 0)),
-            _ => self.listener.hear_select(place, register),
-        }
-    }
-
-    /// The same, by a call.
+    /// Takes what is heard of a select without columns behind it. `take_select` hears others, and alone calls
+    /// `hear_select`: so that is inlined there.
     #[inline(never)]
     fn push_lone_select(&mut self, place: u64, register: u16)
         ensures { TakesEvents (HasHeardOn F.has_taken) self.old self.new
             (placed_at place (Step (Select register)) ∷ []) }
     {
-        self.push_select(place, register);
+        match self.omitted.bare {
+            Some(first) if place == first => self.listener.hear(place, raster(0, 0, 0, 0)),
+            _ => self
+                .listener
+                .hear_command(place, Command::Select(register)),
+        }
     }
 
     /// Takes what is heard of a command of a kind that is rare.
@@ -229,7 +223,10 @@ impl<F: Listener> Follower for Hearing<F> {
     }
 
     fn take_select(&mut self, place: u64, register: u16) -> Result<(), Infallible> {
-        self.push_select(place, register);
+        match self.omitted.bare {
+            Some(first) if place == first => self.listener.hear(place, raster(0, 0, 0, 0)),
+            _ => self.listener.hear_select(place, register),
+        }
         Ok(())
     }
 

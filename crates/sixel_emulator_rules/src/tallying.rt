@@ -1,7 +1,7 @@
 //! Counts how often each rule is broken that a set of terminals asks for, while a document is read.
 
 ghost use Rattle.std.specs.Prelude.{◌≡◌, ◌++◌, ◌∷◌, ◌<◌, ◌+◌, ◌≤◌, [], ℕ, IsTrue, List, None, length, slice_index};
-ghost use Rattle.std.specs.Prelude.{take, true};
+ghost use Rattle.std.specs.Prelude.{◌-◌, slice_set, take, true};
 ghost use Rattle.sixel_grammar.specs.Bytes.{is_data};
 ghost use Rattle.sixel_grammar.specs.Document.{Document, most_bytes};
 ghost use Rattle.sixel_grammar.specs.Stretches.{sixels_from};
@@ -9,15 +9,19 @@ ghost use Rattle.sixel_grammar.specs.declared.command.Command.TheVariants.{Repea
 ghost use Rattle.sixel_grammar.specs.declared.command.Event.TheVariants.{Step};
 ghost use Rattle.sixel_grammar.specs.declared.command.Placed.{Placed as PlacedValue};
 ghost use Rattle.sixel_model.specs.Events.{is_data_command};
+ghost use Rattle.sixel_emulator_rules.specs.Asked.{number_of};
 ghost use Rattle.sixel_emulator_rules.specs.Asking.{placed_at};
 ghost use Rattle.sixel_emulator_rules.specs.Counts.{asked_in, first_in, is_calm_in};
 ghost use Rattle.sixel_emulator_rules.specs.Tallies.{AreAskedEntries};
-ghost use Rattle.sixel_emulator_rules.specs.Tallying.{HasTallied, HasTalliedOn, TalliesOn, tallied, tallied_each};
+ghost use Rattle.sixel_emulator_rules.specs.Tallying.{HasTallied, HasTalliedOn, TalliesOn, next_tally, tallied};
+ghost use Rattle.sixel_emulator_rules.specs.Tallying.{tallied_each};
 
 use crate::events::columns_of;
 use crate::notes::Notes;
 use crate::rule::AskedRule;
-use crate::tally::{ASKED_COUNT, AskedEntries, AskedEntry, counted, entries_of, put, tally_of};
+use crate::tally::{
+    ASKED_COUNT, AskedEntries, AskedEntry, begun, counted, entries_of, put, tally_of,
+};
 use crate::terminals::Terminals;
 use sixel_grammar::{Command, Event, Follower, Placed};
 use std::convert::Infallible;
@@ -63,6 +67,18 @@ impl Tallying {
         self.terminals.asks_for(rule) && self.notes.breaks(rule, event)
     }
 
+    /// Begins the tally of a rule, by an event with this offset. It is a call: so little is written for a rule that has
+    /// counted before.
+    #[inline(never)]
+    fn begin(&mut self, rule: AskedRule, place: u64)
+        ensures { self.new ≡ record self.old {
+          tallies =
+              slice_set self.old.tallies (number_of rule - 14) (next_tally rule place true None);
+        } }
+    {
+        put(&mut self.tallies, rule, Some(begun(rule, place)));
+    }
+
     /// Counts the event for the rule.
     #[inline(always)]
     fn count(&mut self, rule: AskedRule, place: u64, event: &Event)
@@ -71,8 +87,10 @@ impl Tallying {
         } }
     {
         if self.counts(rule, event) {
-            let tally = tally_of(&self.tallies, rule);
-            put(&mut self.tallies, rule, Some(counted(tally, rule, place)));
+            match tally_of(&self.tallies, rule) {
+                None => self.begin(rule, place),
+                Some(tally) => put(&mut self.tallies, rule, Some(counted(tally))),
+            }
         }
     }
 

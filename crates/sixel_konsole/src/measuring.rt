@@ -155,6 +155,15 @@ impl Measuring {
         self.push(Event::Step(Command::NextLine));
     }
 
+    /// Takes a select that comes next.
+    #[inline(never)]
+    fn push_select(&mut self, register: u16)
+        ensures taken { (before : List AnEvent) → HasTakenAll self.old before
+            → HasTakenAll self.new (before ++ Step (Select register) ∷ []) }
+    {
+        self.push(Event::Step(Command::Select(register)));
+    }
+
     /// Takes a command that comes next, of a kind that is rare.
     #[inline(never)]
     fn push_rarely(&mut self, command: Command)
@@ -173,6 +182,7 @@ impl Measuring {
         match command {
             Command::CarriageReturn => self.push_return(),
             Command::NextLine => self.push_next_line(),
+            Command::Select(register) => self.push_select(register),
             other => self.push_rarely(other),
         }
     }
