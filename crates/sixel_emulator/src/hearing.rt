@@ -186,9 +186,7 @@ impl<F: Listener> Hearing<F> {
     {
         match self.omitted.bare {
             Some(first) if place == first => self.listener.hear(place, raster(0, 0, 0, 0)),
-            _ => self
-                .listener
-                .hear_command(place, Command::Select(register)),
+            _ => self.listener.hear_command(place, Command::Select(register)),
         }
     }
 
