@@ -57,6 +57,11 @@ background fallback = record (new_rule (codes "background")) {
 abbrev pub profiled_app : Text → App
 profiled_app name = with_rule (with_rule (new_app name) (flag (codes "wide"))) file
 
+-- `render`
+abbrev pub render_app : App
+render_app =
+    with_rule (with_rule (with_rule (new_app (codes "render")) (flag (codes "wide"))) (flag (codes "png"))) file
+
 -- `check`
 abbrev pub check_app : App
 check_app =
@@ -93,7 +98,7 @@ scan_app =
 abbrev pub show_app : App
 show_app =
     with_rule (with_rule (with_rule (with_rule (with_rule (with_rule (with_rule (with_rule (with_rule (with_rule
-    (with_rule (new_app (codes "show"))
+    (with_rule (with_rule (new_app (codes "show"))
     (flag (codes "wide")))
     quiet)
     (flag (codes "showing")))
@@ -104,6 +109,7 @@ show_app =
     (flag (codes "box")))
     on)
     (background (codes "100,100,100")))
+    (flag (codes "png")))
     file
 
 -- `differ`
@@ -141,7 +147,7 @@ sixel_app =
       subcommand_required = true;
       args_override_self = true;
     }) (new_app (codes "sixel")))
-    (plain_app (codes "list")).top) check_app.top) survey_app.top) scan_app.top) (profiled_app (codes "render")).top)
+    (plain_app (codes "list")).top) check_app.top) survey_app.top) scan_app.top) render_app.top)
     (profiled_app (codes "encode")).top) show_app.top) differ_app.top) mend_app.top) explain_app.top
 
 -- the names of the subcommands

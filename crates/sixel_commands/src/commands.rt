@@ -5,7 +5,8 @@ ghost use Rattle.clap.specs.Walk.{rule_of};
 ghost use Rattle.clap.specs.Simple.{app_of, new_app};
 ghost use Rattle.clap.specs.declared.builder.command.Command.TheViews.{out-Command as fields_of};
 ghost use Rattle.sixel_commands.specs.Commands.{background, check_app, differ_app, explain_app, file, files, flag};
-ghost use Rattle.sixel_commands.specs.Commands.{mend_app, names, on, plain_app, profiled_app, quiet, scan_app, show_app};
+ghost use Rattle.sixel_commands.specs.Commands.{mend_app, names, on, plain_app, profiled_app, quiet, render_app};
+ghost use Rattle.sixel_commands.specs.Commands.{scan_app, show_app};
 ghost use Rattle.sixel_commands.specs.Commands.{side, sixel_app, survey_app};
 
 mod help;
@@ -79,17 +80,20 @@ pub fn list_command<'a>(alloc: Global) -> Result<Command<'a>, AllocError>
     .arg(file_arg(alloc))
 }
 
-/// `render`, with `--wide` and an optional file.
+/// `render`, with `--wide`, `--png` and an optional file.
 pub fn render_command<'a>(alloc: Global) -> Result<Command<'a>, AllocError>
-    ensures app { IfOk result (λ c. app_of c ≡ profiled_app (codes "render")) }
+    ensures app { IfOk result (λ c. app_of c ≡ render_app) }
     ensures local { IfOk result (λ c. (fields_of c).has_globals ≡ false) }
 {
-    profiled_command(
+    task_command(
         alloc,
         "render",
-        "Converts a portable picture to a PPM",
+        "Converts a portable picture to a PPM or a PNG",
         help::RENDER,
-    )
+    )?
+    .arg(wide_arg(alloc))?
+    .arg(png_arg(alloc))?
+    .arg(file_arg(alloc))
 }
 
 /// `encode`, with `--wide` and an optional file.
@@ -203,7 +207,7 @@ pub fn scan_command<'a>(alloc: Global) -> Result<Command<'a>, AllocError>
     .arg(files_arg(alloc))
 }
 
-/// `show`, with ten options and an optional file.
+/// `show`, with eleven options and an optional file.
 pub fn show_command<'a>(alloc: Global) -> Result<Command<'a>, AllocError>
     ensures app { IfOk result (λ c. app_of c ≡ show_app) }
     ensures local { IfOk result (λ c. (fields_of c).has_globals ≡ false) }
@@ -211,7 +215,7 @@ pub fn show_command<'a>(alloc: Global) -> Result<Command<'a>, AllocError>
     task_command(
         alloc,
         "show",
-        "Draws the picture as one terminal would, and writes its screen as a PPM",
+        "Draws the picture as one terminal would, and writes its screen",
         help::SHOW,
     )?
     .arg(wide_arg(alloc))?
@@ -250,6 +254,7 @@ pub fn show_command<'a>(alloc: Global) -> Result<Command<'a>, AllocError>
         "100,100,100",
         "With --on: the screen before the picture, in percent, or '#RRGGBB'",
     ))?
+    .arg(png_arg(alloc))?
     .arg(file_arg(alloc))
 }
 
@@ -377,6 +382,14 @@ fn wide_arg<'a>(alloc: Global) -> Arg<'a>
     ensures local { result.global ≡ false }
 {
     flag_arg(alloc, "wide", "Use 256 colour registers instead of 16")
+}
+
+/// `--png`.
+fn png_arg<'a>(alloc: Global) -> Arg<'a>
+    ensures rule { rule_of result ≡ flag (codes "png") }
+    ensures local { result.global ≡ false }
+{
+    flag_arg(alloc, "png", "Write a PNG instead of a PPM")
 }
 
 /// `--json`.

@@ -300,11 +300,12 @@ memory_kept task.List told has same takes = absurd takes
 memory_kept (task.Check profile named) told has same takes = kept _ told has same takes
 memory_kept (task.Survey profile named) told has same takes = kept _ told has same takes
 memory_kept (task.Scan profile eight) told has same takes = kept _ told has same takes
-memory_kept (task.Render profile) told has same takes = kept _ told has same takes
+memory_kept (task.Render profile format) told has same takes = kept _ told has same takes
 memory_kept (task.Encode profile) told has same takes = kept _ told has same takes
-memory_kept (task.Show profile showing fill selects width height) told has same takes = kept _ told has same takes
-memory_kept (task.ShowBox profile showing fill selects) told has same takes = kept _ told has same takes
-memory_kept (task.ShowOn named background area) told has same takes = kept _ told has same takes
+memory_kept (task.Show profile showing fill selects width height format) told has same takes =
+    kept _ told has same takes
+memory_kept (task.ShowBox profile showing fill selects format) told has same takes = kept _ told has same takes
+memory_kept (task.ShowOn named background area format) told has same takes = kept _ told has same takes
 memory_kept (task.Differ background) told has same takes = kept _ told has same takes
 memory_kept (task.DifferSheet background) told has same takes = kept _ told has same takes
 memory_kept (task.Mend profile background showing selects) told has same takes = kept _ told has same takes

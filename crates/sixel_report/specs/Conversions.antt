@@ -3,6 +3,8 @@ use Rattle.sixel_grammar.specs.declared.fault.InputFault.{InputFault}
 use Rattle.sixel_grammar.specs.declared.fault.InputFault.TheVariants as input
 use Rattle.sixel_ppm.specs.declared.ppm.PpmFault.{PpmFault}
 use Rattle.sixel_ppm.specs.declared.ppm.PpmFault.TheVariants as ppm
+use Rattle.sixel_png.specs.declared.png.PngFault.{PngFault}
+use Rattle.sixel_png.specs.declared.png.PngFault.TheVariants as png
 use Rattle.sixel_mend.specs.declared.mending.MendFault.{MendFault}
 use Rattle.sixel_mend.specs.declared.mending.MendFault.TheVariants as mend
 use Rattle.sixel_differ.specs.declared.fault.DifferFault.{DifferFault}
@@ -28,6 +30,10 @@ of_ppm ppm.NotRgb = NotRgb
 of_ppm ppm.OutOfMemory = OutOfMemory
 of_ppm ppm.Read = Read
 of_ppm ppm.Write = Write
+
+abbrev pub of_png : PngFault → RunFault
+of_png png.NotRgb = NotRgb
+of_png png.Write = Write
 
 abbrev pub of_mend : MendFault → RunFault
 of_mend (mend.Grammar fault) = Grammar fault

@@ -5,6 +5,7 @@ use sixel_grammar::{Fault, Halt, InputFault};
 use sixel_io::DeviceFault;
 use sixel_mend::MendFault;
 use sixel_named_terminals::ShowFault;
+use sixel_png::PngFault;
 use sixel_ppm::{PpmFault, PpmReason};
 use sixel_scan::ScanFault;
 use std::alloc::AllocError;
@@ -20,7 +21,7 @@ pub enum RunFault {
     /// The input is no picture file: why, and after how many bytes.
     #[error("Ppm")]
     Ppm { reason: PpmReason, place: u64 },
-    /// A pixel has a colour of hue, lightness and saturation, which a PPM can't hold. Nothing was written.
+    /// A pixel has a colour of hue, lightness and saturation, which a PPM or a PNG can't hold. Nothing was written.
     #[error("NotRgb")]
     NotRgb,
     /// A screen of the size of the declared box was asked for, but no box is declared, or a side of it isn't from 1 to
@@ -82,6 +83,20 @@ impl From<PpmFault> for RunFault {
             PpmFault::OutOfMemory => RunFault::OutOfMemory,
             PpmFault::Read => RunFault::Read,
             PpmFault::Write => RunFault::Write,
+        }
+    }
+}
+
+impl From<PngFault> for RunFault {
+    ghost use Rattle.std.specs.Prelude.{◌≡◌};
+    ghost use Rattle.sixel_report.specs.Conversions.{of_png};
+
+    ghost from_gives = { λ fault result. result ≡ of_png fault };
+
+    fn from(fault: PngFault) -> RunFault {
+        match fault {
+            PngFault::NotRgb => RunFault::NotRgb,
+            PngFault::Write => RunFault::Write,
         }
     }
 }

@@ -32,5 +32,5 @@ pub use request::Request;
 pub use rule_set::{RuleSet, rules_of};
 pub use string_lines::{StringLine, string_line};
 pub use survey_lines::{asked_entry_line, entry_line, size_line};
-pub use task::{Area, MOST_SCREEN_SIDE, Note, Status, Task};
+pub use task::{Area, MOST_SCREEN_SIDE, Note, PictureFormat, Status, Task};
 pub use wanted_lines::{Lines, all_of, is_json, is_portable_item, is_quiet};

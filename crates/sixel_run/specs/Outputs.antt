@@ -38,6 +38,8 @@ use Rattle.sixel_report.specs.declared.task.Status.{Status}
 use Rattle.sixel_report.specs.declared.task.Status.TheVariants as status
 use Rattle.sixel_report.specs.declared.task.Note.TheVariants.{Hidden}
 use Rattle.sixel_report.specs.declared.task.Status.TheVariants.{Done, Noted, Surveyed}
+use Rattle.sixel_report.specs.declared.task.PictureFormat.{PictureFormat}
+use Rattle.sixel_report.specs.declared.task.PictureFormat.TheVariants.{Ppm}
 use Rattle.sixel_report.specs.declared.task.Task.{Task}
 use Rattle.sixel_report.specs.declared.task.Task.TheVariants.{List as Listing, Check, Survey, Render, Show, ShowBox}
 use Rattle.sixel_report.specs.declared.task.Task.TheVariants.{Encode, Differ, DifferSheet, Mend, Scan, ShowOn}
@@ -49,7 +51,7 @@ use Rattle.sixel_show.specs.Screens.{DeclareScreenIn, screen_terminal, show_choi
 use Rattle.sixel_report.specs.Texts.{Text, named_verdict_line, survey_text}
 use Rattle.sixel_list.specs.Outputs.{ListGives, ListsUnread}
 use Rattle.sixel_show.specs.Outputs.{ShowBoxGives, ShowGives, ShowOnGives}
-use Rattle.sixel_report.specs.Outputs.{WroteNothing, WroteWith}
+use Rattle.sixel_report.specs.Outputs.{GivesAs, WroteAs, WroteNothing, WroteWith}
 
 -- ---- verdicts
 
@@ -170,21 +172,22 @@ MendGives registers m bytes text answer =
 abbrev pub mending : Parts → Bool → Bool → Mending
 mending background showing selects = record { background = background; showing = showing; selects = selects }
 
--- what a task writes for these bytes, and its answer, if no allocation and no device fails
+-- what a task writes for these bytes, and its answer, if no allocation and no device fails; a picture as a PPM, whatever
+-- its format
 abbrev pub Gives : Task → List ℕ → Text → Result Status RunFault → Type 0
 Gives Listing bytes text answer = ListGives bytes text answer
 Gives (Check profile terminals) bytes text answer = CheckGives (count_of profile) terminals bytes text answer
 Gives (Survey profile terminals) bytes text answer = SurveyGives (count_of profile) terminals bytes text answer
 Gives (Scan profile eight) bytes text answer = ScanGives eight (count_of profile) bytes text answer
-Gives (Render profile) bytes text answer = RenderGives (count_of profile) bytes text answer
+Gives (Render profile format) bytes text answer = RenderGives (count_of profile) bytes text answer
 Gives (Encode profile) bytes text answer = EncodeGives (count_of profile) bytes text answer
 Gives (Mend profile background showing selects) bytes text answer =
     MendGives (count_of profile) (mending background showing selects) bytes text answer
-Gives (Show profile showing fill selects width height) bytes text answer =
+Gives (Show profile showing fill selects width height format) bytes text answer =
     ShowGives profile (show_terminal profile (show_choices showing fill selects width height)) bytes text answer
-Gives (ShowBox profile showing fill selects) bytes text answer =
+Gives (ShowBox profile showing fill selects format) bytes text answer =
     ShowBoxGives profile (screen_terminal profile showing fill selects) bytes text answer
-Gives (ShowOn named background area) bytes text answer = ShowOnGives named background area bytes text answer
+Gives (ShowOn named background area format) bytes text answer = ShowOnGives named background area bytes text answer
 Gives (Differ background) bytes text answer = DifferGives differ_output background bytes text answer
 Gives (DifferSheet background) bytes text answer = DifferGives sheet_output background bytes text answer
 
@@ -218,18 +221,39 @@ TakesMemory Listing told = ⊥
 TakesMemory (Check profile terminals) told = IfSome told (MayGrowIn (count_of profile))
 TakesMemory (Survey profile terminals) told = IfSome told DeclareBoxIn
 TakesMemory (Scan profile eight) told = IfSome told (MayGrowInString eight (count_of profile))
-TakesMemory (Render profile) told = IfSome told (MayGrowIn (count_of profile))
+TakesMemory (Render profile format) told = IfSome told (MayGrowIn (count_of profile))
 TakesMemory (Encode profile) told = IfSome told HasWholeHeader
 TakesMemory (Mend profile background showing selects) told =
     IfSome told (HasPictureSize (mending background showing selects))
-TakesMemory (Show profile showing fill selects width height) told = IfSome told IsDocument
-TakesMemory (ShowBox profile showing fill selects) told = IfSome told DeclareScreenIn
-TakesMemory (ShowOn named background area) told = IfSome told IsDocument
+TakesMemory (Show profile showing fill selects width height format) told = IfSome told IsDocument
+TakesMemory (ShowBox profile showing fill selects format) told = IfSome told DeclareScreenIn
+TakesMemory (ShowOn named background area format) told = IfSome told IsDocument
 TakesMemory (Differ background) told = IfSome told HasEachSize
 TakesMemory (DifferSheet background) told = IfSome told HasEachSize
 
--- what a run of the task over these bytes, with `left` unread, appended to what the sink `had`, for this answer
+-- what a run of the task over these bytes, with `left` unread, appended to what the sink `had`, for this answer; a
+-- picture as a PPM, whatever its format
 abbrev pub Wrote : Task → List ℕ → Option (List ℕ)
     → Result Status RunFault → Option (List ℕ) → Option (List ℕ) → Type 0
 Wrote task bytes left answer had has =
     WroteWith (Gives task bytes) (WroteUnread task bytes left) (WroteBefore task bytes) answer had has
+
+-- ---- formats
+
+-- the format of the picture that a task writes; any other text is as it is, as for a PPM
+abbrev pub format_of : Task → PictureFormat
+format_of (Render profile format) = format
+format_of (Show profile showing fill selects width height format) = format
+format_of (ShowBox profile showing fill selects format) = format
+format_of (ShowOn named background area format) = format
+format_of t = Ppm
+
+-- what a run of the task over these bytes writes and answers, if no allocation and no device fails
+abbrev pub RunGives : Task → List ℕ → Text → Result Status RunFault → Type 0
+RunGives task bytes text answer = GivesAs (format_of task) (Gives task bytes) text answer
+
+-- what a run of the task over these bytes, with `left` unread, appended to what the sink `had`, for this answer
+abbrev pub RunWrote : Task → List ℕ → Option (List ℕ)
+    → Result Status RunFault → Option (List ℕ) → Option (List ℕ) → Type 0
+RunWrote task bytes left answer had has =
+    WroteAs (format_of task) (Gives task bytes) (WroteUnread task bytes left) (WroteBefore task bytes) answer had has

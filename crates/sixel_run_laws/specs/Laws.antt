@@ -20,6 +20,7 @@ use Rattle.sixel_report.specs.declared.fault.RunFault.{RunFault}
 use Rattle.sixel_report.specs.declared.fault.RunFault.TheVariants.{NoBox}
 use Rattle.sixel_report.specs.declared.task.Status.{Status}
 use Rattle.sixel_report.specs.declared.task.Status.TheVariants.{Done, Asked, Broken, Differing, Noted, Surveyed, Unfit}
+use Rattle.sixel_report.specs.declared.task.PictureFormat.{PictureFormat}
 use Rattle.sixel_report.specs.declared.task.Task.{Task}
 use Rattle.sixel_report.specs.declared.task.Task.TheVariants.{Check, Scan, Show, ShowBox}
 use Rattle.sixel_run.specs.Outputs.{CheckGives, Gives}
@@ -65,22 +66,24 @@ DeclaresScreen bytes sides =
 
 -- if a document declares a screen, its sides are allowed for `show`, and `show --box` gives what `show` gives on it
 abbrev pub BoxIsShown : Type 0
-BoxIsShown = (profile : Profile) (showing fill selects : Bool) (width height : ℕ) (bytes : List ℕ)
-    → DeclaresScreen bytes (Some (width, height))
-    → HasSides (Show profile showing fill selects width height)
-    × GiveTheSame bytes (ShowBox profile showing fill selects) (Show profile showing fill selects width height)
+BoxIsShown = (profile : Profile) (showing fill selects : Bool) (width height : ℕ) (format : PictureFormat)
+    (bytes : List ℕ) → DeclaresScreen bytes (Some (width, height))
+    → HasSides (Show profile showing fill selects width height format)
+    × GiveTheSame bytes (ShowBox profile showing fill selects format)
+    (Show profile showing fill selects width height format)
 
 -- if it declares none, `show --box` writes nothing and answers NoBox
 abbrev pub NoBoxIsShown : Type 0
-NoBoxIsShown = (profile : Profile) (showing fill selects : Bool) (bytes : List ℕ) (text : Text)
-    (answer : Result Status RunFault) → DeclaresScreen bytes None
-    → Gives (ShowBox profile showing fill selects) bytes text answer ↔ (text ≡ []) × (answer ≡ Err NoBox)
+NoBoxIsShown = (profile : Profile) (showing fill selects : Bool) (format : PictureFormat) (bytes : List ℕ)
+    (text : Text) (answer : Result Status RunFault) → DeclaresScreen bytes None
+    → Gives (ShowBox profile showing fill selects format) bytes text answer ↔ (text ≡ []) × (answer ≡ Err NoBox)
 
 -- for bytes that are no document, `show --box` gives what `show` gives on a screen of any size
 abbrev pub FaultIsShown : Type 0
-FaultIsShown = (profile : Profile) (showing fill selects : Bool) (width height : ℕ) (bytes : List ℕ) (fault : Fault)
-    → IsFaultOf bytes fault
-    → GiveTheSame bytes (ShowBox profile showing fill selects) (Show profile showing fill selects width height)
+FaultIsShown = (profile : Profile) (showing fill selects : Bool) (width height : ℕ) (format : PictureFormat)
+    (bytes : List ℕ) (fault : Fault) → IsFaultOf bytes fault
+    → GiveTheSame bytes (ShowBox profile showing fill selects format)
+    (Show profile showing fill selects width height format)
 
 -- ---- scans
 

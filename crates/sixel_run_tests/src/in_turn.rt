@@ -37,10 +37,12 @@ const SURVEY: Task = Task::Survey {
 
 const RENDER: Task = Task::Render {
     profile: Profile::Registers16,
+    format: PictureFormat::Ppm,
 };
 
 const WIDE_RENDER: Task = Task::Render {
     profile: Profile::Registers256,
+    format: PictureFormat::Ppm,
 };
 
 const ENCODE: Task = Task::Encode {
@@ -55,6 +57,7 @@ const WIDE_SCREEN: Task = Task::Show {
     selects: false,
     width: 1,
     height: 1,
+    format: PictureFormat::Ppm,
 };
 
 /// A screen with the sides of the declared box.
@@ -63,6 +66,7 @@ const SHOW_BOX: Task = Task::ShowBox {
     showing: false,
     fill: false,
     selects: false,
+    format: PictureFormat::Ppm,
 };
 
 /// What a task reads, and what it writes and answers if no device fails.

@@ -28,6 +28,8 @@ use Rattle.sixel_report.specs.declared.wanted_lines.Lines.{Lines}
 use Rattle.sixel_report.specs.declared.wanted_lines.Lines.TheVariants.{Json, Nothing, Plain}
 use Rattle.sixel_report.specs.declared.task.Area.{Area}
 use Rattle.sixel_report.specs.declared.task.Area.TheVariants.{Box, Sides}
+use Rattle.sixel_report.specs.declared.task.PictureFormat.{PictureFormat}
+use Rattle.sixel_report.specs.declared.task.PictureFormat.TheVariants.{Ppm, Png}
 use Rattle.sixel_report.specs.declared.task.Task.{Task}
 use Rattle.sixel_report.specs.declared.task.Task.TheVariants as task
 use Rattle.sixel_words.specs.declared.words.WordsFault.{WordsFault}
@@ -57,6 +59,10 @@ is_named name rows = is_of_words (option_and_then (λ r. r.source) (find (λ r. 
 -- the profile of 256 registers with `--wide`, else that of 16
 abbrev pub profile_of : List Row → Profile
 profile_of rows = if is_given (codes "wide") rows then Registers256 else Registers16
+
+-- a PNG with `--png`, else a PPM
+abbrev pub format_of : List Row → PictureFormat
+format_of rows = if is_given (codes "png") rows then Png else Ppm
 
 -- the text is the number n from 1 to 4,096 in decimal digits, perhaps after a plus
 pub record IsSideText (text : Text) (n : ℕ) : Type 0 where
@@ -196,9 +202,10 @@ IsTask name rows (task.Survey profile terminals) = (name ≡ codes "survey") × 
     × HasTerminals rows terminals
 IsTask name rows (task.Scan profile eight) = (name ≡ codes "scan") × (profile_of rows ≡ profile)
     × (is_given (codes "eight-bit") rows ≡ eight)
-IsTask name rows (task.Render profile) = (name ≡ codes "render") × (profile_of rows ≡ profile)
+IsTask name rows (task.Render profile format) = (name ≡ codes "render") × (profile_of rows ≡ profile)
+    × (format_of rows ≡ format)
 IsTask name rows (task.Encode profile) = (name ≡ codes "encode") × (profile_of rows ≡ profile)
-IsTask name rows (task.Show profile showing fill selects width height) = (name ≡ codes "show")
+IsTask name rows (task.Show profile showing fill selects width height format) = (name ≡ codes "show")
     × (profile_of rows ≡ profile)
     × (is_given (codes "showing") rows ≡ showing)
     × (is_given (codes "fill") rows ≡ fill)
@@ -206,7 +213,8 @@ IsTask name rows (task.Show profile showing fill selects width height) = (name �
     × HasArea rows (Sides width height)
     × (first_of (codes "on") rows ≡ None)
     × (is_named (codes "background") rows ≡ false)
-IsTask name rows (task.ShowBox profile showing fill selects) = (name ≡ codes "show")
+    × (format_of rows ≡ format)
+IsTask name rows (task.ShowBox profile showing fill selects format) = (name ≡ codes "show")
     × (profile_of rows ≡ profile)
     × (is_given (codes "showing") rows ≡ showing)
     × (is_given (codes "fill") rows ≡ fill)
@@ -214,11 +222,13 @@ IsTask name rows (task.ShowBox profile showing fill selects) = (name ≡ codes "
     × HasArea rows Box
     × (first_of (codes "on") rows ≡ None)
     × (is_named (codes "background") rows ≡ false)
-IsTask name rows (task.ShowOn named colour area) = (name ≡ codes "show")
+    × (format_of rows ≡ format)
+IsTask name rows (task.ShowOn named colour area format) = (name ≡ codes "show")
     × HasNamed rows named
     × HasColour (codes "background") rows colour
     × HasArea rows area
     × (describes rows ≡ false)
+    × (format_of rows ≡ format)
 IsTask name rows (task.Differ colour) = (name ≡ codes "differ")
     × HasColour (codes "background") rows colour
     × (is_given (codes "sheet") rows ≡ false)

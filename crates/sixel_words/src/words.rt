@@ -15,7 +15,7 @@ ghost use Rattle.sixel_explain.specs.Explanations.{Asks};
 use crate::check_words::{check_task, survey_task, unnamed_value};
 use crate::differ_words::{differ_error, differ_task};
 use crate::explain_errors::explain_error;
-use crate::options::{colour_in, flag_of, profile_of};
+use crate::options::{colour_in, flag_of, format_of, profile_of};
 use crate::show_errors::show_error;
 use crate::show_words::show_task;
 use clap::error::ErrorKind;
@@ -290,6 +290,7 @@ fn task_of(name: &str, matches: &ArgMatches<'_>) -> Option<Task>
         }),
         "render" => Some(Task::Render {
             profile: profile_of(matches),
+            format: format_of(matches),
         }),
         "encode" => Some(Task::Encode {
             profile: profile_of(matches),

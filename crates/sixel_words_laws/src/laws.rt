@@ -9,6 +9,7 @@ ghost use Rattle.clap.specs.declared.error.kind.ErrorKind.TheVariants.{UnknownAr
 ghost use Rattle.sixel_explain.specs.declared.explanations.Topic.{Topic};
 ghost use Rattle.sixel_named_terminals.specs.declared.named.Named.TheVariants.{Konsole, XTerm};
 ghost use Rattle.sixel_report.specs.declared.task.Area.TheVariants.{Box, Sides};
+ghost use Rattle.sixel_report.specs.declared.task.PictureFormat.TheVariants.{Ppm, Png};
 ghost use Rattle.sixel_report.specs.declared.task.Task.{Task};
 ghost use Rattle.sixel_report.specs.declared.task.Task.TheVariants.{Check, List as Listing, Mend, Scan, Show, ShowBox};
 ghost use Rattle.sixel_report.specs.declared.task.Task.TheVariants.{Differ, DifferSheet, ShowOn, Survey};
@@ -102,7 +103,7 @@ pub fn the_word_mend_gives_a_mend()
 pub fn the_word_show_gives_a_show()
     ensures taken { (program : Text) → takes sixel_app (program ∷ codes "show" ∷ []) ≡ true }
     ensures task { (program : Text) →
-        IsTaskOf (program ∷ codes "show" ∷ []) (Show Registers16 false false false 800 480) }
+        IsTaskOf (program ∷ codes "show" ∷ []) (Show Registers16 false false false 800 480 Ppm) }
 {}
 
 /// `sixel show --box` is accepted, and shows without any other flag, with 16 registers on a screen of the size of the
@@ -110,7 +111,7 @@ pub fn the_word_show_gives_a_show()
 pub fn the_words_show_box_give_a_box()
     ensures taken { (program : Text) → takes sixel_app (program ∷ codes "show" ∷ codes "--box" ∷ []) ≡ true }
     ensures task { (program : Text) →
-        IsTaskOf (program ∷ codes "show" ∷ codes "--box" ∷ []) (ShowBox Registers16 false false false) }
+        IsTaskOf (program ∷ codes "show" ∷ codes "--box" ∷ []) (ShowBox Registers16 false false false Ppm) }
     ensures no_width { (program : Text) (task : Task) →
         IsTaskOf (program ∷ codes "show" ∷ codes "--box" ∷ codes "--width" ∷ codes "800" ∷ []) task → ⊥ }
     ensures no_height { (program : Text) (task : Task) →
@@ -125,12 +126,12 @@ pub fn the_words_show_on_name_a_terminal()
         takes sixel_app (program ∷ codes "show" ∷ codes "--on" ∷ codes "xterm" ∷ codes "--box" ∷ []) ≡ true }
     ensures task { (program : Text) →
         IsTaskOf (program ∷ codes "show" ∷ codes "--on" ∷ codes "xterm" ∷ codes "--box" ∷ [])
-        (ShowOn XTerm (Rgb 100 100 100) Box) }
+        (ShowOn XTerm (Rgb 100 100 100) Box Ppm) }
     ensures coloured { (program : Text) → IsTaskOf (program ∷ codes "show" ∷ codes "--background" ∷ codes "100,50,0"
-        ∷ codes "--on" ∷ codes "konsole" ∷ []) (ShowOn Konsole (Rgb 100 50 0) (Sides 800 480)) }
+        ∷ codes "--on" ∷ codes "konsole" ∷ []) (ShowOn Konsole (Rgb 100 50 0) (Sides 800 480) Ppm) }
     ensures any_case { (program : Text) →
         IsTaskOf (program ∷ codes "show" ∷ codes "--on" ∷ codes "XTerm" ∷ codes "--box" ∷ [])
-        (ShowOn XTerm (Rgb 100 100 100) Box) }
+        (ShowOn XTerm (Rgb 100 100 100) Box Ppm) }
     ensures no_wide { (program : Text) (task : Task) →
         IsTaskOf (program ∷ codes "show" ∷ codes "--on" ∷ codes "foot" ∷ codes "--wide" ∷ []) task → ⊥ }
     ensures no_other_name { (program : Text) (task : Task) →
@@ -201,7 +202,7 @@ pub fn an_option_may_come_again()
     ensures number_taken { (program : Text) → takes sixel_app (program ∷ codes "show" ∷ codes "--width" ∷ codes "3"
         ∷ codes "--width" ∷ codes "2" ∷ []) ≡ true }
     ensures number { (program : Text) → IsTaskOf (program ∷ codes "show" ∷ codes "--width" ∷ codes "3"
-        ∷ codes "--width" ∷ codes "2" ∷ []) (Show Registers16 false false false 2 480) }
+        ∷ codes "--width" ∷ codes "2" ∷ []) (Show Registers16 false false false 2 480 Ppm) }
 {}
 
 /// `--failed` asks a check for the lines of failures, and `--json` a check, a survey or a scan for JSON. `-q` asks for no
@@ -226,7 +227,7 @@ pub fn options_ask_for_lines()
         IsRequestOf (program ∷ codes "scan" ∷ codes "-q" ∷ codes "--json" ∷ codes "a" ∷ [])
         (Scan Registers16 false) (Nothing true) false (codes "a" ∷ []) }
     ensures quiet_box { (program : Text) → IsRequestOf (program ∷ codes "show" ∷ codes "--box" ∷ codes "--quiet" ∷ [])
-        (ShowBox Registers16 false false false) (Nothing false) false [] }
+        (ShowBox Registers16 false false false Ppm) (Nothing false) false [] }
     ensures explained { (program : Text) → IsRequestOf (program ∷ codes "check" ∷ codes "--explain" ∷ [])
         (Check Registers16 no_terminals) (Plain false) true [] }
     ensures survey_explained { (program : Text) → IsRequestOf (program ∷ codes "survey" ∷ codes "--explain" ∷ [])

@@ -67,13 +67,16 @@ read, 3 usage error; with several files the greatest.
 
 Example: ./test-suite | sixel scan";
 
-pub const RENDER: &str = "Reads sixel text from FILE or, without one, from standard input. Writes a
-portable picture to standard output as a PPM. If the picture is broken, it
-writes the broken rule to standard error, and no PPM.
+pub const RENDER: &str =
+    "Reads sixel text from FILE or, without one, from standard input. Writes a
+portable picture to standard output as a PPM or, with --png, as a PNG: the name
+after `>` can't be seen. If the picture is broken, it writes the broken rule to
+standard error, and no picture.
 
 Exit status: 0 done, 1 broken, 2 refused, 3 usage error.
 
-Example: sixel render plot.six > plot.ppm";
+Examples: sixel render plot.six > plot.ppm
+          sixel render --png plot.six > plot.png";
 
 pub const ENCODE: &str = "Reads a PPM (P6) of at most 16 colours, or 256 with --wide, from FILE or,
 without one, from standard input. Writes sixel text to standard output. Each
@@ -83,10 +86,12 @@ Exit status: 0 done, 2 refused, 3 usage error.
 
 Example: sixel encode plot.ppm > plot.six";
 
-pub const SHOW: &str = "Reads sixel text from FILE or, without one, from standard input. Writes the
-screen of one terminal, which the options choose, to standard output as a PPM.
-What is off the screen is left out. Without --wide, register 16 is register 0,
-17 is 1 and so on. --box can't be combined with --width or --height.
+pub const SHOW: &str =
+    "Reads sixel text from FILE or, without one, from standard input. Writes the
+screen of one terminal, which the options choose, to standard output, as a PPM
+or, with --png, as a PNG: the name after `>` can't be seen. What is off the
+screen is left out. Without --wide, register 16 is register 0, 17 is 1 and so
+on. --box can't be combined with --width or --height.
 
 --on NAME shows the screen of a terminal that was measured, by a model of it:
 xterm, mlterm, foot or konsole. It can't be combined with --wide, --showing,
@@ -95,7 +100,7 @@ xterm, mlterm, foot or konsole. It can't be combined with --wide, --showing,
 Exit status: 0 done, 2 refused, 3 usage error.
 
 Examples: sixel show --wide --box plot.six > plot.ppm
-          sixel show --on xterm plot.six > xterm.ppm";
+          sixel show --on xterm --png plot.six > xterm.png";
 
 pub const DIFFER: &str =
     "Reads sixel text from each FILE in turn or, without one, from standard input.

@@ -4,8 +4,8 @@ use Rattle.sixel_sheet.specs.Outputs.{DifferGives, sheet_output}
 use Rattle.sixel_run.specs.Outputs.{EncodeGives, MendGives, RenderGives, mending}
 use Rattle.sixel_show.specs.Outputs.{ShowBoxGives, ShowGives, ShowOnGives}
 use Rattle.sixel_show.specs.Screens.{screen_terminal, show_choices, show_terminal}
-use Rattle.sixel_run.proofs.LineTaskLemmas.{plain_wrote}
-use Rattle.sixel_run.proofs.RunLemmas.{unread, unread_by}
+use Rattle.sixel_run.proofs.LineTaskLemmas.{lines_wrote, plain_wrote}
+use Rattle.sixel_run.proofs.RunLemmas.{unread, unread_as, unread_by}
 use Rattle.sixel_run.proofs.running.perform.Goals as goal
 
 pub returns-in-Check-clause-wrote : goal.returns-in-Check-clause-wrote
@@ -29,7 +29,7 @@ returns-in-Encode-clause-memory g c = rw c.in-Encode.is c.encode.ensures.memory
 pub returns-in-Render-clause-wrote : goal.returns-in-Render-clause-wrote
 returns-in-Render-clause-wrote g c =
     rw c.in-Render.is
-    (unread (λ bytes. RenderGives (count_of c.in-Render.profile) bytes)
+    (unread_as c.in-Render.format (λ bytes. RenderGives (count_of c.in-Render.profile) bytes)
     (g.S.Source.state c.args.input.now).remaining (g.S.Source.state c.render.new.input).remaining
     (g.K.Sink.state c.args.output.now).taken (g.K.Sink.state c.render.new.output).taken c.render.result
     c.render.ensures.wrote c.render.ensures.unread)
@@ -47,7 +47,7 @@ returns-in-Mend-clause-wrote g c =
 pub returns-in-Show-clause-wrote : goal.returns-in-Show-clause-wrote
 returns-in-Show-clause-wrote g c =
     rw c.in-Show.is
-    (unread
+    (unread_as c.in-Show.format
     (λ bytes. ShowGives c.in-Show.profile (show_terminal c.in-Show.profile
     (show_choices c.in-Show.showing c.in-Show.fill c.in-Show.selects c.in-Show.width c.in-Show.height)) bytes)
     (g.S.Source.state c.args.input.now).remaining (g.S.Source.state c.show.new.input).remaining
@@ -57,7 +57,7 @@ returns-in-Show-clause-wrote g c =
 pub returns-in-ShowBox-clause-wrote : goal.returns-in-ShowBox-clause-wrote
 returns-in-ShowBox-clause-wrote g c =
     rw c.in-ShowBox.is
-    (unread
+    (unread_as c.in-ShowBox.format
     (λ bytes. ShowBoxGives c.in-ShowBox.profile
     (screen_terminal c.in-ShowBox.profile c.in-ShowBox.showing c.in-ShowBox.fill c.in-ShowBox.selects) bytes)
     (g.S.Source.state c.args.input.now).remaining (g.S.Source.state c.show_box.new.input).remaining
@@ -84,7 +84,7 @@ returns-in-DifferSheet-clause-wrote g c =
 pub returns-in-ShowOn-clause-wrote : goal.returns-in-ShowOn-clause-wrote
 returns-in-ShowOn-clause-wrote g c =
     rw c.in-ShowOn.is
-    (unread (λ bytes. ShowOnGives c.in-ShowOn.named c.in-ShowOn.background c.in-ShowOn.area bytes)
+    (unread_as c.in-ShowOn.format (λ bytes. ShowOnGives c.in-ShowOn.named c.in-ShowOn.background c.in-ShowOn.area bytes)
     (g.S.Source.state c.args.input.now).remaining (g.S.Source.state c.show_on.new.input).remaining
     (g.K.Sink.state c.args.output.now).taken (g.K.Sink.state c.show_on.new.output).taken c.show_on.result
     c.show_on.ensures.wrote c.show_on.ensures.unread)
