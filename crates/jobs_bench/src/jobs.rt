@@ -9,7 +9,7 @@ use crate::stock::{Form, Stock, ppm, put_picture};
 use crate::styles::Style;
 use sixel_emulator_rules::Terminals;
 use sixel_model::{Colour, Profile};
-use sixel_report::Task;
+use sixel_report::{PictureFormat, Task};
 use std::alloc::{AllocError, Global};
 
 const NARROW: Profile = Profile::Registers16;
@@ -226,6 +226,7 @@ pub fn mends(work: &mut Work) -> Result<(), AllocError> {
         showing: false,
         fill: false,
         selects: false,
+        format: PictureFormat::Ppm,
     };
     work.over_texts(&show, &colours, BANDS)
 }
@@ -241,9 +242,19 @@ pub fn pictures(work: &mut Work) -> Result<(), AllocError> {
     work.over_ppms(&narrow, &plot, false, BANDS)?;
     work.over_ppms(&wide, &colours, false, BANDS)?;
     work.over_ppms(&wide, &colours, false, BANDS)?;
-    work.over_texts(&Task::Render { profile: NARROW }, &photo, BANDS)?;
-    work.over_texts(&Task::Render { profile: NARROW }, &plot, BANDS)?;
-    work.over_texts(&Task::Render { profile: WIDE }, &colours, BANDS)
+    work.over_texts(&render(NARROW), &photo, BANDS)?;
+    work.over_texts(&render(NARROW), &plot, BANDS)?;
+    work.over_texts(&render(WIDE), &colours, BANDS)
+}
+
+/// A render as a PPM.
+fn render(profile: Profile) -> Task
+    ensures { HasSides result }
+{
+    Task::Render {
+        profile,
+        format: PictureFormat::Ppm,
+    }
 }
 
 /// Streams of a test suite, and lists.

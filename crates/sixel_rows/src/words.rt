@@ -8,7 +8,7 @@ use crate::format::RowFault;
 use sixel_emulator_rules::Terminals;
 use sixel_model::{Colour, Profile};
 use sixel_named_terminals::Named;
-use sixel_report::{Area, MOST_SCREEN_SIDE, Task};
+use sixel_report::{Area, MOST_SCREEN_SIDE, PictureFormat, Task};
 
 /// The options of a row.
 #[derive(Clone, Copy, Default)]
@@ -20,6 +20,7 @@ struct Options<'a> {
     selects: bool,
     boxed: bool,
     sheet: bool,
+    png: bool,
     on: Option<&'a str>,
     background: Option<&'a str>,
     width: Option<&'a str>,
@@ -50,6 +51,12 @@ pub fn task_of(words: &str) -> Result<Task, RowFault>
             eight_bit: options.eight_bit,
         }),
         _ if options.eight_bit => Err(RowFault::Words),
+        "render" if is_wide => Ok(Task::Render {
+            profile,
+            format: format_of(options),
+        }),
+        "show" => shown(profile, options),
+        _ if options.png => Err(RowFault::Words),
         "differ" => differing(options),
         _ if options.sheet => Err(RowFault::Words),
         "list" if is_plain => Ok(Task::List),
@@ -61,10 +68,8 @@ pub fn task_of(words: &str) -> Result<Task, RowFault>
             profile,
             terminals: terminals_of(options.on)?,
         }),
-        "render" if is_wide => Ok(Task::Render { profile }),
         "encode" if is_wide => Ok(Task::Encode { profile }),
         "mend" => mended(profile, options),
-        "show" => shown(profile, options),
         _ => Err(RowFault::Words),
     }
 }
@@ -112,6 +117,14 @@ fn add_terminal(terminals: &mut Terminals, named: Named) {
         Named::MlTerm => terminals.mlterm = true,
         Named::Foot => terminals.foot = true,
         Named::Konsole => terminals.konsole = true,
+    }
+}
+
+fn format_of(options: Options<'_>) -> PictureFormat {
+    if options.png {
+        PictureFormat::Png
+    } else {
+        PictureFormat::Ppm
     }
 }
 
@@ -207,6 +220,7 @@ fn shown_on(named: Named, options: Options<'_>) -> Result<Task, RowFault>
         named,
         background: colour_of(options.background.unwrap_or("100,100,100"))?,
         area: area_of(options)?,
+        format: format_of(options),
     })
 }
 
@@ -235,6 +249,7 @@ fn boxed(profile: Profile, options: Options<'_>) -> Result<Task, RowFault>
         showing: options.showing,
         fill: options.fill,
         selects: options.selects,
+        format: format_of(options),
     })
 }
 
@@ -250,6 +265,7 @@ fn sized(profile: Profile, options: Options<'_>) -> Result<Task, RowFault>
         selects: options.selects,
         width,
         height,
+        format: format_of(options),
     })
 }
 
@@ -293,6 +309,7 @@ fn take_word<'a>(
         (_, "--define-selects") => options.selects = true,
         (_, "--box") => options.boxed = true,
         (_, "--sheet") => options.sheet = true,
+        (_, "--png") => options.png = true,
         (_, "--on") => return Ok(Awaited::On),
         (_, "--background") => return Ok(Awaited::Background),
         (_, "--width") => return Ok(Awaited::Width),

@@ -9,7 +9,7 @@ use sixel_emulator_rules::Terminals;
 use sixel_grammar::{Fault, Reason};
 use sixel_model::{Colour, Profile};
 use sixel_ppm::PpmReason;
-use sixel_report::{RuleSet, RunFault, Status, Task};
+use sixel_report::{PictureFormat, RuleSet, RunFault, Status, Task};
 use std::alloc::Global;
 
 /// No named terminal.

@@ -11,8 +11,8 @@ ghost use Rattle.sixel_named_terminals.specs.declared.named.Named.TheVariants.{K
 ghost use Rattle.sixel_report.specs.declared.task.Area.TheVariants.{Box, Sides};
 ghost use Rattle.sixel_report.specs.declared.task.PictureFormat.TheVariants.{Ppm, Png};
 ghost use Rattle.sixel_report.specs.declared.task.Task.{Task};
-ghost use Rattle.sixel_report.specs.declared.task.Task.TheVariants.{Check, List as Listing, Mend, Scan, Show, ShowBox};
-ghost use Rattle.sixel_report.specs.declared.task.Task.TheVariants.{Differ, DifferSheet, ShowOn, Survey};
+ghost use Rattle.sixel_report.specs.declared.task.Task.TheVariants.{Check, List as Listing, Mend, Render, Scan, Show};
+ghost use Rattle.sixel_report.specs.declared.task.Task.TheVariants.{Differ, DifferSheet, ShowBox, ShowOn, Survey};
 ghost use Rattle.sixel_explain.specs.Explanations.{topic_name};
 ghost use Rattle.sixel_report.specs.Texts.{Text};
 ghost use Rattle.sixel_report.specs.declared.wanted_lines.Lines.TheVariants.{Json, Nothing, Plain};
@@ -140,6 +140,22 @@ pub fn the_words_show_on_name_a_terminal()
         IsTaskOf (program ∷ codes "show" ∷ codes "--on" ∷ codes "xterm,foot" ∷ []) task → ⊥ }
     ensures no_background { (program : Text) (task : Task) →
         IsTaskOf (program ∷ codes "show" ∷ codes "--background" ∷ codes "100,50,0" ∷ []) task → ⊥ }
+{}
+
+/// `sixel render` writes a PPM, and with `--png` a PNG. So does `show`, with `--box` and with `--on`. clap refuses
+/// `encode --png`.
+pub fn the_word_png_asks_for_a_png()
+    ensures taken { (program : Text) → takes sixel_app (program ∷ codes "render" ∷ codes "--png" ∷ []) ≡ true }
+    ensures plain { (program : Text) → IsTaskOf (program ∷ codes "render" ∷ []) (Render Registers16 Ppm) }
+    ensures render { (program : Text) →
+        IsTaskOf (program ∷ codes "render" ∷ codes "--png" ∷ []) (Render Registers16 Png) }
+    ensures box { (program : Text) → IsTaskOf (program ∷ codes "show" ∷ codes "--png" ∷ codes "--box" ∷ [])
+        (ShowBox Registers16 false false false Png) }
+    ensures on { (program : Text) →
+        IsTaskOf (program ∷ codes "show" ∷ codes "--on" ∷ codes "konsole" ∷ codes "--png" ∷ [])
+        (ShowOn Konsole (Rgb 100 100 100) (Sides 800 480) Png) }
+    ensures no_encode { (program : Text) →
+        kinds_of (program ∷ codes "encode" ∷ codes "--png" ∷ []) ≡ UnknownArgument ∷ [] }
 {}
 
 /// `sixel differ` is accepted, and compares white screens. `--background` gives another colour, and it takes several files.
