@@ -10,6 +10,9 @@ use sixel_model::{Colour, Profile};
 use sixel_named_terminals::Named;
 use sixel_report::{Area, MOST_SCREEN_SIDE, PictureFormat, Task};
 
+/// A row has the bytes of the output, and a picture has many PNGs.
+const FORMAT: PictureFormat = PictureFormat::Ppm;
+
 /// The options of a row.
 #[derive(Clone, Copy, Default)]
 struct Options<'a> {
@@ -20,7 +23,6 @@ struct Options<'a> {
     selects: bool,
     boxed: bool,
     sheet: bool,
-    png: bool,
     on: Option<&'a str>,
     background: Option<&'a str>,
     width: Option<&'a str>,
@@ -51,12 +53,6 @@ pub fn task_of(words: &str) -> Result<Task, RowFault>
             eight_bit: options.eight_bit,
         }),
         _ if options.eight_bit => Err(RowFault::Words),
-        "render" if is_wide => Ok(Task::Render {
-            profile,
-            format: format_of(options),
-        }),
-        "show" => shown(profile, options),
-        _ if options.png => Err(RowFault::Words),
         "differ" => differing(options),
         _ if options.sheet => Err(RowFault::Words),
         "list" if is_plain => Ok(Task::List),
@@ -68,8 +64,13 @@ pub fn task_of(words: &str) -> Result<Task, RowFault>
             profile,
             terminals: terminals_of(options.on)?,
         }),
+        "render" if is_wide => Ok(Task::Render {
+            profile,
+            format: FORMAT,
+        }),
         "encode" if is_wide => Ok(Task::Encode { profile }),
         "mend" => mended(profile, options),
+        "show" => shown(profile, options),
         _ => Err(RowFault::Words),
     }
 }
@@ -117,14 +118,6 @@ fn add_terminal(terminals: &mut Terminals, named: Named) {
         Named::MlTerm => terminals.mlterm = true,
         Named::Foot => terminals.foot = true,
         Named::Konsole => terminals.konsole = true,
-    }
-}
-
-fn format_of(options: Options<'_>) -> PictureFormat {
-    if options.png {
-        PictureFormat::Png
-    } else {
-        PictureFormat::Ppm
     }
 }
 
@@ -220,7 +213,7 @@ fn shown_on(named: Named, options: Options<'_>) -> Result<Task, RowFault>
         named,
         background: colour_of(options.background.unwrap_or("100,100,100"))?,
         area: area_of(options)?,
-        format: format_of(options),
+        format: FORMAT,
     })
 }
 
@@ -249,7 +242,7 @@ fn boxed(profile: Profile, options: Options<'_>) -> Result<Task, RowFault>
         showing: options.showing,
         fill: options.fill,
         selects: options.selects,
-        format: format_of(options),
+        format: FORMAT,
     })
 }
 
@@ -265,7 +258,7 @@ fn sized(profile: Profile, options: Options<'_>) -> Result<Task, RowFault>
         selects: options.selects,
         width,
         height,
-        format: format_of(options),
+        format: FORMAT,
     })
 }
 
@@ -309,7 +302,6 @@ fn take_word<'a>(
         (_, "--define-selects") => options.selects = true,
         (_, "--box") => options.boxed = true,
         (_, "--sheet") => options.sheet = true,
-        (_, "--png") => options.png = true,
         (_, "--on") => return Ok(Awaited::On),
         (_, "--background") => return Ok(Awaited::Background),
         (_, "--width") => return Ok(Awaited::Width),

@@ -469,11 +469,17 @@ on_refused format named background area (Some told) fault had shown =
 
 -- ---- while the source is read
 
-pub at_once_in : (named : Named) (background : Parts) (width height : ℕ) (a : Option (List ℕ)) (screen : Shown)
+pub at_once_in : (named : Named) (background : Parts) (width height : ℕ) (bytes : List ℕ) (screen : Shown)
+    → GivesScreen named background (width, height) bytes (Ok screen)
+    → ShowsIn named background (area.Sides width height) bytes (Ok screen)
+at_once_in named background width height bytes screen g = (g.0, g.1, ((width, height), refl, g.2))
+
+pub at_once_told : (named : Named) (background : Parts) (width height : ℕ) (a : Option (List ℕ)) (screen : Shown)
     → IfSome a (λ bytes. GivesScreen named background (width, height) bytes (Ok screen))
     → IfSome a (λ bytes. ShowsRead named background (area.Sides width height) bytes (Ok screen))
-at_once_in named background width height None screen g = tt
-at_once_in named background width height (Some bytes) screen g = (g.0, g.1, ((width, height), refl, g.2))
+at_once_told named background width height None screen g = tt
+at_once_told named background width height (Some bytes) screen g =
+    at_once_in named background width height bytes screen g
 
 -- ---- failures
 
