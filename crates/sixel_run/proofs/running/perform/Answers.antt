@@ -1,3 +1,4 @@
+use Rattle.std.proofs.Common.{rules}
 use Rattle.sixel_model.specs.Profiles.{count_of}
 use Rattle.sixel_ppm.specs.PpmReading.{NoPpmFaultBefore, ppm_read}
 use Rattle.sixel_sheet.specs.Outputs.{DifferGives, sheet_output}
@@ -9,7 +10,8 @@ use Rattle.sixel_run.proofs.RunLemmas.{unread, unread_as, unread_by}
 use Rattle.sixel_run.proofs.running.perform.Goals as goal
 
 pub returns-in-Check-clause-wrote : goal.returns-in-Check-clause-wrote
-returns-in-Check-clause-wrote g c = plain_wrote _ _ _ _ c.write_lines.ensures
+returns-in-Check-clause-wrote g c =
+    lines_wrote c.args.task _ _ _ _ _ (search rules) (plain_wrote _ _ _ _ c.write_lines.ensures)
 
 pub returns-in-Encode-clause-wrote : goal.returns-in-Encode-clause-wrote
 returns-in-Encode-clause-wrote g c =
