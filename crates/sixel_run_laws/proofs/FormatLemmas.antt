@@ -1,6 +1,6 @@
 -- Lemmas for the laws of the formats of pictures.
 use Rattle.std.proofs.Common.{◌≡◌, ◌∙◌, ◌↔◌, ◌⊎◌, ◌<◌, ◌≤◌, ◌^◌, ◌++◌, ◌∷◌, ℕ, List, [], Option, Some, ap, ap₂, arith}
-use Rattle.std.proofs.Common.{inl, inr, map, refl, rules, subst, sym}
+use Rattle.std.proofs.Common.{append_assoc, codes, inl, inr, map, refl, subst, sym}
 use Rattle.std.specs.Prelude.{Result, Ok, decimal}
 use Rattle.std.specs.Char.{digit_value}
 use Rattle.std.specs.Str.Parse.{AllDigits, digits_value}
@@ -49,7 +49,15 @@ split_number m n r s c other lm ln e =
 header_as : (w h : ℕ) (r : List ℕ) → ppm_header w h ++ r
     ≡ 80 ∷ 54 ∷ 10 ∷ (decimal w ++ 32 ∷ (decimal h ++ 10 ∷ (49 ∷ 48 ∷ 48 ∷ 10 ∷ r)))
 unfolding ppm_header
-header_as w h r = search rules
+header_as w h r =
+    let wide : List ℕ = decimal w in
+    let high : List ℕ = 32 ∷ decimal h in
+    let most : List ℕ = 10 ∷ codes "100" in
+    let end : List ℕ = 10 ∷ [] in
+    ap (λ (t : List ℕ). 80 ∷ 54 ∷ 10 ∷ t)
+    (append_assoc ((wide ++ high) ++ most) end r
+    ∙ append_assoc (wide ++ high) most (end ++ r)
+    ∙ append_assoc wide high (most ++ (end ++ r)))
 
 -- the width, the height and the samples are those of the text
 pub same_header : (w h u v : ℕ) (r s : List ℕ) → w < 2 ^ 64 → h < 2 ^ 64 → u < 2 ^ 64 → v < 2 ^ 64
