@@ -48,10 +48,9 @@ run_ends : (t : Task) (q : Lines) (name : Option Text) (x : Exit) (i : Change So
 run_ends t q name x i o e ended = (
   ended.answer,
   ended.ends,
-  λ judged. (
-    i.new.remaining,
-    text_wrote t i.old.remaining i.new.remaining ended.answer o.old.taken o.new.taken ended.wrote,
-  ),
+  λ judged.
+      (let w = text_wrote t i.old.remaining i.new.remaining ended.answer o.old.taken o.new.taken ended.wrote in
+      (i.new.remaining, w.0, w.1, w.2)),
 )
 
 file_run : {O : Type 0} (folder : FolderView O) (t : Task) (q : Lines) (name : Text) (x : Exit)
