@@ -55,47 +55,47 @@ whole_cut e text =
 -- ---- what was written
 
 module _ (gives : Text → Result Status RunFault → Type 0) (unread before : Option (List ℕ) → Option (List ℕ) → Type 0)
-    where
-  -- nothing
-  pub as_nothing : (format : PictureFormat) (answer : Result Status RunFault) (had : Option (List ℕ))
-      → ((same : Option (List ℕ)) → WroteWith gives unread before answer same same)
-      → WroteAs format gives unread before answer had had
-  as_nothing Ppm answer had w = w had
-  as_nothing Png answer had w =
-      ([], w (Some []), ([], inl (refl, refl), puts_nothing answer had had (Appends-none had)))
+  where
+    -- nothing
+    pub as_nothing : (format : PictureFormat) (answer : Result Status RunFault) (had : Option (List ℕ))
+        → ((same : Option (List ℕ)) → WroteWith gives unread before answer same same)
+        → WroteAs format gives unread before answer had had
+    as_nothing Ppm answer had w = w had
+    as_nothing Png answer had w =
+        ([], w (Some []), ([], inl (refl, refl), puts_nothing answer had had (Appends-none had)))
 
-  -- a file
-  pub as_written : {A : Type 0} (format : PictureFormat) (x : A) (status : Status) (old new : SinkState)
-      (width height : ℕ) (colours : List Parts)
-      → ((had has : SinkState) → WritesFile {A = A} Ppm (Ok x) had has width height colours
-      → WroteWith gives unread before (Ok status) had.taken has.taken)
-      → WritesFile {A = A} format (Ok x) old new width height colours
-      → WroteAs format gives unread before (Ok status) old.taken new.taken
-  as_written Ppm x status old new width height colours w put = w old new put
-  as_written Png x status old new width height colours w put =
-      let ppm : Text = ppm_text width height colours in (
-        ppm,
-        w empty (with_text 0 ppm) (put.0, whole_put x ppm),
-        (put.1.text, inr (png_of width height colours put.1.text put.1.png), put.1.written.taken),
-      )
+    -- a file
+    pub as_written : {A : Type 0} (format : PictureFormat) (x : A) (status : Status) (old new : SinkState)
+        (width height : ℕ) (colours : List Parts)
+        → ((had has : SinkState) → WritesFile {A = A} Ppm (Ok x) had has width height colours
+        → WroteWith gives unread before (Ok status) had.taken has.taken)
+        → WritesFile {A = A} format (Ok x) old new width height colours
+        → WroteAs format gives unread before (Ok status) old.taken new.taken
+    as_written Ppm x status old new width height colours w put = w old new put
+    as_written Png x status old new width height colours w put =
+        let ppm : Text = ppm_text width height colours in (
+          ppm,
+          w empty (with_text 0 ppm) (put.0, whole_put x ppm),
+          (put.1.text, inr (png_of width height colours put.1.text put.1.png), put.1.written.taken),
+        )
 
-  -- a prefix of one, or nothing
-  pub as_unwritten : (A : Type 0) (format : PictureFormat) (fault : RunFault) (old new : SinkState) (width height : ℕ)
-      (colours : List Parts)
-      → ((had has : SinkState) → WritesFile {A = A} Ppm (Err fault) had has width height colours
-      → WroteWith gives unread before (Err fault) had.taken has.taken)
-      → WritesFile {A = A} format (Err fault) old new width height colours
-      → WroteAs format gives unread before (Err fault) old.taken new.taken
-  as_unwritten A Ppm fault old new width height colours w put = w old new put
-  as_unwritten A Png Write old new width height colours w put =
-      let ppm : Text = ppm_text width height colours in (
-        ppm,
-        w empty (with_text (one_more 0) ppm) (put.0, whole_cut Write ppm),
-        (put.1.text, inr (png_of width height colours put.1.text put.1.png), put.1.written.taken),
-      )
-  as_unwritten A Png NotRgb old new width height colours w put =
-      ([], w empty empty (put.0, refl), ([], inl (refl, refl), nothing-written old new put.1))
-  as_unwritten A Png _ old new width height colours w put = absurd put
+    -- a prefix of one, or nothing
+    pub as_unwritten : (A : Type 0) (format : PictureFormat) (fault : RunFault) (old new : SinkState) (width height : ℕ)
+        (colours : List Parts)
+        → ((had has : SinkState) → WritesFile {A = A} Ppm (Err fault) had has width height colours
+        → WroteWith gives unread before (Err fault) had.taken has.taken)
+        → WritesFile {A = A} format (Err fault) old new width height colours
+        → WroteAs format gives unread before (Err fault) old.taken new.taken
+    as_unwritten A Ppm fault old new width height colours w put = w old new put
+    as_unwritten A Png Write old new width height colours w put =
+        let ppm : Text = ppm_text width height colours in (
+          ppm,
+          w empty (with_text (one_more 0) ppm) (put.0, whole_cut Write ppm),
+          (put.1.text, inr (png_of width height colours put.1.text put.1.png), put.1.written.taken),
+        )
+    as_unwritten A Png NotRgb old new width height colours w put =
+        ([], w empty empty (put.0, refl), ([], inl (refl, refl), nothing-written old new put.1))
+    as_unwritten A Png _ old new width height colours w put = absurd put
 
 -- what is known of the PPM of one task is known of the PNG
 pub as_mapped : (gives others : Text → Result Status RunFault → Type 0)

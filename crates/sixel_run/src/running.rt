@@ -150,9 +150,7 @@ fn perform<S: Source, K: Sink>(
             background,
             area,
             format,
-        } => show_on::show_on(
-            alloc, named, background, area, format, input, piece, output,
-        ),
+        } => show_on::show_on(alloc, named, background, area, format, input, piece, output),
         Task::DifferSheet { background } => {
             differ_sheet::differ_sheet(alloc, background, input, piece, output)
         }

@@ -149,9 +149,9 @@ pub fn the_word_png_asks_for_a_png()
     ensures plain { (program : Text) → IsTaskOf (program ∷ codes "render" ∷ []) (Render Registers16 Ppm) }
     ensures render { (program : Text) →
         IsTaskOf (program ∷ codes "render" ∷ codes "--png" ∷ []) (Render Registers16 Png) }
-    ensures box { (program : Text) → IsTaskOf (program ∷ codes "show" ∷ codes "--png" ∷ codes "--box" ∷ [])
+    ensures boxed { (program : Text) → IsTaskOf (program ∷ codes "show" ∷ codes "--png" ∷ codes "--box" ∷ [])
         (ShowBox Registers16 false false false Png) }
-    ensures on { (program : Text) →
+    ensures named { (program : Text) →
         IsTaskOf (program ∷ codes "show" ∷ codes "--on" ∷ codes "konsole" ∷ codes "--png" ∷ [])
         (ShowOn Konsole (Rgb 100 100 100) (Sides 800 480) Png) }
     ensures no_encode { (program : Text) →

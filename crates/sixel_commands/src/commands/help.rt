@@ -67,8 +67,7 @@ read, 3 usage error; with several files the greatest.
 
 Example: ./test-suite | sixel scan";
 
-pub const RENDER: &str =
-    "Reads sixel text from FILE or, without one, from standard input. Writes a
+pub const RENDER: &str = "Reads sixel text from FILE or, without one, from standard input. Writes a
 portable picture to standard output as a PPM or, with --png, as a PNG: the name
 after `>` can't be seen. If the picture is broken, it writes the broken rule to
 standard error, and no picture.
@@ -86,8 +85,7 @@ Exit status: 0 done, 2 refused, 3 usage error.
 
 Example: sixel encode plot.ppm > plot.six";
 
-pub const SHOW: &str =
-    "Reads sixel text from FILE or, without one, from standard input. Writes the
+pub const SHOW: &str = "Reads sixel text from FILE or, without one, from standard input. Writes the
 screen of one terminal, which the options choose, to standard output, as a PPM
 or, with --png, as a PNG: the name after `>` can't be seen. What is off the
 screen is left out. Without --wide, register 16 is register 0, 17 is 1 and so

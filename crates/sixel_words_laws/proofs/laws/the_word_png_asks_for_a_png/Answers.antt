@@ -1,4 +1,5 @@
 use Rattle.std.proofs.Common.{codes, inl, refl}
+use Rattle.clap.proofs.OnLiterals.{clap_on_literals}
 use Rattle.clap.specs.Takes.{walk_passes}
 use Rattle.clap.specs.Walk.{walked}
 use Rattle.sixel_words_laws.proofs.LiteralLemmas.{all, high, wide}
@@ -16,18 +17,18 @@ pub returns-clause-render : goal.returns-clause-render
 unfolding walked
 returns-clause-render c = λ program. (codes "render", _, refl, (refl, refl, refl))
 
-pub returns-clause-box : goal.returns-clause-box
+pub returns-clause-boxed : goal.returns-clause-boxed
 unfolding walked
-returns-clause-box c = λ program. (
+returns-clause-boxed c = λ program. (
   codes "show",
   _,
   refl,
   (refl, refl, refl, refl, refl, (refl, refl, refl), refl, refl, refl),
 )
 
-pub returns-clause-on : goal.returns-clause-on
+pub returns-clause-named : goal.returns-clause-named
 unfolding walked
-returns-clause-on c = λ program. (
+returns-clause-named c = λ program. (
   codes "show",
   _,
   refl,
@@ -42,5 +43,5 @@ returns-clause-on c = λ program. (
 )
 
 pub returns-clause-no_encode : goal.returns-clause-no_encode
-unfolding walked walk_passes
+unfolding clap_on_literals
 returns-clause-no_encode c = λ program. refl
