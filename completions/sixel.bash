@@ -45,9 +45,9 @@ _sixel() {
         check) options='--wide --on -q --quiet --failed --json --explain -h --help -V --version' operands=0 ;;
         survey) options='--wide --on --json --explain -h --help -V --version' operands=0 ;;
         scan) options='--wide -q --quiet --eight-bit --json -h --help -V --version' operands=0 ;;
-        render) options='--wide -h --help -V --version' ;;
+        render) options='--wide --png -h --help -V --version' ;;
         encode) options='--wide -h --help -V --version' ;;
-        show) options='--wide -q --quiet --showing --fill --define-selects --width --height --box --on --background -h --help -V --version' ;;
+        show) options='--wide -q --quiet --showing --fill --define-selects --width --height --box --on --background --png -h --help -V --version' ;;
         differ) options='--background --sheet -h --help -V --version' operands=0 ;;
         mend) options='--wide -q --quiet --background --showing --define-selects -h --help -V --version' ;;
         explain) options='-h --help -V --version' operands=0
