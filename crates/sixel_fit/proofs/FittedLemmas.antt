@@ -32,20 +32,23 @@ above_if false height after is = omega (arith, is)
 refused_at : (t : Terminals) (pad : Parts) (p : PictureValue) (height : ℕ) (fault : FitFault)
     → fit_reason t pad p height ≡ Some fault → Err fault ≡ fitted_at t pad p height
 refused_at t pad p height fault is =
-    sym (ap (λ (o : Option FitFault). fitted_by o (nat_lt p.height height) (pad_register pad p.palette) pad p height) is)
+    sym (ap (λ (o : Option FitFault). fitted_by o (nat_lt p.height height) (pad_register pad p.palette) pad p height)
+    is)
 
 -- a picture
 with_rows_at : (t : Terminals) (pad : Parts) (p : PictureValue) (height r : ℕ) → fit_reason t pad p height ≡ None
     → p.height < height → pad_register pad p.palette ≡ Some r → Ok (with_rows p height pad r) ≡ fitted_at t pad p height
 with_rows_at t pad p height r none less takes =
-    sym (ap (λ (o : Option FitFault). fitted_by o (nat_lt p.height height) (pad_register pad p.palette) pad p height) none
+    sym (ap (λ (o : Option FitFault). fitted_by o (nat_lt p.height height) (pad_register pad p.palette) pad p height)
+    none
     ∙ ap (λ (b : Bool). fitted_by None b (pad_register pad p.palette) pad p height) (lt-ltb p.height height less)
     ∙ ap (λ (o : Option ℕ). fitted_by None true o pad p height) takes)
 
 same_at : (t : Terminals) (pad : Parts) (p : PictureValue) (height : ℕ) → fit_reason t pad p height ≡ None
     → height ≤ p.height → Ok p ≡ fitted_at t pad p height
 same_at t pad p height none not_less =
-    sym (ap (λ (o : Option FitFault). fitted_by o (nat_lt p.height height) (pad_register pad p.palette) pad p height) none
+    sym (ap (λ (o : Option FitFault). fitted_by o (nat_lt p.height height) (pad_register pad p.palette) pad p height)
+    none
     ∙ ap (λ (b : Bool). fitted_by None b (pad_register pad p.palette) pad p height) (le-ltb p.height height not_less))
 
 made_at : (t : Terminals) (pad : Parts) (p q : PictureValue) → Fits t pad p q → fit_reason t pad p q.height ≡ None

@@ -1,6 +1,6 @@
 //! Rows of one colour below a picture.
 
-ghost use Rattle.std.specs.Prelude.{◌≡◌, ◌≤◌, ◌<◌, ◌+◌, ◌-◌, ◌*◌, ◌++◌, IfOk, IfSome, is_none, length, position, replicate};
+ghost use Rattle.std.specs.Prelude.{◌≡◌, ◌≤◌, ◌<◌, ◌-◌, ◌++◌, IfOk, IfSome, is_none, length, position, replicate};
 ghost use Rattle.sixel_fit.specs.Rows.{pad_register, with_rows};
 
 use sixel_model::{Colour, Palette, Picture};
