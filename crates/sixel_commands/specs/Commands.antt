@@ -45,6 +45,10 @@ on = record (new_rule (codes "on")) { long = Some (codes "on"); value_names = 1 
 abbrev pub names : Rule
 names = record on { action = Some Append }
 
+-- `--pad COLOUR`
+abbrev pub pad : Rule
+pad = record (new_rule (codes "pad")) { long = Some (codes "pad"); value_names = 1 }
+
 -- `--background COLOUR`, with the default `fallback`
 abbrev pub background : Text → Rule
 background fallback = record (new_rule (codes "background")) {
@@ -56,6 +60,15 @@ background fallback = record (new_rule (codes "background")) {
 -- a subcommand with the option `--wide`
 abbrev pub profiled_app : Text → App
 profiled_app name = with_rule (with_rule (new_app name) (flag (codes "wide"))) file
+
+-- `encode`
+abbrev pub encode_app : App
+encode_app =
+    with_rule (with_rule (with_rule (with_rule (new_app (codes "encode"))
+    (flag (codes "wide")))
+    names)
+    pad)
+    file
 
 -- `check`
 abbrev pub check_app : App
@@ -116,12 +129,14 @@ differ_app =
 -- `mend`
 abbrev pub mend_app : App
 mend_app =
-    with_rule (with_rule (with_rule (with_rule (with_rule (with_rule (new_app (codes "mend"))
+    with_rule (with_rule (with_rule (with_rule (with_rule (with_rule (with_rule (with_rule (new_app (codes "mend"))
     (flag (codes "wide")))
     quiet)
     (background (codes "0,0,0")))
     (flag (codes "showing")))
     (flag (codes "define-selects")))
+    names)
+    pad)
     file
 
 -- `explain`, with any number of words
@@ -142,7 +157,7 @@ sixel_app =
       args_override_self = true;
     }) (new_app (codes "sixel")))
     (plain_app (codes "list")).top) check_app.top) survey_app.top) scan_app.top) (profiled_app (codes "render")).top)
-    (profiled_app (codes "encode")).top) show_app.top) differ_app.top) mend_app.top) explain_app.top
+    encode_app.top) show_app.top) differ_app.top) mend_app.top) explain_app.top
 
 -- the names of the subcommands
 abbrev pub subcommands : List Text

@@ -4,9 +4,9 @@ ghost use Rattle.std.specs.Prelude.{◌≡◌, IfOk, codes, false};
 ghost use Rattle.clap.specs.Walk.{rule_of};
 ghost use Rattle.clap.specs.Simple.{app_of, new_app};
 ghost use Rattle.clap.specs.declared.builder.command.Command.TheViews.{out-Command as fields_of};
-ghost use Rattle.sixel_commands.specs.Commands.{background, check_app, differ_app, explain_app, file, files, flag};
-ghost use Rattle.sixel_commands.specs.Commands.{mend_app, names, on, plain_app, profiled_app, quiet, scan_app, show_app};
-ghost use Rattle.sixel_commands.specs.Commands.{side, sixel_app, survey_app};
+ghost use Rattle.sixel_commands.specs.Commands.{background, check_app, differ_app, encode_app, explain_app, file, files};
+ghost use Rattle.sixel_commands.specs.Commands.{flag, mend_app, names, on, pad, plain_app, profiled_app, quiet, scan_app};
+ghost use Rattle.sixel_commands.specs.Commands.{show_app, side, sixel_app, survey_app};
 
 mod help;
 
@@ -92,17 +92,24 @@ pub fn render_command<'a>(alloc: Global) -> Result<Command<'a>, AllocError>
     )
 }
 
-/// `encode`, with `--wide` and an optional file.
+/// `encode`, with three options and an optional file.
 pub fn encode_command<'a>(alloc: Global) -> Result<Command<'a>, AllocError>
-    ensures app { IfOk result (λ c. app_of c ≡ profiled_app (codes "encode")) }
+    ensures app { IfOk result (λ c. app_of c ≡ encode_app) }
     ensures local { IfOk result (λ c. (fields_of c).has_globals ≡ false) }
 {
-    profiled_command(
+    task_command(
         alloc,
         "encode",
         "Converts a PPM to portable sixel text",
         help::ENCODE,
-    )
+    )?
+    .arg(wide_arg(alloc))?
+    .arg(names_arg(alloc, FOR_TERMINALS))?
+    .arg(pad_arg(
+        alloc,
+        "With --on: the rows below, in percent, or '#RRGGBB' [default: 0,0,0]",
+    ))?
+    .arg(file_arg(alloc))
 }
 
 /// A subcommand with `--wide` and an optional file.
@@ -151,7 +158,7 @@ pub fn check_command<'a>(alloc: Global) -> Result<Command<'a>, AllocError>
         help::CHECK,
     )?
     .arg(wide_arg(alloc))?
-    .arg(names_arg(alloc))?
+    .arg(names_arg(alloc, COUNTED_RULES))?
     .arg(quiet_arg(alloc, "Print no verdict; use the exit status"))?
     .arg(flag_arg(
         alloc,
@@ -175,7 +182,7 @@ pub fn survey_command<'a>(alloc: Global) -> Result<Command<'a>, AllocError>
         help::SURVEY,
     )?
     .arg(wide_arg(alloc))?
-    .arg(names_arg(alloc))?
+    .arg(names_arg(alloc, COUNTED_RULES))?
     .arg(json_arg(alloc))?
     .arg(explain_arg(alloc))?
     .arg(files_arg(alloc))
@@ -277,7 +284,7 @@ pub fn differ_command<'a>(alloc: Global) -> Result<Command<'a>, AllocError>
     .arg(files_arg(alloc))
 }
 
-/// `mend`, with five options and an optional file.
+/// `mend`, with seven options and an optional file.
 pub fn mend_command<'a>(alloc: Global) -> Result<Command<'a>, AllocError>
     ensures app { IfOk result (λ c. app_of c ≡ mend_app) }
     ensures local { IfOk result (λ c. (fields_of c).has_globals ≡ false) }
@@ -307,6 +314,11 @@ pub fn mend_command<'a>(alloc: Global) -> Result<Command<'a>, AllocError>
         alloc,
         "define-selects",
         "Let a colour definition also select its register",
+    ))?
+    .arg(names_arg(alloc, FOR_TERMINALS))?
+    .arg(pad_arg(
+        alloc,
+        "With --on: the rows below [default: the colour of --background]",
     ))?
     .arg(file_arg(alloc))
 }
@@ -346,17 +358,30 @@ fn on_arg<'a>(alloc: Global, value: &'a str, help: &'a str) -> Arg<'a>
         .help(help)
 }
 
-/// `--on NAMES`, of terminals whose rules count: the values of all its uses.
-fn names_arg<'a>(alloc: Global) -> Arg<'a>
+/// What `--on` does for `check` and `survey`.
+const COUNTED_RULES: &str =
+    "Count the rules of these terminals, too: xterm, mlterm, foot, konsole or all";
+
+/// What it does for `encode` and `mend`.
+const FOR_TERMINALS: &str = "Write what these terminals show: xterm, mlterm, foot, konsole or all";
+
+/// `--on NAMES`, of several terminals: the values of all its uses.
+fn names_arg<'a>(alloc: Global, help: &'a str) -> Arg<'a>
     ensures rule { rule_of result ≡ names }
     ensures local { result.global ≡ false }
 {
-    on_arg(
-        alloc,
-        "NAMES",
-        "Count the rules of these terminals, too: xterm, mlterm, foot, konsole or all",
-    )
-    .action(ArgAction::Append)
+    on_arg(alloc, "NAMES", help).action(ArgAction::Append)
+}
+
+/// `--pad COLOUR`.
+fn pad_arg<'a>(alloc: Global, help: &'a str) -> Arg<'a>
+    ensures rule { rule_of result ≡ pad }
+    ensures local { result.global ≡ false }
+{
+    Arg::new(alloc, "pad")
+        .long("pad")
+        .value_name("COLOUR")
+        .help(help)
 }
 
 /// `--background COLOUR`, with a default.

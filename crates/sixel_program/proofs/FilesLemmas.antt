@@ -301,13 +301,13 @@ memory_kept (task.Check profile named) told has same takes = kept _ told has sam
 memory_kept (task.Survey profile named) told has same takes = kept _ told has same takes
 memory_kept (task.Scan profile eight) told has same takes = kept _ told has same takes
 memory_kept (task.Render profile) told has same takes = kept _ told has same takes
-memory_kept (task.Encode profile) told has same takes = kept _ told has same takes
+memory_kept (task.Encode profile fitting) told has same takes = kept _ told has same takes
 memory_kept (task.Show profile showing fill selects width height) told has same takes = kept _ told has same takes
 memory_kept (task.ShowBox profile showing fill selects) told has same takes = kept _ told has same takes
 memory_kept (task.ShowOn named background area) told has same takes = kept _ told has same takes
 memory_kept (task.Differ background) told has same takes = kept _ told has same takes
 memory_kept (task.DifferSheet background) told has same takes = kept _ told has same takes
-memory_kept (task.Mend profile background showing selects) told has same takes = kept _ told has same takes
+memory_kept (task.Mend profile background showing selects fitting) told has same takes = kept _ told has same takes
 
 -- what was read of a source was read of the bytes that the source was made from
 consumed_kept : (bytes : List ℕ) (told has left : Option (List ℕ)) → Keeps told has → Consumes has left bytes

@@ -74,10 +74,10 @@ module _ {O : Type 0} (folder : FolderView O) (x : Exit) (i : Change SourceState
       inl (codes "-", refl, run_ends (task.Render profile) q None x i o e ended)
   request_read (task.Render profile) q h (name ∷ more) ended =
       inl (name, refl, file_run folder (task.Render profile) q name x i o e ended)
-  request_read (task.Encode profile) q h [] ended =
-      inl (codes "-", refl, run_ends (task.Encode profile) q None x i o e ended)
-  request_read (task.Encode profile) q h (name ∷ more) ended =
-      inl (name, refl, file_run folder (task.Encode profile) q name x i o e ended)
+  request_read (task.Encode profile fitting) q h [] ended =
+      inl (codes "-", refl, run_ends (task.Encode profile fitting) q None x i o e ended)
+  request_read (task.Encode profile fitting) q h (name ∷ more) ended =
+      inl (name, refl, file_run folder (task.Encode profile fitting) q name x i o e ended)
   request_read (task.Show profile showing fill selects width height) q h [] ended =
       inl (codes "-", refl, run_ends (task.Show profile showing fill selects width height) q None x i o e ended)
   request_read (task.Show profile showing fill selects width height) q h (name ∷ more) ended =
@@ -94,10 +94,10 @@ module _ {O : Type 0} (folder : FolderView O) (x : Exit) (i : Change SourceState
       inl (codes "-", refl, run_ends (task.DifferSheet background) q None x i o e ended)
   request_read (task.DifferSheet background) q h (name ∷ more) ended =
       inl (name, refl, file_run folder (task.DifferSheet background) q name x i o e ended)
-  request_read (task.Mend profile background showing selects) q h [] ended =
-      inl (codes "-", refl, run_ends (task.Mend profile background showing selects) q None x i o e ended)
-  request_read (task.Mend profile background showing selects) q h (name ∷ more) ended =
-      inl (name, refl, file_run folder (task.Mend profile background showing selects) q name x i o e ended)
+  request_read (task.Mend profile background showing selects fitting) q h [] ended =
+      inl (codes "-", refl, run_ends (task.Mend profile background showing selects fitting) q None x i o e ended)
+  request_read (task.Mend profile background showing selects fitting) q h (name ∷ more) ended =
+      inl (name, refl, file_run folder (task.Mend profile background showing selects fitting) q name x i o e ended)
 
 answer_no_usage : (a : Result Status RunFault) → exit_for_answer a ≢ exit.Usage
 answer_no_usage (Ok status.Done) = λ (is : exit.Done ≡ exit.Usage). cc

@@ -96,7 +96,7 @@ IsJudgedOver t told = IfSome told (λ bytes. (text : Text) × (status : Status) 
 
 -- what the task says if it waits for a terminal
 abbrev pub waiting_line : Task → Text
-waiting_line (Encode profile) = codes "sixel: waiting for a PPM on standard input" ++ 10 ∷ []
+waiting_line (Encode profile fitting) = codes "sixel: waiting for a PPM on standard input" ++ 10 ∷ []
 waiting_line t = codes "sixel: waiting for sixel text on standard input" ++ 10 ∷ []
 
 -- the notice before a task: one that reads standard input says that it waits, if that is a terminal and it isn't quiet

@@ -1,6 +1,7 @@
 //! Why a run is refused.
 
 use sixel_differ::DifferFault;
+use sixel_fit::FitFault;
 use sixel_grammar::{Fault, Halt, InputFault};
 use sixel_io::DeviceFault;
 use sixel_mend::MendFault;
@@ -33,14 +34,22 @@ pub enum RunFault {
     /// The stream has no sixel string. Nothing was written.
     #[error("NoString")]
     NoString,
+    /// xterm is to show the picture, and it has more than 1,000 columns or 996 rows: its sides. Nothing was written.
+    #[error("Large")]
+    Large { width: u32, height: u32 },
+    /// xterm is to show the picture, and a colour of it is given by hue, lightness and saturation. Nothing was written.
+    #[error("Hue")]
+    Hue,
     /// A side of the mended picture is 0: nothing is painted, and no box with both sides is declared. Nothing was
     /// written.
     #[error("Empty")]
     Empty,
-    /// The mended picture has more than 2,048 columns or rows. Nothing was written.
+    /// The mended picture, or a picture with the rows below it that konsole needs, has more than 2,048 columns or rows.
+    /// Nothing was written.
     #[error("TooLarge")]
     TooLarge,
-    /// The mended picture has more colours than the profile has registers. Nothing was written.
+    /// The mended picture, or a picture with the rows below it that konsole needs, has more colours than the profile has
+    /// registers. Nothing was written.
     #[error("TooManyColours")]
     TooManyColours,
     /// An allocation failed.
@@ -99,6 +108,23 @@ impl From<MendFault> for RunFault {
             MendFault::TooLarge => RunFault::TooLarge,
             MendFault::TooManyColours => RunFault::TooManyColours,
             MendFault::OutOfMemory => RunFault::OutOfMemory,
+        }
+    }
+}
+
+impl From<FitFault> for RunFault {
+    ghost use Rattle.std.specs.Prelude.{◌≡◌};
+    ghost use Rattle.sixel_report.specs.Conversions.{of_fit};
+
+    ghost from_gives = { λ fault result. result ≡ of_fit fault };
+
+    fn from(fault: FitFault) -> RunFault {
+        match fault {
+            FitFault::Large { width, height } => RunFault::Large { width, height },
+            FitFault::Hue => RunFault::Hue,
+            FitFault::TooHigh => RunFault::TooLarge,
+            FitFault::NoRegister => RunFault::TooManyColours,
+            FitFault::OutOfMemory => RunFault::OutOfMemory,
         }
     }
 }

@@ -4,6 +4,7 @@ use crate::rule_set::RuleSet;
 use sixel_check::Finding;
 use sixel_emulator_check::NamedFinding;
 use sixel_emulator_rules::{AskedFinding, Terminals};
+use sixel_fit::Fitting;
 use sixel_model::{Colour, Profile};
 use sixel_named_terminals::Named;
 
@@ -105,10 +106,14 @@ pub enum Task {
         showing: bool,
         /// As in `Show`.
         selects: bool,
+        /// The terminals that are to show the picture, perhaps with rows below it.
+        fitting: Fitting,
     },
     /// A Netpbm PPM, with at most as many colours as the profile has registers, as a portable sixel picture.
     Encode {
         profile: Profile,
+        /// As in `Mend`.
+        fitting: Fitting,
     },
 }
 

@@ -90,11 +90,11 @@ pub gives-once : (task : Task) (bytes : List ℕ) (first second : Text) (a b : R
 gives-once Listing bytes first second a b g h = list-once bytes first second a b g h
 gives-once (Check profile t) bytes first second a b g h = check-once _ t bytes first second a b g h
 gives-once (Render profile) bytes first second a b g h = render-once _ bytes first second a b g h
-gives-once (Encode profile) bytes first second a b g h = encode-once _ bytes first second a b g h
+gives-once (Encode profile fitting) bytes first second a b g h = encode-once _ fitting bytes first second a b g h
 gives-once (Survey profile t) bytes first second a b g h = survey-once _ t bytes first second a b g h
 gives-once (Scan profile eight) bytes first second a b g h = scan-once eight _ bytes first second a b g h
-gives-once (Mend profile background showing selects) bytes first second a b g h =
-    mend-once _ (mending background showing selects) bytes first second a b g h
+gives-once (Mend profile background showing selects fitting) bytes first second a b g h =
+    mend-once _ (mending background showing selects) fitting bytes first second a b g h
 gives-once (Show profile showing fill selects width height) bytes first second a b g h =
     show-once profile (show_terminal profile (show_choices showing fill selects width height)) bytes first second a b g h
 gives-once (ShowBox profile showing fill selects) bytes first second a b g h =
@@ -111,10 +111,11 @@ pub gives : (task : Task) (bytes : List ℕ)
 gives Listing bytes = list-gives bytes
 gives (Check profile t) bytes = check-gives _ t bytes
 gives (Render profile) bytes = render-gives _ bytes
-gives (Encode profile) bytes = encode-gives _ bytes
+gives (Encode profile fitting) bytes = encode-gives _ fitting bytes
 gives (Survey profile t) bytes = survey-gives _ t bytes
 gives (Scan profile eight) bytes = scan-gives eight _ bytes
-gives (Mend profile background showing selects) bytes = mend-gives _ (mending background showing selects) bytes
+gives (Mend profile background showing selects fitting) bytes =
+    mend-gives _ (mending background showing selects) fitting bytes
 gives (Show profile showing fill selects width height) bytes =
     show-gives profile (show_terminal profile (show_choices showing fill selects width height)) bytes
 gives (ShowBox profile showing fill selects) bytes = box-gives profile (screen_terminal profile showing fill selects) bytes

@@ -25,13 +25,16 @@ use Rattle.sixel_emulator_check.specs.declared.verdict.NamedOutcome.{NamedOutcom
 use Rattle.sixel_emulator_check.specs.declared.verdict.NamedOutcome.TheVariants as outcome
 use Rattle.sixel_emulator_check.specs.declared.verdict.NamedVerdict.{NamedVerdict}
 use Rattle.sixel_emulator_check.specs.declared.verdict.NamedVerdict.TheVariants as named
+use Rattle.sixel_fit.specs.Fitted.{fitted}
+use Rattle.sixel_fit.specs.declared.making.FitFault.{FitFault}
+use Rattle.sixel_fit.specs.declared.making.Fitting.{Fitting}
 use Rattle.sixel_mend.specs.declared.mending.MendFault.{MendFault}
 use Rattle.sixel_mend.specs.declared.mending.Mending.{Mending}
 use Rattle.sixel_mend.specs.Mended.{mended}
 use Rattle.sixel_mend.specs.Painted.{hidden_pixels}
 use Rattle.sixel_mend.specs.Sizes.{IsSize}
 use Rattle.sixel_scan.specs.declared.answer.Scanned.{Scanned}
-use Rattle.sixel_report.specs.Conversions.{of_mend, of_ppm}
+use Rattle.sixel_report.specs.Conversions.{of_fit, of_mend, of_ppm}
 use Rattle.sixel_report.specs.declared.fault.RunFault.{RunFault}
 use Rattle.sixel_report.specs.declared.fault.RunFault.TheVariants.{Grammar, NotRgb}
 use Rattle.sixel_report.specs.declared.task.Status.{Status}
@@ -135,13 +138,22 @@ RenderGives registers bytes text answer =
 
 -- ---- picture files
 
--- for a picture that was read its canonical text; else the fault, and no text
-abbrev pub encode_output : Result PictureValue PpmFault → Text × Result Status RunFault
-encode_output (Ok picture) = (canon_text picture, Ok Done)
-encode_output (Err fault) = ([], Err (of_ppm fault))
+-- for a picture that named terminals show its canonical text, with this status; else the fault, and no text
+abbrev pub fit_output : Result PictureValue FitFault → Status → Text × Result Status RunFault
+fit_output (Ok picture) status = (canon_text picture, Ok status)
+fit_output (Err fault) status = ([], Err (of_fit fault))
 
-abbrev pub EncodeGives : ℕ → List ℕ → Text → Result Status RunFault → Type 0
-EncodeGives registers bytes text answer = (text, answer) ≡ encode_output (ppm_read registers bytes)
+-- for a picture, the fit_output of the one that the terminals show in its place
+abbrev pub made_output : Fitting → PictureValue → Status → Text × Result Status RunFault
+made_output f picture status = fit_output (fitted f.terminals f.pad picture) status
+
+-- for a picture that was read its made_output; else the fault, and no text
+abbrev pub encode_output : Fitting → Result PictureValue PpmFault → Text × Result Status RunFault
+encode_output f (Ok picture) = made_output f picture Done
+encode_output f (Err fault) = ([], Err (of_ppm fault))
+
+abbrev pub EncodeGives : ℕ → Fitting → List ℕ → Text → Result Status RunFault → Type 0
+EncodeGives registers f bytes text answer = (text, answer) ≡ encode_output f (ppm_read registers bytes)
 
 -- ---- mended strings
 
@@ -149,19 +161,19 @@ EncodeGives registers bytes text answer = (text, answer) ≡ encode_output (ppm_
 abbrev pub mended_status : ℕ → Status
 mended_status hidden = if hidden == 0 then Done else Noted (Hidden hidden)
 
--- for a mended picture that hides so many pixels its canonical text; else the fault, and no text
-abbrev pub mend_output : Result PictureValue MendFault → ℕ → Text × Result Status RunFault
-mend_output (Ok picture) hidden = (canon_text picture, Ok (mended_status hidden))
-mend_output (Err fault) hidden = ([], Err (of_mend fault))
+-- for a mended picture that hides so many pixels its made_output; else the fault, and no text
+abbrev pub mend_output : Fitting → Result PictureValue MendFault → ℕ → Text × Result Status RunFault
+mend_output f (Ok picture) hidden = made_output f picture (mended_status hidden)
+mend_output f (Err fault) hidden = ([], Err (of_mend fault))
 
 -- for a document the mend_output of its mended picture, in the profile with this many registers, or of the first reason
 -- why there is none; for other bytes their fault, and no text
-abbrev pub MendGives : ℕ → Mending → List ℕ → Text → Result Status RunFault → Type 0
-MendGives registers m bytes text (Err (Grammar fault)) = (text ≡ []) × IsFaultOf bytes fault
-MendGives registers m bytes text answer =
+abbrev pub MendGives : ℕ → Mending → Fitting → List ℕ → Text → Result Status RunFault → Type 0
+MendGives registers m f bytes text (Err (Grammar fault)) = (text ≡ []) × IsFaultOf bytes fault
+MendGives registers m f bytes text answer =
     (events : List Placed) × Document events bytes
     × ((width : ℕ) × (height : ℕ) × IsSize m (events_of events) width height
-    × ((text, answer) ≡ mend_output (mended registers m (events_of events) width height)
+    × ((text, answer) ≡ mend_output f (mended registers m (events_of events) width height)
     (hidden_pixels m (events_of events) width height)))
 
 -- ---- tasks
@@ -177,9 +189,9 @@ Gives (Check profile terminals) bytes text answer = CheckGives (count_of profile
 Gives (Survey profile terminals) bytes text answer = SurveyGives (count_of profile) terminals bytes text answer
 Gives (Scan profile eight) bytes text answer = ScanGives eight (count_of profile) bytes text answer
 Gives (Render profile) bytes text answer = RenderGives (count_of profile) bytes text answer
-Gives (Encode profile) bytes text answer = EncodeGives (count_of profile) bytes text answer
-Gives (Mend profile background showing selects) bytes text answer =
-    MendGives (count_of profile) (mending background showing selects) bytes text answer
+Gives (Encode profile fitting) bytes text answer = EncodeGives (count_of profile) fitting bytes text answer
+Gives (Mend profile background showing selects fitting) bytes text answer =
+    MendGives (count_of profile) (mending background showing selects) fitting bytes text answer
 Gives (Show profile showing fill selects width height) bytes text answer =
     ShowGives profile (show_terminal profile (show_choices showing fill selects width height)) bytes text answer
 Gives (ShowBox profile showing fill selects) bytes text answer =
@@ -201,7 +213,7 @@ FoundNoPpmFault registers bytes left had has = NoPpmFaultBefore (ppm_read regist
 abbrev pub WroteUnread : Task → List ℕ → Option (List ℕ) → Option (List ℕ) → Option (List ℕ) → Type 0
 WroteUnread Listing bytes left had has = ListsUnread bytes left had has
 WroteUnread (Scan profile eight) bytes left had has = ScansUnread eight (count_of profile) bytes left had has
-WroteUnread (Encode profile) bytes left had has = FoundNoPpmFault (count_of profile) bytes left had has
+WroteUnread (Encode profile fitting) bytes left had has = FoundNoPpmFault (count_of profile) bytes left had has
 WroteUnread t bytes left had has = FoundNoFault bytes left had has
 
 -- what a task over these bytes has appended to what the sink `had` when an allocation fails
@@ -219,8 +231,8 @@ TakesMemory (Check profile terminals) told = IfSome told (MayGrowIn (count_of pr
 TakesMemory (Survey profile terminals) told = IfSome told DeclareBoxIn
 TakesMemory (Scan profile eight) told = IfSome told (MayGrowInString eight (count_of profile))
 TakesMemory (Render profile) told = IfSome told (MayGrowIn (count_of profile))
-TakesMemory (Encode profile) told = IfSome told HasWholeHeader
-TakesMemory (Mend profile background showing selects) told =
+TakesMemory (Encode profile fitting) told = IfSome told HasWholeHeader
+TakesMemory (Mend profile background showing selects fitting) told =
     IfSome told (HasPictureSize (mending background showing selects))
 TakesMemory (Show profile showing fill selects width height) told = IfSome told IsDocument
 TakesMemory (ShowBox profile showing fill selects) told = IfSome told DeclareScreenIn

@@ -106,19 +106,22 @@ fn perform<S: Source, K: Sink>(
         }
         Task::List => list::list(input, piece, output),
         Task::Render { profile } => render::render(alloc, profile, input, piece, output),
-        Task::Encode { profile } => encode::encode(alloc, profile, input, output),
+        Task::Encode { profile, fitting } => {
+            encode::encode(alloc, profile, fitting, input, output)
+        }
         Task::Mend {
             profile,
             background,
             showing,
             selects,
+            fitting,
         } => {
             let mending = Mending {
                 background,
                 showing,
                 selects,
             };
-            mend::mend(alloc, profile, &mending, input, piece, output)
+            mend::mend(alloc, profile, &mending, fitting, input, piece, output)
         }
         Task::Show {
             profile,

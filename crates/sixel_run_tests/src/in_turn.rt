@@ -6,6 +6,7 @@ use crate::runs::{Limits, run_counted};
 use sixel_check::{Finding, Rule};
 use sixel_emulator_check::{NamedFinding, NamedRule};
 use sixel_emulator_rules::Terminals;
+use sixel_fit::Fitting;
 use sixel_grammar::{Fault, Reason};
 use sixel_model::{Colour, Profile};
 use sixel_ppm::PpmReason;
@@ -41,10 +42,6 @@ const RENDER: Task = Task::Render {
 
 const WIDE_RENDER: Task = Task::Render {
     profile: Profile::Registers256,
-};
-
-const ENCODE: Task = Task::Encode {
-    profile: Profile::Registers16,
 };
 
 /// A screen of one pixel.
@@ -359,7 +356,15 @@ fn each_call_of_a_device_fails(rt: HostRuntime) {
     assert!(rt; all_stop(alloc, &CHECK, &[CHECKED, UNCOVERED, FAULT]));
     assert!(rt; all_stop(alloc, &SURVEY, &[CHECKED, three(), FAULT]));
     assert!(rt; all_stop(alloc, &RENDER, &[RENDERED, FAULT]));
-    assert!(rt; all_stop(alloc, &ENCODE, &ENCODED));
+    let fitting = Fitting {
+        terminals: NO_TERMINALS,
+        pad: Colour::of_percentages(0, 0, 0),
+    };
+    let encode = Task::Encode {
+        profile: Profile::Registers16,
+        fitting,
+    };
+    assert!(rt; all_stop(alloc, &encode, &ENCODED));
     assert!(rt; all_stop(alloc, &SHOW_BOX, &[RENDERED, FAULT]));
     assert!(rt; all_stop(alloc, &SHOW_BOX, &BOXED));
     let mend = Task::Mend {
@@ -367,6 +372,7 @@ fn each_call_of_a_device_fails(rt: HostRuntime) {
         background: Colour::of_percentages(0, 0, 0),
         showing: false,
         selects: false,
+        fitting,
     };
     assert!(rt; all_stop(alloc, &mend, &MENDED));
     assert!(rt; all_stop(alloc, &mend, &[FAULT]));

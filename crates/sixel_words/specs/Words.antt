@@ -12,6 +12,7 @@ use Rattle.sixel_model.specs.declared.profile.Profile.TheVariants.{Registers16, 
 use Rattle.sixel_named_terminals.specs.declared.named.Named.{Named}
 use Rattle.sixel_named_terminals.specs.declared.named.Named.TheVariants.{XTerm, MlTerm, Foot, Konsole}
 use Rattle.sixel_emulator_rules.specs.declared.terminals.Terminals.{Terminals}
+use Rattle.sixel_fit.specs.declared.making.Fitting.{Fitting}
 use Rattle.sixel_ppm.specs.PpmReading as ppm
 use Rattle.sixel_terminal.specs.Limits.{most_screen_side}
 use Rattle.clap.specs.Faults.{fault_of}
@@ -177,6 +178,20 @@ on_values rows = unwrap_or (all_of (codes "on") rows) []
 abbrev pub HasTerminals : List Row → Terminals → Type 0
 HasTerminals rows = NameTerminals (on_values rows)
 
+-- the colour of `--pad`, of which this is the value, where these are the values of `--on`. Without the option it is
+-- the other colour; with it, but without `--on`, there is none
+abbrev pub IsPad : Option Text → Option (List Text) → Parts → Parts → Type 0
+IsPad None on fallback pad = pad ≡ fallback
+IsPad (Some text) None fallback pad = ⊥
+IsPad (Some text) (Some values) fallback pad = IsColourText text pad
+
+abbrev pub HasPad : List Row → Parts → Parts → Type 0
+HasPad rows fallback pad = IsPad (first_of (codes "pad") rows) (all_of (codes "on") rows) fallback pad
+
+-- the options name these terminals, and this colour for rows below a picture
+abbrev pub HasFitting : List Row → Parts → Fitting → Type 0
+HasFitting rows fallback f = HasTerminals rows f.terminals × HasPad rows fallback f.pad
+
 -- a flag that describes the terminal of `show` is given
 abbrev pub describes : List Row → Bool
 describes rows = is_given (codes "wide") rows || is_given (codes "showing") rows || is_given (codes "fill") rows
@@ -197,7 +212,8 @@ IsTask name rows (task.Survey profile terminals) = (name ≡ codes "survey") × 
 IsTask name rows (task.Scan profile eight) = (name ≡ codes "scan") × (profile_of rows ≡ profile)
     × (is_given (codes "eight-bit") rows ≡ eight)
 IsTask name rows (task.Render profile) = (name ≡ codes "render") × (profile_of rows ≡ profile)
-IsTask name rows (task.Encode profile) = (name ≡ codes "encode") × (profile_of rows ≡ profile)
+IsTask name rows (task.Encode profile fitting) = (name ≡ codes "encode") × (profile_of rows ≡ profile)
+    × HasFitting rows (Rgb 0 0 0) fitting
 IsTask name rows (task.Show profile showing fill selects width height) = (name ≡ codes "show")
     × (profile_of rows ≡ profile)
     × (is_given (codes "showing") rows ≡ showing)
@@ -226,11 +242,12 @@ IsTask name rows (task.DifferSheet colour) = (name ≡ codes "differ")
     × HasColour (codes "background") rows colour
     × (is_given (codes "sheet") rows ≡ true)
     × (length (files_of rows) ≤ 1)
-IsTask name rows (task.Mend profile colour showing selects) = (name ≡ codes "mend")
+IsTask name rows (task.Mend profile colour showing selects fitting) = (name ≡ codes "mend")
     × (profile_of rows ≡ profile)
     × HasColour (codes "background") rows colour
     × (is_given (codes "showing") rows ≡ showing)
     × (is_given (codes "define-selects") rows ≡ selects)
+    × HasFitting rows colour fitting
 
 -- the task that the arguments ask for; the first is the program's name
 abbrev pub IsTaskOf : List Text → Task → Type 0

@@ -43,7 +43,7 @@ pub fn survey_task(matches: &ArgMatches<'_>) -> Option<Task>
 }
 
 /// The terminals of `--on`.
-fn terminals_of(matches: &ArgMatches<'_>) -> Option<Terminals>
+pub(crate) fn terminals_of(matches: &ArgMatches<'_>) -> Option<Terminals>
     ensures some { IfSome result (HasTerminals (rows_of (found_of matches.now))) }
     ensures none { IsNone result → (t : ATerminals) → HasTerminals (rows_of (found_of matches.now)) t → ⊥ }
 {

@@ -18,7 +18,7 @@ ghost use Rattle.sixel_report.specs.declared.wanted_lines.Lines.TheVariants.{Jso
 ghost use Rattle.sixel_words.specs.Words.{AsksFor, IsRequestOf, IsTaskOf, all_terminals, is_among, kinds_of};
 ghost use Rattle.sixel_words.specs.Words.{no_terminals};
 ghost use Rattle.sixel_commands.specs.Commands.{sixel_app, subcommands};
-ghost use Rattle.sixel_words_laws.specs.Laws.{check_flags};
+ghost use Rattle.sixel_words_laws.specs.Laws.{check_flags, for_none};
 
 /// The command line `sixel list` is accepted, and asks for the task `List`.
 pub fn the_word_list_gives_a_list()
@@ -83,19 +83,19 @@ pub fn the_word_scan_gives_a_scan()
 pub fn the_word_mend_gives_a_mend()
     ensures taken { (program : Text) → takes sixel_app (program ∷ codes "mend" ∷ []) ≡ true }
     ensures task { (program : Text) →
-        IsTaskOf (program ∷ codes "mend" ∷ []) (Mend Registers16 (Rgb 0 0 0) false false) }
+        IsTaskOf (program ∷ codes "mend" ∷ []) (Mend Registers16 (Rgb 0 0 0) false false (for_none (Rgb 0 0 0))) }
     ensures coloured_taken { (program : Text) → takes sixel_app (program ∷ codes "mend" ∷ codes "--showing"
         ∷ codes "--background" ∷ codes "100,50,0" ∷ []) ≡ true }
     ensures coloured { (program : Text) →
         IsTaskOf (program ∷ codes "mend" ∷ codes "--showing" ∷ codes "--background" ∷ codes "100,50,0" ∷ [])
-        (Mend Registers16 (Rgb 100 50 0) true false) }
+        (Mend Registers16 (Rgb 100 50 0) true false (for_none (Rgb 100 50 0))) }
     ensures sampled_taken { (program : Text) →
         takes sixel_app (program ∷ codes "mend" ∷ codes "--background" ∷ codes "#Ff8002" ∷ []) ≡ true }
     ensures sampled { (program : Text) →
         IsTaskOf (program ∷ codes "mend" ∷ codes "--background" ∷ codes "#Ff8002" ∷ [])
-        (Mend Registers16 (Rgb 100 50 1) false false) }
+        (Mend Registers16 (Rgb 100 50 1) false false (for_none (Rgb 100 50 1))) }
     ensures quiet { (program : Text) → IsRequestOf (program ∷ codes "mend" ∷ codes "-q" ∷ [])
-        (Mend Registers16 (Rgb 0 0 0) false false) (Nothing false) false [] }
+        (Mend Registers16 (Rgb 0 0 0) false false (for_none (Rgb 0 0 0))) (Nothing false) false [] }
 {}
 
 /// `sixel show` is accepted, and shows without any flag, with 16 registers on a screen of 800 by 480 pixels.

@@ -79,9 +79,15 @@ pub const ENCODE: &str = "Reads a PPM (P6) of at most 16 colours, or 256 with --
 without one, from standard input. Writes sixel text to standard output. Each
 sample becomes the nearest percentage.
 
+With --on the picture is one that these terminals show: konsole needs a height
+that is a multiple of six, and gets rows below the picture, of the colour of
+--pad. Refused for xterm: more than 1,000 columns or 996 rows. NAMES are one or
+more of xterm, mlterm, foot and konsole, with commas between them, or all.
+
 Exit status: 0 done, 2 refused, 3 usage error.
 
-Example: sixel encode plot.ppm > plot.six";
+Examples: sixel encode plot.ppm > plot.six
+          sixel encode --on all --pad 100,100,100 plot.ppm > plot.six";
 
 pub const SHOW: &str = "Reads sixel text from FILE or, without one, from standard input. Writes the
 screen of one terminal, which the options choose, to standard output as a PPM.
@@ -121,11 +127,13 @@ is painted outside it. Black ink is lost on a black background: for a plot or a
 page, choose a white one. COLOUR is three percentages, as in 100,50,0, or three
 samples, as in '#ff8000', each of which becomes the nearest percentage. Refused:
 a picture without pixels, with a side above 2,048, or of more than 16 colours,
-or 256 with --wide.
+or 256 with --wide. --on and --pad do what they do in encode; a colour by hue is
+refused for xterm.
 
 Exit status: 0 done, 2 refused, 3 usage error.
 
-Example: sixel mend --background 100,100,100 plot.six > mended.six";
+Examples: sixel mend --background 100,100,100 plot.six > mended.six
+          sixel mend --on all plot.six > mended.six";
 
 pub const EXPLAIN: &str =
     "Reads nothing. Writes to standard output what each rule or refusal means, what

@@ -16,7 +16,7 @@ returns-in-Encode-clause-wrote g c =
     rw c.in-Encode.is
     (unread_by
     (NoPpmFaultBefore (ppm_read (count_of c.in-Encode.profile)) (g.S.Source.state c.encode.new.input).remaining)
-    (λ bytes. EncodeGives (count_of c.in-Encode.profile) bytes) (g.S.Source.state c.args.input.now).remaining
+    (λ bytes. EncodeGives (count_of c.in-Encode.profile) c.in-Encode.fitting bytes) (g.S.Source.state c.args.input.now).remaining
     (g.K.Sink.state c.args.output.now).taken (g.K.Sink.state c.encode.new.output).taken c.encode.result
     c.encode.ensures.wrote c.encode.ensures.unread)
 
@@ -39,7 +39,7 @@ returns-in-Mend-clause-wrote g c =
     rw c.in-Mend.is
     (unread
     (λ bytes. MendGives (count_of c.in-Mend.profile)
-    (mending c.in-Mend.background c.in-Mend.showing c.in-Mend.selects) bytes)
+    (mending c.in-Mend.background c.in-Mend.showing c.in-Mend.selects) c.in-Mend.fitting bytes)
     (g.S.Source.state c.args.input.now).remaining (g.S.Source.state c.mend.new.input).remaining
     (g.K.Sink.state c.args.output.now).taken (g.K.Sink.state c.mend.new.output).taken c.mend.result
     c.mend.ensures.wrote c.mend.ensures.unread)

@@ -31,6 +31,7 @@ returns-clause-task c = λ program. (
     (codes "0,0,0", refl, inl (codes "0", codes "0", codes "0", refl, none, none, none)),
     refl,
     refl,
+    ((refl, refl), refl),
   ),
 )
 
@@ -46,6 +47,7 @@ returns-clause-quiet c = λ program. (
     (codes "0,0,0", refl, inl (codes "0", codes "0", codes "0", refl, none, none, none)),
     refl,
     refl,
+    ((refl, refl), refl),
   ),
   refl,
   refl,
@@ -64,6 +66,7 @@ returns-clause-coloured c = λ program. (
     (codes "100,50,0", refl, inl (codes "100", codes "50", codes "0", refl, all, half, none)),
     refl,
     refl,
+    ((refl, refl), refl),
   ),
 )
 
@@ -99,6 +102,7 @@ returns-clause-sampled c = λ program. (
     ),
     refl,
     refl,
+    ((refl, refl), refl),
   ),
 )
 
