@@ -6,7 +6,7 @@ _sixel() {
     for ((i = 1; i < COMP_CWORD; i++)); do
         if [[ ! $ended && ${COMP_WORDS[i]} == -- ]]; then
             ended=yes
-        elif [[ ! $ended && ${COMP_WORDS[i]} == @(--on|--width|--height|--background) ]]; then
+        elif [[ ! $ended && ${COMP_WORDS[i]} == @(--on|--ignore|--pad|--width|--height|--background) ]]; then
             valued=${COMP_WORDS[i]}
             ((++i))
             [[ ${COMP_WORDS[i]} != = ]] || ((++i))
@@ -23,8 +23,12 @@ _sixel() {
         value=${2#=} front=
         case $command:$valued in
             check:--on) options='xterm mlterm foot konsole all' names='xterm mlterm foot konsole' ;;
+            check:--ignore) options='RasterLate Dropped Stale Large Rows Past Hue Far Introducer Bare SpaceAfter' names='RasterLate Dropped Stale Large Rows Past Hue Far Introducer Bare SpaceAfter' ;;
             survey:--on) options='xterm mlterm foot konsole all' names='xterm mlterm foot konsole' ;;
+            survey:--ignore) options='RasterLate Dropped Stale Large Rows Past Hue Far Introducer Bare SpaceAfter' names='RasterLate Dropped Stale Large Rows Past Hue Far Introducer Bare SpaceAfter' ;;
+            encode:--on) options='xterm mlterm foot konsole all' names='xterm mlterm foot konsole' ;;
             show:--on) options='xterm mlterm foot konsole' ;;
+            mend:--on) options='xterm mlterm foot konsole all' names='xterm mlterm foot konsole' ;;
         esac
         # After a comma: each name that isn't there yet. `all` stands by itself.
         if [[ $names && $value == *,* ]]; then
@@ -42,14 +46,14 @@ _sixel() {
             names='list check survey scan render encode show differ mend explain help'
             ;;
         list) options='-h --help -V --version' ;;
-        check) options='--wide --on -q --quiet --failed --json --explain -h --help -V --version' operands=0 ;;
-        survey) options='--wide --on --json --explain -h --help -V --version' operands=0 ;;
+        check) options='--wide --on --ignore -q --quiet --failed --json --explain -h --help -V --version' operands=0 ;;
+        survey) options='--wide --on --ignore -q --quiet --failed --json --explain -h --help -V --version' operands=0 ;;
         scan) options='--wide -q --quiet --eight-bit --json -h --help -V --version' operands=0 ;;
-        render) options='--wide -h --help -V --version' ;;
-        encode) options='--wide -h --help -V --version' ;;
-        show) options='--wide -q --quiet --showing --fill --define-selects --width --height --box --on --background -h --help -V --version' ;;
+        render) options='--wide --png -h --help -V --version' ;;
+        encode) options='--wide --on --pad -h --help -V --version' ;;
+        show) options='--wide -q --quiet --showing --fill --define-selects --width --height --box --on --background --png -h --help -V --version' ;;
         differ) options='--background --sheet -h --help -V --version' operands=0 ;;
-        mend) options='--wide -q --quiet --background --showing --define-selects -h --help -V --version' ;;
+        mend) options='--wide -q --quiet --background --showing --define-selects --on --pad -h --help -V --version' ;;
         explain) options='-h --help -V --version' operands=0
             names='RasterFirst RasterTwice Ratio BoxSize Register ColourValue RepeatZero Unselected Undefined
                 Redefined Outside Uncovered EightBit RasterLate Dropped Stale Large Rows Past Hue Far Introducer

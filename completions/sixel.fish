@@ -8,16 +8,18 @@ function __fish_sixel_is
     end
 end
 
-# The values for a list of these names at the cursor: each or `all`, and after a comma each that isn't there yet. `all`
-# stands by itself.
+# The values for a list of these names at the cursor: each, and after a comma each that isn't there yet. `all` stands by
+# itself.
 function __fish_sixel_names
-    set -l front (commandline -ct | string replace -rf -- '^(--on=)?(.*,)[^,]*$' '$2')
+    set -l front (commandline -ct | string replace -rf -- '^(--\w+=)?(.*,)[^,]*$' '$2')
     if test -z "$front"
-        printf '%s\n' $argv all
+        printf '%s\n' $argv
         return
     end
     for name in $argv
-        string match -qr -- ",($name|all)," ",$front"; or echo $front$name
+        if test $name != all; and not string match -qr -- ",($name|all)," ",$front"
+            echo $front$name
+        end
     end
 end
 
@@ -28,9 +30,9 @@ complete -c sixel -n __fish_use_subcommand -a list -d 'Lists the commands of the
 complete -c sixel -n __fish_use_subcommand -a check -d 'Says whether the picture is portable, or which rule it breaks first'
 complete -c sixel -n __fish_use_subcommand -a survey -d 'Says which rules the picture breaks, how often, and where first'
 complete -c sixel -n __fish_use_subcommand -a scan -d 'Checks each picture in what a program writes to a terminal'
-complete -c sixel -n __fish_use_subcommand -a render -d 'Converts a portable picture to a PPM'
+complete -c sixel -n __fish_use_subcommand -a render -d 'Converts a portable picture to a PPM or a PNG'
 complete -c sixel -n __fish_use_subcommand -a encode -d 'Converts a PPM to portable sixel text'
-complete -c sixel -n __fish_use_subcommand -a show -d 'Draws the picture as one terminal would, and writes its screen as a PPM'
+complete -c sixel -n __fish_use_subcommand -a show -d 'Draws the picture as one terminal would, and writes its screen'
 complete -c sixel -n __fish_use_subcommand -a differ -d 'Says which of four terminals show the picture differently, and where'
 complete -c sixel -n __fish_use_subcommand -a mend -d 'Makes a portable picture of what one terminal shows of a broken one'
 complete -c sixel -n __fish_use_subcommand -a explain -d 'Explains rules and refusals by their names, or lists all names'
@@ -42,8 +44,9 @@ complete -c sixel -n '__fish_sixel_is list' -s V -l version -d 'Print version'
 
 complete -c sixel -n '__fish_sixel_is check' -F
 complete -c sixel -n '__fish_sixel_is check' -l wide -d 'Use 256 colour registers instead of 16'
-complete -c sixel -n '__fish_sixel_is check' -l on -x -a '(__fish_sixel_names xterm mlterm foot konsole)' -d 'Count the rules of these terminals, too: xterm, mlterm, foot, konsole or all'
-complete -c sixel -n '__fish_sixel_is check' -s q -l quiet -d 'Print no verdict; use the exit status'
+complete -c sixel -n '__fish_sixel_is check' -l on -x -a '(__fish_sixel_names xterm mlterm foot konsole all)' -d 'Count the rules of these terminals, too: xterm, mlterm, foot, konsole or all'
+complete -c sixel -n '__fish_sixel_is check' -l ignore -x -a '(__fish_sixel_names RasterLate Dropped Stale Large Rows Past Hue Far Introducer Bare SpaceAfter)' -d 'With --on: leave out these rules of terminals, such as Rows,Past'
+complete -c sixel -n '__fish_sixel_is check' -s q -l quiet -d 'Print no result; use the exit status'
 complete -c sixel -n '__fish_sixel_is check' -l failed -d 'Print only the lines of files that aren\'t portable'
 complete -c sixel -n '__fish_sixel_is check' -l json -d 'Print objects of JSON, one a line, also for refusals'
 complete -c sixel -n '__fish_sixel_is check' -l explain -d 'End with a hint on each rule or refusal, also into a pipe'
@@ -52,7 +55,10 @@ complete -c sixel -n '__fish_sixel_is check' -s V -l version -d 'Print version'
 
 complete -c sixel -n '__fish_sixel_is survey' -F
 complete -c sixel -n '__fish_sixel_is survey' -l wide -d 'Use 256 colour registers instead of 16'
-complete -c sixel -n '__fish_sixel_is survey' -l on -x -a '(__fish_sixel_names xterm mlterm foot konsole)' -d 'Count the rules of these terminals, too: xterm, mlterm, foot, konsole or all'
+complete -c sixel -n '__fish_sixel_is survey' -l on -x -a '(__fish_sixel_names xterm mlterm foot konsole all)' -d 'Count the rules of these terminals, too: xterm, mlterm, foot, konsole or all'
+complete -c sixel -n '__fish_sixel_is survey' -l ignore -x -a '(__fish_sixel_names RasterLate Dropped Stale Large Rows Past Hue Far Introducer Bare SpaceAfter)' -d 'With --on: leave out these rules of terminals, such as Rows,Past'
+complete -c sixel -n '__fish_sixel_is survey' -s q -l quiet -d 'Print no result; use the exit status'
+complete -c sixel -n '__fish_sixel_is survey' -l failed -d 'Print only the lines of files that aren\'t portable'
 complete -c sixel -n '__fish_sixel_is survey' -l json -d 'Print objects of JSON, one a line, also for refusals'
 complete -c sixel -n '__fish_sixel_is survey' -l explain -d 'End with a hint on each rule or refusal, also into a pipe'
 complete -c sixel -n '__fish_sixel_is survey' -s h -l help -d 'Print help'
@@ -68,11 +74,14 @@ complete -c sixel -n '__fish_sixel_is scan' -s V -l version -d 'Print version'
 
 complete -c sixel -n '__fish_sixel_is render' -F
 complete -c sixel -n '__fish_sixel_is render' -l wide -d 'Use 256 colour registers instead of 16'
+complete -c sixel -n '__fish_sixel_is render' -l png -d 'Write a PNG instead of a PPM'
 complete -c sixel -n '__fish_sixel_is render' -s h -l help -d 'Print help'
 complete -c sixel -n '__fish_sixel_is render' -s V -l version -d 'Print version'
 
 complete -c sixel -n '__fish_sixel_is encode' -F
 complete -c sixel -n '__fish_sixel_is encode' -l wide -d 'Use 256 colour registers instead of 16'
+complete -c sixel -n '__fish_sixel_is encode' -l on -x -a '(__fish_sixel_names xterm mlterm foot konsole all)' -d 'Write what these terminals show: xterm, mlterm, foot, konsole or all'
+complete -c sixel -n '__fish_sixel_is encode' -l pad -x -d 'With --on: the rows below, in percent, or \'#RRGGBB\' [default: 0,0,0]'
 complete -c sixel -n '__fish_sixel_is encode' -s h -l help -d 'Print help'
 complete -c sixel -n '__fish_sixel_is encode' -s V -l version -d 'Print version'
 
@@ -86,12 +95,13 @@ complete -c sixel -n '__fish_sixel_is show' -l width -x -d 'The screen\'s width 
 complete -c sixel -n '__fish_sixel_is show' -l height -x -d 'The screen\'s height in pixels, 1 to 4096 [default: 480]'
 complete -c sixel -n '__fish_sixel_is show' -l box -d 'Make the screen as large as the declared box'
 complete -c sixel -n '__fish_sixel_is show' -l on -x -a 'xterm mlterm foot konsole' -d 'Draw as this terminal does: xterm, mlterm, foot or konsole'
-complete -c sixel -n '__fish_sixel_is show' -l background -x -d 'With --on: the screen before the picture, in percent, or \'#RRGGBB\' [default: 100,100,100]'
+complete -c sixel -n '__fish_sixel_is show' -l background -x -d 'With --on: the screen before the picture, in percent, \'#RRGGBB\' or a name [default: 100,100,100]'
+complete -c sixel -n '__fish_sixel_is show' -l png -d 'Write a PNG instead of a PPM'
 complete -c sixel -n '__fish_sixel_is show' -s h -l help -d 'Print help'
 complete -c sixel -n '__fish_sixel_is show' -s V -l version -d 'Print version'
 
 complete -c sixel -n '__fish_sixel_is differ' -F
-complete -c sixel -n '__fish_sixel_is differ' -l background -x -d 'The screens before the picture, in percent, or \'#RRGGBB\' [default: 100,100,100]'
+complete -c sixel -n '__fish_sixel_is differ' -l background -x -d 'The screens before the picture, in percent, \'#RRGGBB\' or a name [default: 100,100,100]'
 complete -c sixel -n '__fish_sixel_is differ' -l sheet -d 'Write the four screens side by side, as a PPM, instead'
 complete -c sixel -n '__fish_sixel_is differ' -s h -l help -d 'Print help'
 complete -c sixel -n '__fish_sixel_is differ' -s V -l version -d 'Print version'
@@ -99,9 +109,11 @@ complete -c sixel -n '__fish_sixel_is differ' -s V -l version -d 'Print version'
 complete -c sixel -n '__fish_sixel_is mend' -F
 complete -c sixel -n '__fish_sixel_is mend' -l wide -d 'Use 256 colour registers instead of 16'
 complete -c sixel -n '__fish_sixel_is mend' -s q -l quiet -d 'Leave out the note on pixels in the background\'s colour'
-complete -c sixel -n '__fish_sixel_is mend' -l background -x -d 'What isn\'t painted: red, green and blue in percent, or \'#RRGGBB\' [default: 0,0,0]'
+complete -c sixel -n '__fish_sixel_is mend' -l background -x -d 'What isn\'t painted: red, green and blue in percent, \'#RRGGBB\' or a name [default: 0,0,0]'
 complete -c sixel -n '__fish_sixel_is mend' -l showing -d 'Show each pixel in the final colour of its register'
 complete -c sixel -n '__fish_sixel_is mend' -l define-selects -d 'Let a colour definition also select its register'
+complete -c sixel -n '__fish_sixel_is mend' -l on -x -a '(__fish_sixel_names xterm mlterm foot konsole all)' -d 'Write what these terminals show: xterm, mlterm, foot, konsole or all'
+complete -c sixel -n '__fish_sixel_is mend' -l pad -x -d 'With --on: the rows below [default: the colour of --background]'
 complete -c sixel -n '__fish_sixel_is mend' -s h -l help -d 'Print help'
 complete -c sixel -n '__fish_sixel_is mend' -s V -l version -d 'Print version'
 
@@ -160,9 +172,9 @@ complete -c sixel -n '__fish_sixel_is help 2' -a list -d 'Lists the commands of 
 complete -c sixel -n '__fish_sixel_is help 2' -a check -d 'Says whether the picture is portable, or which rule it breaks first'
 complete -c sixel -n '__fish_sixel_is help 2' -a survey -d 'Says which rules the picture breaks, how often, and where first'
 complete -c sixel -n '__fish_sixel_is help 2' -a scan -d 'Checks each picture in what a program writes to a terminal'
-complete -c sixel -n '__fish_sixel_is help 2' -a render -d 'Converts a portable picture to a PPM'
+complete -c sixel -n '__fish_sixel_is help 2' -a render -d 'Converts a portable picture to a PPM or a PNG'
 complete -c sixel -n '__fish_sixel_is help 2' -a encode -d 'Converts a PPM to portable sixel text'
-complete -c sixel -n '__fish_sixel_is help 2' -a show -d 'Draws the picture as one terminal would, and writes its screen as a PPM'
+complete -c sixel -n '__fish_sixel_is help 2' -a show -d 'Draws the picture as one terminal would, and writes its screen'
 complete -c sixel -n '__fish_sixel_is help 2' -a differ -d 'Says which of four terminals show the picture differently, and where'
 complete -c sixel -n '__fish_sixel_is help 2' -a mend -d 'Makes a portable picture of what one terminal shows of a broken one'
 complete -c sixel -n '__fish_sixel_is help 2' -a explain -d 'Explains rules and refusals by their names, or lists all names'

@@ -1,14 +1,15 @@
 #!/usr/bin/env python3
-"""Streams that a row can't hold: with little room, with reads that fail after some bytes, and that stay open.
+"""Streams that a row can't hold: with little room, with calls that fail after some bytes, and that stay open.
 
 The program is the one that the variable SIXEL_PROGRAM names, or dist/sixel. The last line is `N passed, N failed`, and
-the exit status 1 if something failed.
+`, 1 skipped` if strace isn't there or may not trace; the exit status is 1 if something failed.
 """
 
 import os
 import pathlib
 import pty
 import resource
+import shutil
 import signal
 import socket
 import subprocess
@@ -182,6 +183,42 @@ def failing_reads(folder: str) -> "Iterator[tuple[str, Ended, Ended]]":
         yield f"{words}, {given!r}", cut(words, given, folder), Ended(2, output, said)
 
 
+def traced(words: str, folder: str, calls: str, *more: str) -> "tuple[Ended, list[str]]":
+    """A run whose input is a pixel, and its calls of this kind, as strace writes them."""
+    log = pathlib.Path(folder, "calls")
+    argv = ["strace", "-o", str(log), "-e", f"trace={calls}", *more, PROGRAM, *words.split()]
+    with open(os.path.join(folder, "pixel"), "rb") as text:
+        streams = {"stdin": text, "stdout": subprocess.PIPE, "stderr": subprocess.PIPE, "cwd": folder}
+        with subprocess.Popen(argv, **streams) as process:
+            got = waited(process)
+    return got, [line for line in log.read_text(errors="replace").splitlines() if line.startswith(f"{calls}(")]
+
+
+def may_trace(folder: str) -> bool:
+    return bool(shutil.which("strace")) and traced("check", folder, "read")[0].status == 0
+
+
+def failing_calls(folder: str) -> "Iterator[tuple[str, object, object]]":
+    """Whatever the reason, a read that fails isn't the end, also after the last byte; and a write that fails is told.
+
+    A file is opened once.
+    """
+    if not may_trace(folder):
+        return
+    for words, said in [("check", READ_FAILED), ("mend", READ_FAILED), ("check pixel", b"sixel: pixel: read failed\n")]:
+        last = len(traced(words, folder, "read")[1])
+        for error in ["EIO", "EAGAIN", "EINTR"]:
+            for call in [last - 1, last]:
+                got, _ = traced(words, folder, "read", "-e", f"inject=read:error={error}:when={call}")
+                yield f"{words}, {error} at read {call} of {last}", got, Ended(2, b"", said)
+    for words in ["check", "survey pixel", "list", "render", "mend", "show --box", "explain NoBox"]:
+        for error in ["ENOSPC", "EIO", "EAGAIN", "EINTR"]:
+            got, _ = traced(words, folder, "write", "-e", f"inject=write:error={error}:when=1")
+            yield f"{words}, {error} at the first write", got, Ended(2, b"", WRITE_FAILED)
+    calls = traced("check pixel ratio pixel", folder, "openat")[1]
+    yield "files opened", [sum(f'"{name}"' in call for call in calls) for name in ["pixel", "ratio"]], [2, 1]
+
+
 def early_answers(folder: str) -> "Iterator[tuple[str, Ended, Ended]]":
     """An answer that no further byte can change doesn't wait for one. As many reads are made as tell the format."""
     ppm = b"makes a PPM (P6) of it\n"
@@ -234,15 +271,26 @@ def notices(folder: str) -> "Iterator[tuple[str, object, object]]":
         yield words, first, notice
 
 
-PARTS: "list[Callable[[str], Iterator[tuple]]]" = [outputs, errors, failing_reads, early_answers, early_lines, notices]
+PARTS: "list[Callable[[str], Iterator[tuple]]]" = [
+    outputs,
+    errors,
+    failing_reads,
+    failing_calls,
+    early_answers,
+    early_lines,
+    notices,
+]
 
 
 def main() -> int:
-    passed, faults = 0, []
+    passed, faults, skipped = 0, [], ""
     with tempfile.TemporaryDirectory() as folder:
         for name, text in FILES.items():
             pathlib.Path(folder, name).write_bytes(text)
         os.mkfifo(os.path.join(folder, "fifo"))
+        if not may_trace(folder):
+            print("skipped 1: strace isn't on the PATH, or may not trace, so no call was failed by it")
+            skipped = ", 1 skipped"
         for part in PARTS:
             for name, got, wanted in part(folder):
                 if got == wanted:
@@ -250,7 +298,7 @@ def main() -> int:
                 else:
                     faults.append(f"{part.__name__}, {name}: {got!r:.300} instead of {wanted!r:.300}")
     print("".join(f"{fault}\n" for fault in faults), end="")
-    print(f"{passed} passed, {len(faults)} failed")
+    print(f"{passed} passed, {len(faults)} failed{skipped}")
     return 1 if faults else 0
 
 

@@ -196,13 +196,16 @@ def mend(
     background: Optional[str] = None,
     showing: bool = False,
     define_selects: bool = False,
+    on: Names = (),
+    pad: Optional[str] = None,
     timeout: Optional[float] = SECONDS,
 ) -> bytes:
     """A portable picture of what one terminal shows of this one.
 
-    The background is the colour of pixels that aren't painted: black if left out.
+    The background is the colour of pixels that aren't painted: black if left out. With `on` the picture is one that
+    these terminals show, perhaps with rows of `pad` below it: the background's colour if left out.
     """
-    options = _options(wide=wide, background=background, showing=showing, define_selects=define_selects)
+    options = _options(on, pad=pad, wide=wide, background=background, showing=showing, define_selects=define_selects)
     return _written(["mend", *options], source, timeout)
 
 
@@ -211,20 +214,26 @@ def encode(
     *,
     wide: bool = False,
     quantize: bool = False,
+    on: Names = (),
+    pad: Optional[str] = None,
     timeout: Optional[float] = SECONDS,
 ) -> bytes:
     """Portable sixel text of a picture, an image of Pillow, or a PPM (bytes, a path or a binary file).
+
+    With `on` the picture is one that these terminals show, perhaps with rows of `pad` below it: black if left out.
 
     It may have 16 colours, or with `wide` 256, counted as percentages. If it has more, `quantize` lets Pillow reduce
     them, which changes colours; without it the picture is refused as `TooManyColours`.
     """
     ppm = _ppm_of(picture)
     try:
-        return _written(["encode", *_options(wide=wide)], ppm, timeout)
+        return _written(["encode", *_options(on, pad=pad, wide=wide)], ppm, timeout)
     except InputRefused as refusal:
         if refusal.outcome.reason != "TooManyColours" or not quantize:
             raise
-    return _written(["encode", *_options(wide=wide)], _reduced(ppm, 256 if wide else 16), timeout)
+    # The rows below may need a register.
+    colours = (256 if wide else 16) - bool(on)
+    return _written(["encode", *_options(on, pad=pad, wide=wide)], _reduced(ppm, colours), timeout)
 
 
 def _ppm_of(picture: Any) -> bytes:

@@ -2,7 +2,7 @@
 
 from __future__ import annotations
 
-from dataclasses import dataclass, replace
+from dataclasses import dataclass, field, replace
 from typing import Any, Mapping, Optional, Tuple, Union
 
 from ._explain import explain
@@ -69,6 +69,8 @@ class Refused:
     #: Where it can't go on, in bytes from 0, if the reason has a place.
     offset: Optional[int]
     message: str
+    #: The width and the height, in pixels, if the picture is too large for a named terminal.
+    sides: Optional[Tuple[int, int]] = field(default=None, repr=False)
 
     @property
     def is_portable(self) -> bool:
@@ -80,7 +82,8 @@ class Refused:
         return explain(self.reason).fix
 
     def __str__(self) -> str:
-        return " ".join(map(str, ("refused", self.reason, *(() if self.offset is None else (self.offset,)))))
+        where = () if self.offset is None else (self.offset,)
+        return " ".join(map(str, ("refused", self.reason, *where, *(self.sides or ()))))
 
 
 Outcome = Union[Portable, Broken, Refused]
@@ -212,11 +215,13 @@ def finding_of(answer: Mapping[str, Any]) -> Finding:
 
 
 def refused_of(line: str) -> Refused:
-    """The refusal of a line such as `FieldCount at 7`."""
-    reason, _, offset = line.partition(" at ")
-    if not reason.isalpha():
+    """The refusal of a line such as `FieldCount at 7`, or `Large 1200 800`, which has a width and a height."""
+    named, _, offset = line.partition(" at ")
+    reason, *sides = named.split(" ")
+    if not reason.isalpha() or not all(side.isdigit() for side in sides):
         raise ProgramDied(f"the program failed: {line}")
-    return Refused(reason, int(offset) if offset else None, explain(reason).summary)
+    width_and_height = (int(sides[0]), int(sides[1])) if len(sides) == 2 else None
+    return Refused(reason, int(offset) if offset else None, explain(reason).summary, width_and_height)
 
 
 def moved(outcome: Outcome, distance: int) -> Outcome:

@@ -202,7 +202,7 @@ class Written(WithFolder):
             (["-o", self.source, self.source], f"{self.source} is no report; it isn't overwritten"),
             (["-", "-", "-o", self.output], "standard input is named twice"),
             ([self.source, "-o", self.output, "--on=kitty"], "invalid value 'kitty' for '--on"),
-            ([self.source, "-o", self.output, "--background=red"], "invalid value 'red' for '--background"),
+            ([self.source, "-o", self.output, "--background=reddish"], "invalid value 'reddish' for '--background"),
             ([self.source, "-o", self.output, "--wid"], "unrecognized arguments: --wid"),
         ):
             status, told = run_report(*words)

@@ -12,7 +12,7 @@ import sixel_check
 from shared import ROOT, test_command
 
 FLAGS = {"--wide", "--showing", "--fill", "--define-selects", "--box", "--eight-bit"}
-VALUES = {"--on": str, "--background": str, "--width": int, "--height": int}
+VALUES = {"--on": str, "--pad": str, "--background": str, "--width": int, "--height": int}
 # What the words of a row ask for that no call has: other lines, and streams.
 UNCALLED = {"--json", "--explain", "--failed", "--help", "-h", "--version", "-V"}
 WRAPPED = test_command.WRAPPED_LINE.decode().strip().removeprefix("sixel: ")
@@ -63,7 +63,8 @@ def ppm_of(picture):
 
 def refused(outcome):
     place = "" if outcome.offset is None else f" at {outcome.offset}"
-    return Told(2, b"", f"{outcome.reason}{place}")
+    sides = "".join(f" {side}" for side in outcome.sides or ())
+    return Told(2, b"", f"{outcome.reason}{place}{sides}")
 
 
 def lines(status, *items):
@@ -177,8 +178,8 @@ class FileRows(unittest.TestCase):
                     # A status of 3 is a usage error.
                     is_called = row.status < 3 and row.words and row.words[0] in TASKS and not row.terminal
                     asked = split(row.words) if is_called else None
-                    # A quiet check gives no verdict, and a call opens a file of any name.
-                    if asked and not (asked[3] and asked[0] == "check") and all(map(is_opened, asked[2])):
+                    # A quiet check or survey gives no result, and a call opens a file of any name.
+                    if asked and not (asked[3] and asked[0] in ("check", "survey")) and all(map(is_opened, asked[2])):
                         count += 1
                         with self.subTest(row.place):
                             self.try_row(row, *asked, folder)

@@ -8,8 +8,9 @@ use crate::session::{Files, Session};
 use crate::stock::{Form, Stock, ppm, put_picture};
 use crate::styles::Style;
 use sixel_emulator_rules::Terminals;
+use sixel_fit::Fitting;
 use sixel_model::{Colour, Profile};
-use sixel_report::Task;
+use sixel_report::{PictureFormat, Task};
 use std::alloc::{AllocError, Global};
 
 const NARROW: Profile = Profile::Registers16;
@@ -206,6 +207,24 @@ fn mend(profile: Profile, background: Colour) -> Task
         background,
         showing: false,
         selects: false,
+        fitting: for_none(),
+    }
+}
+
+/// For no terminal.
+fn for_none() -> Fitting {
+    Fitting {
+        terminals: Terminals::none(),
+        pad: Colour::of_percentages(0, 0, 0),
+    }
+}
+
+fn encode(profile: Profile) -> Task
+    ensures { HasSides result }
+{
+    Task::Encode {
+        profile,
+        fitting: for_none(),
     }
 }
 
@@ -226,14 +245,15 @@ pub fn mends(work: &mut Work) -> Result<(), AllocError> {
         showing: false,
         fill: false,
         selects: false,
+        format: PictureFormat::Ppm,
     };
     work.over_texts(&show, &colours, BANDS)
 }
 
 /// Pictures that a program ships: PPMs as sixel text, and sixel text as PPMs.
 pub fn pictures(work: &mut Work) -> Result<(), AllocError> {
-    let narrow = Task::Encode { profile: NARROW };
-    let wide = Task::Encode { profile: WIDE };
+    let narrow = encode(NARROW);
+    let wide = encode(WIDE);
     let photo = large(Content::Photo, Style::Registers, 16);
     let plot = large(Content::Plot, Style::Registers, 10);
     let colours = large(Content::Photo, Style::Registers, 250);
@@ -241,9 +261,19 @@ pub fn pictures(work: &mut Work) -> Result<(), AllocError> {
     work.over_ppms(&narrow, &plot, false, BANDS)?;
     work.over_ppms(&wide, &colours, false, BANDS)?;
     work.over_ppms(&wide, &colours, false, BANDS)?;
-    work.over_texts(&Task::Render { profile: NARROW }, &photo, BANDS)?;
-    work.over_texts(&Task::Render { profile: NARROW }, &plot, BANDS)?;
-    work.over_texts(&Task::Render { profile: WIDE }, &colours, BANDS)
+    work.over_texts(&render(NARROW), &photo, BANDS)?;
+    work.over_texts(&render(NARROW), &plot, BANDS)?;
+    work.over_texts(&render(WIDE), &colours, BANDS)
+}
+
+/// A render as a PPM.
+fn render(profile: Profile) -> Task
+    ensures { HasSides result }
+{
+    Task::Render {
+        profile,
+        format: PictureFormat::Ppm,
+    }
 }
 
 /// Streams of a test suite, and lists.
@@ -296,7 +326,7 @@ pub fn awkward(work: &mut Work) -> Result<(), AllocError> {
         terminals: Terminals::none(),
     };
     work.over_texts(&survey, &outside, 10)?;
-    let encode = Task::Encode { profile: WIDE };
+    let encode = encode(WIDE);
     let noise = Form::whole(Content::Noise, Style::Registers, 256, 800);
     work.over_ppms(&encode, &noise, false, 40)?;
     let varied = Form::whole(Content::Photo, Style::Registers, 200, 800);

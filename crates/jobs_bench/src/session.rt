@@ -11,7 +11,11 @@ use std::alloc::{AllocError, Global};
 use std::io;
 use std::io::Read;
 
-const NO_TERMINALS: Terminals = Terminals::none();
+const NO_TERMINALS: Terminals = Terminals {
+    input: false,
+    output: false,
+    errors: false,
+};
 
 /// Files in memory. The name of each is its index.
 #[derive(Drop)]

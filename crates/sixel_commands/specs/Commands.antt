@@ -49,6 +49,10 @@ names = record on { action = Some Append }
 abbrev pub ignore : Rule
 ignore = record (new_rule (codes "ignore")) { long = Some (codes "ignore"); value_names = 1; action = Some Append }
 
+-- `--pad COLOUR`
+abbrev pub pad : Rule
+pad = record (new_rule (codes "pad")) { long = Some (codes "pad"); value_names = 1 }
+
 -- `--background COLOUR`, with the default `fallback`
 abbrev pub background : Text → Rule
 background fallback = record (new_rule (codes "background")) {
@@ -57,9 +61,19 @@ background fallback = record (new_rule (codes "background")) {
   defaults = fallback ∷ [];
 }
 
--- a subcommand with the option `--wide`
-abbrev pub profiled_app : Text → App
-profiled_app name = with_rule (with_rule (new_app name) (flag (codes "wide"))) file
+-- `render`
+abbrev pub render_app : App
+render_app =
+    with_rule (with_rule (with_rule (new_app (codes "render")) (flag (codes "wide"))) (flag (codes "png"))) file
+
+-- `encode`
+abbrev pub encode_app : App
+encode_app =
+    with_rule (with_rule (with_rule (with_rule (new_app (codes "encode"))
+    (flag (codes "wide")))
+    names)
+    pad)
+    file
 
 -- a subcommand that looks for broken rules
 abbrev pub checking_app : Text → App
@@ -88,7 +102,7 @@ scan_app =
 abbrev pub show_app : App
 show_app =
     with_rule (with_rule (with_rule (with_rule (with_rule (with_rule (with_rule (with_rule (with_rule (with_rule
-    (with_rule (new_app (codes "show"))
+    (with_rule (with_rule (new_app (codes "show"))
     (flag (codes "wide")))
     quiet)
     (flag (codes "showing")))
@@ -99,6 +113,7 @@ show_app =
     (flag (codes "box")))
     on)
     (background (codes "100,100,100")))
+    (flag (codes "png")))
     file
 
 -- `differ`
@@ -111,12 +126,14 @@ differ_app =
 -- `mend`
 abbrev pub mend_app : App
 mend_app =
-    with_rule (with_rule (with_rule (with_rule (with_rule (with_rule (new_app (codes "mend"))
+    with_rule (with_rule (with_rule (with_rule (with_rule (with_rule (with_rule (with_rule (new_app (codes "mend"))
     (flag (codes "wide")))
     quiet)
     (background (codes "0,0,0")))
     (flag (codes "showing")))
     (flag (codes "define-selects")))
+    names)
+    pad)
     file
 
 -- `explain`, with any number of words
@@ -136,8 +153,9 @@ sixel_app =
       subcommand_required = true;
       args_override_self = true;
     }) (new_app (codes "sixel")))
-    (plain_app (codes "list")).top) (checking_app (codes "check")).top) (checking_app (codes "survey")).top) scan_app.top) (profiled_app (codes "render")).top)
-    (profiled_app (codes "encode")).top) show_app.top) differ_app.top) mend_app.top) explain_app.top
+    (plain_app (codes "list")).top) (checking_app (codes "check")).top) (checking_app (codes "survey")).top)
+    scan_app.top) render_app.top)
+    encode_app.top) show_app.top) differ_app.top) mend_app.top) explain_app.top
 
 -- the names of the subcommands
 abbrev pub subcommands : List Text

@@ -4,9 +4,9 @@ ghost use Rattle.std.specs.Prelude.{◌≡◌, IfOk, codes, false};
 ghost use Rattle.clap.specs.Walk.{rule_of};
 ghost use Rattle.clap.specs.Simple.{app_of, new_app};
 ghost use Rattle.clap.specs.declared.builder.command.Command.TheViews.{out-Command as fields_of};
-ghost use Rattle.sixel_commands.specs.Commands.{background, checking_app, differ_app, explain_app, file, files, flag};
-ghost use Rattle.sixel_commands.specs.Commands.{ignore, mend_app, names, on, plain_app, profiled_app, quiet, scan_app};
-ghost use Rattle.sixel_commands.specs.Commands.{show_app, side, sixel_app};
+ghost use Rattle.sixel_commands.specs.Commands.{background, checking_app, differ_app, encode_app, explain_app, file};
+ghost use Rattle.sixel_commands.specs.Commands.{files, flag, ignore, mend_app, names, on, pad, plain_app, quiet};
+ghost use Rattle.sixel_commands.specs.Commands.{render_app, scan_app, show_app, side, sixel_app};
 
 mod help;
 
@@ -79,45 +79,40 @@ pub fn list_command<'a>(alloc: Global) -> Result<Command<'a>, AllocError>
     .arg(file_arg(alloc))
 }
 
-/// `render`, with `--wide` and an optional file.
+/// `render`, with `--wide`, `--png` and an optional file.
 pub fn render_command<'a>(alloc: Global) -> Result<Command<'a>, AllocError>
-    ensures app { IfOk result (λ c. app_of c ≡ profiled_app (codes "render")) }
+    ensures app { IfOk result (λ c. app_of c ≡ render_app) }
     ensures local { IfOk result (λ c. (fields_of c).has_globals ≡ false) }
 {
-    profiled_command(
+    task_command(
         alloc,
         "render",
-        "Converts a portable picture to a PPM",
+        "Converts a portable picture to a PPM or a PNG",
         help::RENDER,
-    )
+    )?
+    .arg(wide_arg(alloc))?
+    .arg(png_arg(alloc))?
+    .arg(file_arg(alloc))
 }
 
-/// `encode`, with `--wide` and an optional file.
+/// `encode`, with three options and an optional file.
 pub fn encode_command<'a>(alloc: Global) -> Result<Command<'a>, AllocError>
-    ensures app { IfOk result (λ c. app_of c ≡ profiled_app (codes "encode")) }
+    ensures app { IfOk result (λ c. app_of c ≡ encode_app) }
     ensures local { IfOk result (λ c. (fields_of c).has_globals ≡ false) }
 {
-    profiled_command(
+    task_command(
         alloc,
         "encode",
         "Converts a PPM to portable sixel text",
         help::ENCODE,
-    )
-}
-
-/// A subcommand with `--wide` and an optional file.
-fn profiled_command<'a>(
-    alloc: Global,
-    name: &'a str,
-    about: &'a str,
-    help: &'a str,
-) -> Result<Command<'a>, AllocError>
-    ensures app { IfOk result (λ c. app_of c ≡ profiled_app name.entry.now) }
-    ensures local { IfOk result (λ c. (fields_of c).has_globals ≡ false) }
-{
-    task_command(alloc, name, about, help)?
-        .arg(wide_arg(alloc))?
-        .arg(file_arg(alloc))
+    )?
+    .arg(wide_arg(alloc))?
+    .arg(names_arg(alloc, FOR_TERMINALS))?
+    .arg(pad_arg(
+        alloc,
+        "With --on: the rows below, in percent, or '#RRGGBB' [default: 0,0,0]",
+    ))?
+    .arg(file_arg(alloc))
 }
 
 /// `explain`, with any number of names, or the words of a line.
@@ -177,7 +172,7 @@ fn checking_command<'a>(
 {
     task_command(alloc, name, about, help)?
         .arg(wide_arg(alloc))?
-        .arg(names_arg(alloc))?
+        .arg(names_arg(alloc, COUNTED_RULES))?
         .arg(ignore_arg(alloc))?
         .arg(quiet_arg(alloc, "Print no result; use the exit status"))?
         .arg(flag_arg(
@@ -212,7 +207,7 @@ pub fn scan_command<'a>(alloc: Global) -> Result<Command<'a>, AllocError>
     .arg(files_arg(alloc))
 }
 
-/// `show`, with ten options and an optional file.
+/// `show`, with eleven options and an optional file.
 pub fn show_command<'a>(alloc: Global) -> Result<Command<'a>, AllocError>
     ensures app { IfOk result (λ c. app_of c ≡ show_app) }
     ensures local { IfOk result (λ c. (fields_of c).has_globals ≡ false) }
@@ -220,7 +215,7 @@ pub fn show_command<'a>(alloc: Global) -> Result<Command<'a>, AllocError>
     task_command(
         alloc,
         "show",
-        "Draws the picture as one terminal would, and writes its screen as a PPM",
+        "Draws the picture as one terminal would, and writes its screen",
         help::SHOW,
     )?
     .arg(wide_arg(alloc))?
@@ -259,6 +254,7 @@ pub fn show_command<'a>(alloc: Global) -> Result<Command<'a>, AllocError>
         "100,100,100",
         "With --on: the screen before the picture, in percent, '#RRGGBB' or a name",
     ))?
+    .arg(png_arg(alloc))?
     .arg(file_arg(alloc))
 }
 
@@ -286,7 +282,7 @@ pub fn differ_command<'a>(alloc: Global) -> Result<Command<'a>, AllocError>
     .arg(files_arg(alloc))
 }
 
-/// `mend`, with five options and an optional file.
+/// `mend`, with seven options and an optional file.
 pub fn mend_command<'a>(alloc: Global) -> Result<Command<'a>, AllocError>
     ensures app { IfOk result (λ c. app_of c ≡ mend_app) }
     ensures local { IfOk result (λ c. (fields_of c).has_globals ≡ false) }
@@ -316,6 +312,11 @@ pub fn mend_command<'a>(alloc: Global) -> Result<Command<'a>, AllocError>
         alloc,
         "define-selects",
         "Let a colour definition also select its register",
+    ))?
+    .arg(names_arg(alloc, FOR_TERMINALS))?
+    .arg(pad_arg(
+        alloc,
+        "With --on: the rows below [default: the colour of --background]",
     ))?
     .arg(file_arg(alloc))
 }
@@ -355,17 +356,30 @@ fn on_arg<'a>(alloc: Global, value: &'a str, help: &'a str) -> Arg<'a>
         .help(help)
 }
 
-/// `--on NAMES`, of terminals whose rules count: the values of all its uses.
-fn names_arg<'a>(alloc: Global) -> Arg<'a>
+/// What `--on` does for `check` and `survey`.
+const COUNTED_RULES: &str =
+    "Count the rules of these terminals, too: xterm, mlterm, foot, konsole or all";
+
+/// What it does for `encode` and `mend`.
+const FOR_TERMINALS: &str = "Write what these terminals show: xterm, mlterm, foot, konsole or all";
+
+/// `--on NAMES`, of several terminals: the values of all its uses.
+fn names_arg<'a>(alloc: Global, help: &'a str) -> Arg<'a>
     ensures rule { rule_of result ≡ names }
     ensures local { result.global ≡ false }
 {
-    on_arg(
-        alloc,
-        "NAMES",
-        "Count the rules of these terminals, too: xterm, mlterm, foot, konsole or all",
-    )
-    .action(ArgAction::Append)
+    on_arg(alloc, "NAMES", help).action(ArgAction::Append)
+}
+
+/// `--pad COLOUR`.
+fn pad_arg<'a>(alloc: Global, help: &'a str) -> Arg<'a>
+    ensures rule { rule_of result ≡ pad }
+    ensures local { result.global ≡ false }
+{
+    Arg::new(alloc, "pad")
+        .long("pad")
+        .value_name("COLOUR")
+        .help(help)
 }
 
 /// `--ignore RULES`, of rules of named terminals that don't count: the values of all its uses.
@@ -398,6 +412,14 @@ fn wide_arg<'a>(alloc: Global) -> Arg<'a>
     ensures local { result.global ≡ false }
 {
     flag_arg(alloc, "wide", "Use 256 colour registers instead of 16")
+}
+
+/// `--png`.
+fn png_arg<'a>(alloc: Global) -> Arg<'a>
+    ensures rule { rule_of result ≡ flag (codes "png") }
+    ensures local { result.global ≡ false }
+{
+    flag_arg(alloc, "png", "Write a PNG instead of a PPM")
 }
 
 /// `--json`.

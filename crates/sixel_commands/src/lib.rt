@@ -6,6 +6,7 @@ mod usage_errors;
 
 pub use commands::sixel_command;
 pub use usage_errors::{
-    NamesFault, background_error, conflict_error, sheet_error, terminal_error, unchecked_error,
-    uncoloured_error, undiffered_error, unnamed_error, unsurveyed_error, usage_error, with_tip,
+    Maker, NamesFault, background_error, conflict_error, lone_pad_error, sheet_error,
+    terminal_error, unchecked_error, uncoloured_error, undiffered_error, unfitted_error,
+    unnamed_error, unpadded_error, unsurveyed_error, usage_error, with_tip,
 };

@@ -117,6 +117,56 @@ pub fn unsurveyed_error(alloc: Global, fault: NamesFault<'_>) -> Result<Error, A
     )
 }
 
+/// A subcommand that makes pictures which named terminals show.
+#[derive(Clone, Copy, Debug)]
+pub enum Maker {
+    Encode,
+    Mend,
+}
+
+/// A usage error of this subcommand.
+fn maker_error(
+    alloc: Global,
+    maker: Maker,
+    kind: ErrorKind,
+    reason: &str,
+) -> Result<Error, AllocError>
+    ensures { IfOk result (λ e. kind_of e ≡ kind) }
+{
+    match maker {
+        Maker::Encode => error_of(encode_command(alloc)?, "sixel encode", kind, reason),
+        Maker::Mend => error_of(mend_command(alloc)?, "sixel mend", kind, reason),
+    }
+}
+
+/// This value of `--on` names no terminals.
+pub fn unfitted_error(alloc: Global, maker: Maker, value: &str) -> Result<Error, AllocError>
+    ensures { IfOk result (λ e. kind_of e ≡ ErrorKind.InvalidValue) }
+{
+    let reason = names_reason(alloc, NamesFault::Terminals(value))?;
+    maker_error(alloc, maker, ErrorKind::InvalidValue, reason.as_str())
+}
+
+/// This value of `--pad` is no colour.
+pub fn unpadded_error(alloc: Global, maker: Maker, value: &str) -> Result<Error, AllocError>
+    ensures { IfOk result (λ e. kind_of e ≡ ErrorKind.ValueValidation) }
+{
+    let reason = colour_reason(alloc, "pad", value)?;
+    maker_error(alloc, maker, ErrorKind::ValueValidation, reason.as_str())
+}
+
+/// `--pad` without `--on`.
+pub fn lone_pad_error(alloc: Global, maker: Maker) -> Result<Error, AllocError>
+    ensures { IfOk result (λ e. kind_of e ≡ ErrorKind.ArgumentConflict) }
+{
+    maker_error(
+        alloc,
+        maker,
+        ErrorKind::ArgumentConflict,
+        "the argument '--pad <COLOUR>' cannot be used without '--on <NAMES>'",
+    )
+}
+
 fn names_reason(alloc: Global, fault: NamesFault<'_>) -> Result<String, AllocError> {
     match fault {
         NamesFault::Terminals(value) => {
@@ -152,7 +202,7 @@ fn names_reason(alloc: Global, fault: NamesFault<'_>) -> Result<String, AllocErr
 pub fn background_error(alloc: Global, value: &str) -> Result<Error, AllocError>
     ensures { IfOk result (λ e. kind_of e ≡ ErrorKind.ValueValidation) }
 {
-    let reason = colour_reason(alloc, value)?;
+    let reason = colour_reason(alloc, "background", value)?;
     error_of(
         mend_command(alloc)?,
         "sixel mend",
@@ -165,7 +215,7 @@ pub fn background_error(alloc: Global, value: &str) -> Result<Error, AllocError>
 pub fn uncoloured_error(alloc: Global, value: &str) -> Result<Error, AllocError>
     ensures { IfOk result (λ e. kind_of e ≡ ErrorKind.ValueValidation) }
 {
-    let reason = colour_reason(alloc, value)?;
+    let reason = colour_reason(alloc, "background", value)?;
     error_of(
         show_command(alloc)?,
         "sixel show",
@@ -178,7 +228,7 @@ pub fn uncoloured_error(alloc: Global, value: &str) -> Result<Error, AllocError>
 pub fn undiffered_error(alloc: Global, value: &str) -> Result<Error, AllocError>
     ensures { IfOk result (λ e. kind_of e ≡ ErrorKind.ValueValidation) }
 {
-    let reason = colour_reason(alloc, value)?;
+    let reason = colour_reason(alloc, "background", value)?;
     error_of(
         differ_command(alloc)?,
         "sixel differ",
@@ -199,10 +249,10 @@ pub fn sheet_error(alloc: Global) -> Result<Error, AllocError>
     )
 }
 
-fn colour_reason(alloc: Global, value: &str) -> Result<String, AllocError> {
+fn colour_reason(alloc: Global, option: &str, value: &str) -> Result<String, AllocError> {
     let value = printed(alloc, value)?;
     format!(in alloc;
-        "invalid value '{value}' for '--background <COLOUR>': \
+        "invalid value '{value}' for '--{option} <COLOUR>': \
         expected three percentages, as in 100,50,0, samples, as in '#ff8000', or a name, as in navy"
     )
 }

@@ -5,7 +5,7 @@ use sixel_grammar::{Command, Follower, Placed};
 /// Hands each event on by a call that isn't inlined.
 ///
 /// So what the follower does isn't a part of the loop that reads. That stays small enough for the compiler to make a
-/// copy of it for each kind of command.
+/// copy of it for each kind of command. A return and a new line are told apart here, once for all followers.
 #[derive(Drop)]
 pub(crate) struct Apart<F> {
     pub follower: F,
@@ -25,7 +25,11 @@ impl<F: Follower> Follower for Apart<F> {
 
     #[inline(never)]
     fn take_command(&mut self, place: u64, command: Command) -> Result<(), F::Stop> {
-        self.follower.take_command(place, command)
+        match command {
+            Command::CarriageReturn => self.follower.take_command(place, Command::CarriageReturn),
+            Command::NextLine => self.follower.take_command(place, Command::NextLine),
+            other => self.follower.take_command(place, other),
+        }
     }
 
     #[inline(never)]

@@ -3,13 +3,16 @@ use Rattle.std.proofs.Common.{length, ◌≡◌, ℕ, zero, suc, ◌+◌, ◌-�
 use Rattle.std.proofs.Common.{false, refl, sym, ap₂, ◌≤◌}
 use Rattle.std.proofs.Common.{ap, subst, ◌∙◌, arith, append_assoc, drop, take, add-one, length-append}
 use Rattle.std.specs.Prelude.{slice_get, slice_index}
+use Rattle.std.specs.List.{list_any}
 use Rattle.std.specs.Option.{is_some, option_map, option_to_list}
+use Rattle.std.proofs.lemmas.Bool.{or_parts}
 use Rattle.std.proofs.lemmas.List.{append-nil, append_cancel_right, length-map, length-take-le, map-append}
 use Rattle.sixel_grammar.specs.declared.command.Command.TheVariants.{Sixel}
 use Rattle.sixel_grammar.specs.declared.command.Event.{Event}
 use Rattle.sixel_grammar.specs.declared.command.Event.TheVariants.{Step}
 use Rattle.sixel_grammar.specs.declared.command.Placed.{Placed}
 use Rattle.sixel_grammar.specs.Document.{events_of}
+use Rattle.sixel_model.specs.Events.{is_painting}
 use Rattle.sixel_grammar.specs.Stretches.{sixels_from}
 use Rattle.sixel_emulator.specs.declared.modelled.Modelled.{Modelled}
 use Rattle.sixel_emulator.specs.declared.progress.Progress.{Progress}
@@ -19,8 +22,8 @@ use Rattle.sixel_terminal.specs.Stretches.{sixels_of}
 use Rattle.sixel_emulator.specs.declared.waiting.Waiting.{Waiting}
 use Rattle.sixel_emulator.specs.Courses.{AreDrawn, AreSixels, IsAt}
 use Rattle.sixel_emulator.specs.Modelled.{AreUnsaidBy, HasCome, HasFollowed, HasPlace, placed_at, waiting_in}
-use Rattle.sixel_emulator.specs.Modelled.{first_at, with_first, with_waiting}
-use Rattle.sixel_emulator.specs.Readings.{ArePlain, Model, Rule}
+use Rattle.sixel_emulator.specs.Modelled.{first_at, first_sixel, with_first, with_waiting}
+use Rattle.sixel_emulator.specs.Readings.{ArePlain, ArePlainBlanks, ArePlainSixels, Model, Rule}
 use Rattle.sixel_emulator.proofs.PlainLemmas.{first_before}
 use Rattle.sixel_emulator.proofs.PositionLemmas.{read_there}
 
@@ -255,8 +258,39 @@ plain_next rule before n b plain = λ earlier lt bits next.
     subst (λ (es : List Event). rule es (Step (Sixel bits)) next ≡ Draws (Sixel bits)) (first_before before b earlier)
     (plain (b ∷ earlier) (omega (arith, lt)) bits next)
 
+-- so many sixels are drawn as they are
+pub plain_by_count : (rule : Rule) (before : List Event) (bytes : List ℕ) → ArePlain rule before (length bytes)
+    → ArePlainSixels rule before bytes
+plain_by_count rule before [] plain = tt
+plain_by_count rule before (b ∷ bs) plain = (
+  λ next. plain_first rule before (length bs) (b - 63) next plain,
+  plain_by_count rule (before ++ Step (Sixel (b - 63)) ∷ []) bs (plain_next rule before (length bs) b plain),
+)
+
+blank_first : (rule : Rule) (before : List Event) (bits : ℕ) (next : Option Event) → ArePlainBlanks rule before
+    → is_painting (Step (Sixel bits)) ≡ false → rule before (Step (Sixel bits)) next ≡ Draws (Sixel bits)
+blank_first rule before bits next plain blank =
+    subst (λ (es : List Event). rule es (Step (Sixel bits)) next ≡ Draws (Sixel bits)) (append-nil before)
+    (plain [] refl bits blank next)
+
+blank_next : (rule : Rule) (before : List Event) (b : ℕ) → ArePlainBlanks rule before
+    → is_painting (Step (Sixel (b - 63))) ≡ false → ArePlainBlanks rule (before ++ Step (Sixel (b - 63)) ∷ [])
+blank_next rule before b plain first = λ earlier none bits blank next.
+    subst (λ (es : List Event). rule es (Step (Sixel bits)) next ≡ Draws (Sixel bits)) (first_before before b earlier)
+    (plain (b ∷ earlier) (rw first none) bits blank next)
+
+-- none of these has a set bit
+pub plain_by_blanks : (rule : Rule) (before : List Event) (bytes : List ℕ) → ArePlainBlanks rule before
+    → list_any is_painting (sixels_of bytes) ≡ false → ArePlainSixels rule before bytes
+plain_by_blanks rule before [] plain none = tt
+plain_by_blanks rule before (b ∷ bs) plain none =
+    let parts = or_parts (is_painting (Step (Sixel (b - 63)))) (list_any is_painting (sixels_of bs)) none in (
+      λ next. blank_first rule before (b - 63) next plain parts.0,
+      plain_by_blanks rule (before ++ Step (Sixel (b - 63)) ∷ []) bs (blank_next rule before b plain parts.0) parts.1,
+    )
+
 plain_drawn : (m : Model) (read : List Placed) (place : ℕ) (bytes : List ℕ) (later : List Placed)
-    → ArePlain m.rule (events_of read) (length bytes)
+    → ArePlainSixels m.rule (events_of read) bytes
     → AreDrawn m (events_of (read ++ (sixels_from place bytes ++ later))) (length read) bytes
 plain_drawn m read place [] later plain = tt
 plain_drawn m read place (b ∷ bs) later plain =
@@ -264,11 +298,9 @@ plain_drawn m read place (b ∷ bs) later plain =
     let rest : List Placed = sixels_from (place + 1) bs ++ later in
     let long : length (read ++ q ∷ []) ≡ suc (length read) = length-append read (q ∷ []) ∙ omega arith in
     let all : (read ++ q ∷ []) ++ rest ≡ read ++ q ∷ rest = append_assoc read (q ∷ []) rest in
-    let known : ArePlain m.rule (events_of (read ++ q ∷ [])) (length bs) =
-    subst (λ (es : List Event). ArePlain m.rule es (length bs)) (sym (events_then read (q ∷ [])))
-    (plain_next m.rule (events_of read) (length bs) b plain) in (
-      is_at m read rest q (Draws (Sixel (b - 63)))
-          (sym (plain_first m.rule (events_of read) (length bs) (b - 63) (slice_get (events_of rest) 0) plain)),
+    let known : ArePlainSixels m.rule (events_of (read ++ q ∷ [])) bs =
+    subst (λ (es : List Event). ArePlainSixels m.rule es bs) (sym (events_then read (q ∷ []))) plain.1 in (
+      is_at m read rest q (Draws (Sixel (b - 63))) (sym (plain.0 (slice_get (events_of rest) 0))),
       subst (λ (n : ℕ). AreDrawn m (events_of (read ++ q ∷ rest)) n bs) long
           (subst (λ (ps : List Placed). AreDrawn m (events_of ps) (length (read ++ q ∷ [])) bs) all
           (plain_drawn m (read ++ q ∷ []) (place + 1) bs later known)),
@@ -321,29 +353,27 @@ follows_sixels_read m has_seen w opening before place b bs reading p none reads 
 
 -- the first of these sixels came last; they are drawn as they are, and none waits
 pub follows_plain : {R : Type 0} (m : Model) (has_seen : R → List Event → Type 0) (w : Modelled R)
-    (opening : List Event) (before : List Placed) (place b : ℕ) (bs : List ℕ) (n : ℕ) (reading : R) (p : Progress)
+    (opening : List Event) (before : List Placed) (place b : ℕ) (bs : List ℕ) (reading : R) (p : Progress)
     → w.waiting.pending ≡ None
-    → ((es : List Event) → has_seen w.waiting.reading es → ArePlain m.rule es n) → suc (length bs) ≤ n
+    → ((es : List Event) → has_seen w.waiting.reading es → ArePlainSixels m.rule es (b ∷ bs))
     → ((es : List Event) → has_seen w.waiting.reading es → has_seen reading (es ++ sixels_of (b ∷ bs)))
     → ((first : List Event) (placed : List Placed) (k : ℕ) → AreDrawn m (events_of placed) k (b ∷ bs)
     → HasCome m first placed k w.progress → HasCome m first placed (k + length (b ∷ bs)) p)
     → HasFollowed m has_seen (with_waiting w place (Step (Sixel (b - 63)))) opening
     (before ++ placed_at place (Step (Sixel (b - 63))) ∷ [])
     → HasFollowed m has_seen (with_read w reading p) opening (before ++ sixels_from place (b ∷ bs))
-follows_plain m has_seen w opening before place b bs n reading p none plain enough reads draws h =
+follows_plain m has_seen w opening before place b bs reading p none plain reads draws h =
     follows_sixels_read m has_seen w opening before place b bs reading p none reads
     (λ seen later old.
     draws opening (before ++ (sixels_from place (b ∷ bs) ++ later)) (length before)
-    (plain_drawn m before place (b ∷ bs) later
-    (fewer m.rule (events_of before) n (suc (length bs)) enough (plain (events_of before) seen)))
-    old)
+    (plain_drawn m before place (b ∷ bs) later (plain (events_of before) seen)) old)
     h
 
 -- the same, and none of these bytes is split off
 pub follows_sixels : {R : Type 0} (m : Model) (has_seen : R → List Event → Type 0) (w : Modelled R)
     (opening : List Event) (before : List Placed) (place : ℕ) (bytes : List ℕ) (reading : R) (p : Progress)
     → 0 < length bytes → w.waiting.pending ≡ None
-    → ((es : List Event) → has_seen w.waiting.reading es → ArePlain m.rule es (length bytes))
+    → ((es : List Event) → has_seen w.waiting.reading es → ArePlainSixels m.rule es bytes)
     → ((es : List Event) → has_seen w.waiting.reading es → has_seen reading (es ++ sixels_of bytes))
     → ((first : List Event) (placed : List Placed) (k : ℕ) → AreDrawn m (events_of placed) k bytes
     → HasCome m first placed k w.progress → HasCome m first placed (k + length bytes) p)
@@ -352,8 +382,7 @@ pub follows_sixels : {R : Type 0} (m : Model) (has_seen : R → List Event → T
 follows_sixels m has_seen w opening before place [] reading p some none plain reads draws h =
     absurd (omega (arith, some))
 follows_sixels m has_seen w opening before place (b ∷ bs) reading p some none plain reads draws h =
-    follows_plain m has_seen w opening before place b bs (suc (length bs)) reading p none plain (omega arith) reads draws
-    h
+    follows_plain m has_seen w opening before place b bs reading p none plain reads draws h
 
 -- the same, where what was drawn stays as it is
 pub follows_past : {R : Type 0} (m : Model) (has_seen : R → List Event → Type 0) (w : Modelled R)
@@ -394,8 +423,18 @@ follows_taken m has_seen w opening before place [] (suc j) n reading p some lt n
 follows_taken {R} m has_seen w opening before place (b ∷ bs) (suc j) n reading p some lt none plain enough within reads
     draws h =
     let long : suc (length (take j bs)) ≡ suc j = ap suc (length-take-le j bs (omega (arith, within))) in
-    follows_plain m has_seen w opening before place b (take j bs) n reading p none plain
-    (subst (λ (k : ℕ). k ≤ n) (sym long) enough) reads draws h
+    follows_plain m has_seen w opening before place b (take j bs) reading p none
+    (λ es seen.
+    plain_by_count m.rule es (b ∷ take j bs)
+    (fewer m.rule es n (suc (length (take j bs))) (subst (λ (k : ℕ). k ≤ n) (sym long) enough) (plain es seen)))
+    reads draws h
+
+-- the first sixel of the first k of these bytes
+pub first_taken : (bytes : List ℕ) (k : ℕ) → (k ≡ 0 → ⊥) → 0 < length bytes
+    → first_sixel (take k bytes) ≡ first_sixel bytes
+first_taken bytes zero some lt = absurd (some refl)
+first_taken [] (suc k) some lt = absurd (omega (arith, lt))
+first_taken (b ∷ bs) (suc k) some lt = refl
 
 -- ---- in parts
 

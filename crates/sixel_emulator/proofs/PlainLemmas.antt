@@ -1,7 +1,7 @@
 -- What sixels that come one after the other leave as it is, and where they end.
 use Rattle.std.proofs.Common.{◌≡◌, ◌≢◌, ℕ, zero, suc, ◌+◌, ◌-◌, ◌<◌, ◌≤◌, Bool, true, false, ◌||◌, length, min, List}
 use Rattle.std.proofs.Common.{[], ◌∷◌, ◌++◌, refl, sym, ap, ◌∙◌, append-nil, append_assoc}
-use Rattle.std.proofs.Common.{arith}
+use Rattle.std.proofs.Common.{arith, take}
 use Rattle.std.specs.Prelude.{IsTrue, nat_lt, slice_index, slice_index_or}
 use Rattle.sixel_grammar.specs.Bytes.{is_data}
 use Rattle.std.specs.List.{list_any}
@@ -87,6 +87,14 @@ pub none_painting : (bytes : List ℕ) → ((k : ℕ) → k < length bytes → s
 none_painting [] each = refl
 none_painting (b ∷ bs) each =
     rw (blank b (each 0 (omega arith))) (none_painting bs (λ k lt. each (suc k) (omega (arith, lt))))
+
+-- the first n of these bytes
+pub none_painting_below : (bytes : List ℕ) (n : ℕ) → ((k : ℕ) → k < n → slice_index_or bytes k 0 ≡ 63)
+    → list_any is_painting (sixels_of (take n bytes)) ≡ false
+none_painting_below bytes zero each = refl
+none_painting_below [] (suc n) each = refl
+none_painting_below (b ∷ bs) (suc n) each =
+    rw (blank b (each 0 (omega arith))) (none_painting_below bs n (λ k lt. each (suc k) (omega (arith, lt))))
 
 set_bit : (b : ℕ) → IsTrue (is_data b) → b ≢ 63 → is_painting (Step (Sixel (b - 63))) ≡ true
 set_bit b told other = grind (arith, nat_tests)

@@ -1,11 +1,12 @@
 -- What a named terminal makes of the events of a string: its reading.
-use Rattle.std.specs.Prelude.{◌≡◌, ◌≤◌, ◌<◌, ◌+◌, ◌&&◌, ◌++◌, ℕ, Bool, true, false, List, [], ◌∷◌, Option, Some}
-use Rattle.std.specs.Prelude.{flat_map, length, min, nat_lt, slice_get, take, if◌then◌else◌}
-use Rattle.std.specs.List.{range_with_len}
+use Rattle.std.specs.Prelude.{◌≡◌, ◌≤◌, ◌<◌, ◌+◌, ◌-◌, ◌&&◌, ◌++◌, ℕ, Bool, true, false, List, [], ◌∷◌, Option, Some}
+use Rattle.std.specs.Prelude.{flat_map, length, min, nat_lt, slice_get, take, if◌then◌else◌, ⊤}
+use Rattle.std.specs.List.{list_any, range_with_len}
 use Rattle.std.specs.Option.{option_map_or}
 use Rattle.sixel_grammar.specs.declared.command.Command.TheVariants.{Sixel, Repeat}
 use Rattle.sixel_grammar.specs.declared.command.Event.{Event}
 use Rattle.sixel_grammar.specs.declared.command.Event.TheVariants.{Start, Step, Finish}
+use Rattle.sixel_model.specs.Events.{is_painting}
 use Rattle.sixel_terminal.specs.Blanks.{AreBlank}
 use Rattle.sixel_terminal.specs.Stretches.{sixels_of}
 use Rattle.sixel_emulator.specs.declared.reading.Reads.{Reads}
@@ -65,6 +66,20 @@ abbrev pub ArePlain : Rule → List Event → ℕ → Type 0
 ArePlain rule before n =
     (earlier : List ℕ) → length earlier < n → (bits : ℕ) (next : Option Event)
     → rule (before ++ sixels_of earlier) (Step (Sixel bits)) next ≡ Draws (Sixel bits)
+
+-- it draws the sixels without a set bit that come next as they are, whatever follows: so one after others without
+abbrev pub ArePlainBlanks : Rule → List Event → Type 0
+ArePlainBlanks rule before =
+    (earlier : List ℕ) → list_any is_painting (sixels_of earlier) ≡ false → (bits : ℕ)
+    → is_painting (Step (Sixel bits)) ≡ false → (next : Option Event)
+    → rule (before ++ sixels_of earlier) (Step (Sixel bits)) next ≡ Draws (Sixel bits)
+
+-- it draws the sixels of these data bytes as they are, if they come next, whatever follows
+abbrev pub ArePlainSixels : Rule → List Event → List ℕ → Type 0
+ArePlainSixels rule before [] = ⊤
+ArePlainSixels rule before (byte ∷ bytes) =
+    ((next : Option Event) → rule before (Step (Sixel (byte - 63))) next ≡ Draws (Sixel (byte - 63)))
+    × ArePlainSixels rule (before ++ Step (Sixel (byte - 63)) ∷ []) bytes
 
 -- the model goes on at an event, and what a plain terminal draws in place of it are data commands that paint nothing
 -- where a repeat of 0 has `zero_columns`; together they have so many columns

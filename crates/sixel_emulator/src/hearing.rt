@@ -176,6 +176,27 @@ impl<F: Listener> Hearing<F> {
             self.listener.hear(place, event);
         }
     }
+
+    /// Takes what is heard of a select without columns behind it. `take_select` hears others, and alone calls
+    /// `hear_select`: so that is inlined there.
+    #[inline(never)]
+    fn push_lone_select(&mut self, place: u64, register: u16)
+        ensures { TakesEvents (HasHeardOn F.has_taken) self.old self.new
+            (placed_at place (Step (Select register)) ∷ []) }
+    {
+        match self.omitted.bare {
+            Some(first) if place == first => self.listener.hear(place, raster(0, 0, 0, 0)),
+            _ => self.listener.hear_command(place, Command::Select(register)),
+        }
+    }
+
+    /// Takes what is heard of a command of a kind that is rare.
+    #[inline(never)]
+    fn push_rarely(&mut self, place: u64, command: Command)
+        ensures { TakesEvents (HasHeardOn F.has_taken) self.old self.new (placed_at place (Step command) ∷ []) }
+    {
+        self.push(place, Event::Step(command));
+    }
 }
 
 impl<F: Listener> Follower for Hearing<F> {
@@ -191,7 +212,11 @@ impl<F: Listener> Follower for Hearing<F> {
     }
 
     fn take_command(&mut self, place: u64, command: Command) -> Result<(), Infallible> {
-        self.push(place, Event::Step(command));
+        match command {
+            Command::Select(register) => self.push_lone_select(place, register),
+            Command::Raster { .. } => self.push_rarely(place, command),
+            other => self.listener.hear_command(place, other),
+        }
         Ok(())
     }
 

@@ -25,6 +25,10 @@ pub trait Listener {
     fn hear(&mut self, place: u64, event: Event)
         ensures { TakesEvents has_taken self.old self.new (placed_at place event ∷ []) };
 
+    /// Takes a command. It is called where speed counts.
+    fn hear_command(&mut self, place: u64, command: Command)
+        ensures { TakesEvents has_taken self.old self.new (placed_at place (Step command) ∷ []) };
+
     /// Takes a select.
     fn hear_select(&mut self, place: u64, register: u16)
         ensures { TakesEvents has_taken self.old self.new (placed_at place (Step (Select register)) ∷ []) };
@@ -47,6 +51,11 @@ impl<R: Reading> Listener for Modelled<R> {
     #[inline(always)]
     fn hear(&mut self, place: u64, event: Event) {
         self.push(place, event);
+    }
+
+    #[inline(always)]
+    fn hear_command(&mut self, place: u64, command: Command) {
+        self.push_command(place, command);
     }
 
     #[inline(always)]
@@ -73,6 +82,12 @@ impl<A: Listener, B: Listener> Listener for Both<A, B> {
     fn hear(&mut self, place: u64, event: Event) {
         self.one.hear(place, same(&event));
         self.other.hear(place, event);
+    }
+
+    #[inline(always)]
+    fn hear_command(&mut self, place: u64, command: Command) {
+        self.one.hear_command(place, command);
+        self.other.hear_command(place, command);
     }
 
     #[inline(always)]

@@ -1,5 +1,6 @@
 //! Draws what a model makes of a document, while the document is read.
 
+mod commands;
 mod cutting;
 
 ghost use Rattle.std.specs.Prelude.{◌≡◌, ◌<◌, ◌≤◌, ◌+◌, ◌++◌, ◌∷◌, [], ℕ, IfOk, IsTrue, List, None, Option};
@@ -15,7 +16,7 @@ ghost use Rattle.sixel_terminal.specs.Drawings.{HasDrawn};
 ghost use Rattle.sixel_emulator.specs.Modelled.{AreUnsaidBy, HasFollowed, HasFollowedOn, ModelGives, opening_of};
 ghost use Rattle.sixel_emulator.specs.Modelled.{first_at, placed_at, with_first, with_waiting};
 ghost use Rattle.sixel_emulator.specs.declared.reading.Reads.TheVariants.{Draws};
-ghost use Rattle.sixel_emulator.specs.Readings.{ArePlain, Model as AModel, is_unsaid_control};
+ghost use Rattle.sixel_emulator.specs.Readings.{ArePlainSixels, Model as AModel, is_unsaid_control};
 
 use crate::progress::Progress;
 use crate::reading::{Reading, Reads};
@@ -266,13 +267,13 @@ impl<R: Reading> Modelled<R> {
         }
     }
 
-    /// Whether so many sixels that come next are drawn as they are. `false` says nothing.
+    /// Whether the sixels of these data bytes are drawn as they are, if they come next. `false` says nothing.
     #[inline(always)]
-    fn draws_sixels(&self, count: usize) -> bool
+    fn draws_sixels(&self, bytes: &[u8]) -> bool
         ensures { result ≡ true → (before : List AnEvent) → R.has_seen self.now.waiting.reading before
-            → ArePlain R.model.rule before count }
+            → ArePlainSixels R.model.rule before bytes.now }
     {
-        count <= self.waiting.reading.plain_sixels()
+        bytes.len() <= self.waiting.reading.plain_sixels()
     }
 
     /// Takes the sixels of these data bytes, at least one, where none waits.
@@ -288,13 +289,9 @@ impl<R: Reading> Modelled<R> {
             (before ++ first_at place bytes.now)
             → HasFollowed R.model R.has_seen self.new opening (before ++ sixels_from place bytes.now) }
     {
-        if self.progress.is_over() {
-            self.waiting.reading.note_sixels(bytes)
-        } else if let Some(columns) = self.kept_columns() {
-            self.push_cut_sixels(columns, bytes)
-        } else {
-            self.add(place, sixel(bytes[0]));
-            self.push_each(place + 1, &bytes[1..])
+        let taken = self.add_some(place, bytes);
+        if taken < bytes.len() {
+            self.push_each(place + taken as u64, &bytes[taken..]);
         }
     }
 
@@ -305,7 +302,7 @@ impl<R: Reading> Modelled<R> {
         requires some { 0 < length bytes.now }
         requires none { self.old.waiting.pending ≡ None }
         requires plain { (before : List AnEvent) → R.has_seen self.old.waiting.reading before
-            → ArePlain R.model.rule before (length bytes.now) }
+            → ArePlainSixels R.model.rule before bytes.now }
         ensures terminal { self.new.progress.drawing.terminal ≡ self.old.progress.drawing.terminal }
         ensures followed { (opening : List AnEvent) (before : List Place) (place : ℕ)
             → HasFollowed R.model R.has_seen (with_first self.old place bytes.now) opening
@@ -328,7 +325,7 @@ impl<R: Reading> Modelled<R> {
             → HasFollowed R.model R.has_seen self.new opening (before ++ sixels_from place bytes.now) }
     {
         self.settle_behind(&sixel(bytes[0]));
-        if self.draws_sixels(bytes.len()) {
+        if self.draws_sixels(bytes) {
             self.push_plain(bytes);
         } else {
             self.push_settled(place, bytes);
@@ -347,7 +344,7 @@ impl<R: Reading> Modelled<R> {
             → HasFollowed R.model R.has_seen self.new opening (before ++ sixels_from place bytes.now) }
     {
         // There is one: the test spares others in what is inlined here.
-        if !bytes.is_empty() && self.waiting.pending.is_none() && self.draws_sixels(bytes.len()) {
+        if !bytes.is_empty() && self.waiting.pending.is_none() && self.draws_sixels(bytes) {
             self.push_plain(bytes);
         } else {
             self.push_behind(place, bytes);
@@ -443,7 +440,7 @@ impl<R: Reading> Follower for Modelled<R> {
     }
 
     fn take_command(&mut self, place: u64, command: Command) -> Result<(), Infallible> {
-        self.push(place, Event::Step(command));
+        self.push_command(place, command);
         Ok(())
     }
 

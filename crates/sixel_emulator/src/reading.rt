@@ -9,7 +9,7 @@ ghost use Rattle.sixel_grammar.specs.declared.command.Command.TheVariants.{Repea
 ghost use Rattle.sixel_grammar.specs.declared.command.Event.TheVariants.{Step};
 ghost use Rattle.sixel_terminal.specs.Stretches.{sixels_of};
 ghost use Rattle.sixel_emulator.specs.declared.reading.Reads.TheVariants.{Draws};
-ghost use Rattle.sixel_emulator.specs.Readings.{AreCut, ArePlain, Model as AModel};
+ghost use Rattle.sixel_emulator.specs.Readings.{AreCut, ArePlain, ArePlainBlanks, Model as AModel};
 
 use sixel_grammar::{Command, Event};
 
@@ -51,6 +51,12 @@ pub trait Reading {
     /// How many sixels that come next it draws as they are, whatever follows.
     fn plain_sixels(&self) -> usize
         ensures { (before : List AnEvent) → has_seen self.now before → ArePlain model.rule before result };
+
+    /// Whether it draws each sixel without a set bit as it is, of those that come next without one between them that
+    /// paints, whatever follows. `false` says nothing.
+    fn draws_blanks(&self) -> bool
+        ensures { result ≡ true → (before : List AnEvent) → has_seen self.now before
+            → ArePlainBlanks model.rule before };
 
     /// Reads the sixels of these data bytes.
     fn note_sixels(&mut self, bytes: &[u8])

@@ -1,6 +1,6 @@
 //! What several terminals ask of events.
 
-ghost use Rattle.std.specs.Prelude.{◌≡◌, ◌<◌, ◌-◌, ℕ, IsTrue, is_some, length, slice_index};
+ghost use Rattle.std.specs.Prelude.{◌≡◌, ◌<◌, ◌≤◌, ◌-◌, ℕ, IsTrue, false, is_some, length, slice_index, take};
 ghost use Rattle.std.specs.List.{list_any};
 ghost use Rattle.sixel_grammar.specs.Bytes.{is_data};
 ghost use Rattle.sixel_grammar.specs.declared.command.Command.TheVariants.{Sixel};
@@ -184,6 +184,19 @@ pub fn is_finish(event: &Event) -> bool
     ensures { result ≡ said.is_finish event.now }
 {
     matches!(event, Event::Finish { .. })
+}
+
+/// How many of these data bytes come before the first whose sixel has a set bit.
+pub fn leading_blanks(bytes: &[u8]) -> usize
+    ensures within { result ≤ length bytes.now }
+    ensures blank { list_any said.is_painting (sixels_of (take result bytes.now)) ≡ false }
+{
+    for (index, byte) in bytes.iter().enumerate() {
+        if *byte != b'?' {
+            return index;
+        }
+    }
+    bytes.len()
 }
 
 /// Whether one of the sixels of these data bytes has a set bit.

@@ -6,10 +6,10 @@ use Rattle.std.specs.List.{find}
 use Rattle.std.specs.Option.{option_map_or}
 use Rattle.std.proofs.lemmas.Bool.{and_parts, eqb-true}
 use Rattle.std.proofs.lemmas.Bool.Decides.{nat_tests}
-use Rattle.sixel_grammar.specs.declared.command.Command.TheVariants.{Repeat, Select, CarriageReturn, NextLine}
+use Rattle.sixel_grammar.specs.declared.command.Command.TheVariants.{Repeat, Select, CarriageReturn, NextLine, Sixel}
 use Rattle.sixel_grammar.specs.declared.command.Event.{Event}
 use Rattle.sixel_grammar.specs.declared.command.Event.TheVariants.{Step}
-use Rattle.sixel_model.specs.Events.{columns_of, is_painting}
+use Rattle.sixel_model.specs.Events.{columns_of, is_data_command, is_painting}
 use Rattle.sixel_emulator_rules.specs.Asked.{breaks_hue, breaks_large, breaks_introducer, breaks_rows, is_asked}
 use Rattle.sixel_emulator_rules.specs.Counts.{asked_in, counts_in, first_in, fits_box_in, fits_in, in_order, is_calm_in}
 use Rattle.sixel_emulator_rules.specs.Counts.{asks_where, is_near_in, leaves_far_in, leaves_in}
@@ -26,7 +26,7 @@ find_none : {X : Type 0} (p : X → Bool) (xs : List X) → ((x : X) → p x ≡
 find_none p [] none = refl
 find_none p (x ∷ xs) none = rw (none x) (find_none p xs none)
 
-and_false : (a b : Bool) → b ≡ false → (a && b) ≡ false
+pub and_false : (a b : Bool) → b ≡ false → (a && b) ≡ false
 and_false true b h = h
 and_false false b h = refl
 
@@ -202,3 +202,49 @@ repeat_counts t n c b SpaceAfter calm = and_false (is_asked t SpaceAfter) false 
 pub quiet_repeat : (t : Terminals) (n : Notes) (c b : ℕ) → is_calm_in t n c ≡ true
     → first_in t n (Step (Repeat c b)) ≡ None
 quiet_repeat t n c b calm = none_first t n (Step (Repeat c b)) (λ rule. repeat_counts t n c b rule calm)
+
+-- ---- any sixel and any repeat
+
+-- the rules that one can break
+abbrev pub is_of_data : AskedRule → Bool
+is_of_data Stale = true
+is_of_data Past = true
+is_of_data Far = true
+is_of_data _ = false
+
+sixel_counts : (n : Notes) (b : ℕ) (rule : AskedRule) → is_of_data rule ≡ false
+    → counts_in n (Step (Sixel b)) rule ≡ false
+unfolding breaks_hue breaks_large breaks_introducer breaks_rows
+sixel_counts n b RasterLate other = refl
+sixel_counts n b Dropped other = refl
+sixel_counts n b Stale other = cc
+sixel_counts n b Large other = refl
+sixel_counts n b Rows other = refl
+sixel_counts n b Past other = cc
+sixel_counts n b Hue other = refl
+sixel_counts n b Far other = cc
+sixel_counts n b Introducer other = refl
+sixel_counts n b Bare other = refl
+sixel_counts n b SpaceAfter other = refl
+
+any_repeat_counts : (n : Notes) (c b : ℕ) (rule : AskedRule) → is_of_data rule ≡ false
+    → counts_in n (Step (Repeat c b)) rule ≡ false
+unfolding breaks_hue breaks_large breaks_introducer breaks_rows
+any_repeat_counts n c b RasterLate other = refl
+any_repeat_counts n c b Dropped other = refl
+any_repeat_counts n c b Stale other = cc
+any_repeat_counts n c b Large other = refl
+any_repeat_counts n c b Rows other = refl
+any_repeat_counts n c b Past other = cc
+any_repeat_counts n c b Hue other = refl
+any_repeat_counts n c b Far other = cc
+any_repeat_counts n c b Introducer other = refl
+any_repeat_counts n c b Bare other = refl
+any_repeat_counts n c b SpaceAfter other = refl
+
+pub data_counts : (t : Terminals) (n : Notes) (e : Event) (rule : AskedRule) → is_data_command e ≡ true
+    → is_of_data rule ≡ false → asked_in t n e rule ≡ false
+data_counts t n (Step (Sixel b)) rule one other = and_false (is_asked t rule) _ (sixel_counts n b rule other)
+data_counts t n (Step (Repeat c b)) rule one other =
+    and_false (is_asked t rule) _ (any_repeat_counts n c b rule other)
+data_counts t n _ rule one other = cc

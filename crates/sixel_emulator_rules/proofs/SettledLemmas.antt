@@ -5,10 +5,11 @@ use Rattle.std.proofs.Common.{◌++◌, ap, arith, refl, subst, sym}
 use Rattle.std.specs.Prelude.{◌&&◌, ◌||◌}
 use Rattle.std.specs.Option.{option_map, option_map_or}
 use Rattle.std.proofs.lemmas.Bool.{and_from, and_parts, eq-eqb}
-use Rattle.sixel_grammar.specs.declared.command.Command.TheVariants.{CarriageReturn, NextLine, Repeat, Select}
+use Rattle.sixel_grammar.specs.declared.command.Command.TheVariants.{CarriageReturn, NextLine, Repeat, Select, Sixel}
 use Rattle.sixel_grammar.specs.declared.command.Event.{Event}
 use Rattle.sixel_grammar.specs.declared.command.Event.TheVariants.{Step}
 use Rattle.sixel_grammar.specs.declared.command.Placed.{Placed}
+use Rattle.sixel_model.specs.Events.{columns_of, is_data_command}
 use Rattle.sixel_model.specs.Rules.{known_by}
 use Rattle.sixel_model.proofs.PositionLemmas.{option_or_none}
 use Rattle.sixel_emulator.specs.Places.{most}
@@ -58,6 +59,16 @@ notes_repeat n before c b s =
     subst (λ (k : ℕ). IsNotesAfter (passed n k) (before ++ Step (Repeat c b) ∷ [])) (columns_are c b)
     (notes_push n n.declared before (Step (Repeat c b)) s (sym (option_or_none (option_map attributes n.declared)))
     (λ narrow. narrow))
+
+pub notes_data : (n : Notes) (before : List Event) (e : Event) → is_data_command e ≡ true → IsNotesAfter n before
+    → IsNotesAfter (passed n (columns_of 0 e)) (before ++ e ∷ [])
+notes_data n before (Step (Sixel b)) one s =
+    notes_push n n.declared before (Step (Sixel b)) s (sym (option_or_none (option_map attributes n.declared)))
+    (λ narrow. narrow)
+notes_data n before (Step (Repeat c b)) one s =
+    notes_push n n.declared before (Step (Repeat c b)) s (sym (option_or_none (option_map attributes n.declared)))
+    (λ narrow. narrow)
+notes_data n before _ one s = cc
 
 -- ---- what is found
 
@@ -116,3 +127,11 @@ calm_select t n r limit calm end lt =
     let parts = and_parts near (not (is_asked t Stale && stale_in n)) (calm end lt) in
     and_from near (not (is_asked t Stale && stale_in (selecting n r))) parts.0
     (not_and (is_asked t Stale) (stale_in (selecting n r)) (fresh_anew n r))
+
+-- where no rule is asked for that hangs on where a data command stands
+pub calm_line : (t : Terminals) (n : Notes) (limit : ℕ) → asks_where t ≡ false → IsCalmBefore t n limit
+    → IsCalmBefore t (lowered n) limit
+calm_line t n limit none calm end lt =
+    let stale : Bool = not (is_asked t Stale && stale_in n) in
+    let parts = and_parts (not (asks_where t) || is_near_at n end) stale (calm end lt) in
+    and_from (not (asks_where t) || is_near_at (lowered n) end) stale (rw none refl) parts.1

@@ -11,6 +11,7 @@ use Rattle.sixel_grammar.specs.declared.command.Command.TheVariants.{Sixel}
 use Rattle.sixel_grammar.specs.declared.command.Event.{Event}
 use Rattle.sixel_grammar.specs.declared.command.Event.TheVariants.{Step}
 use Rattle.sixel_grammar.specs.declared.command.Placed.{Placed}
+use Rattle.sixel_model.specs.Events.{is_data_command}
 use Rattle.sixel_model.specs.Positions.{HoldsNowhere}
 use Rattle.sixel_model.proofs.PositionLemmas.{get_end, holds_before, holds_end, holds_push, holds_within}
 use Rattle.sixel_terminal.proofs.FollowLemmas.{events_then, sixels_are}
@@ -39,6 +40,7 @@ use Rattle.sixel_emulator_rules.specs.declared.terminals.Terminals.{Terminals}
 use Rattle.sixel_emulator_rules.proofs.CalmLemmas.{AreCalm, calm_after, calm_of, none_counted, notes_over}
 use Rattle.sixel_emulator_rules.proofs.CountsLemmas.{is_tallied, tallied_in}
 use Rattle.sixel_emulator_rules.proofs.FirstLemmas.{none_passes}
+use Rattle.sixel_emulator_rules.proofs.QuietLemmas.{data_counts, is_of_data}
 
 -- ---- an event that doesn't count
 
@@ -50,6 +52,23 @@ set_again (o ∷ l) (suc k) = ap (λ (m : List (Option _)). o ∷ m) (set_again 
 pub not_tallied : (t : Terminals) (n : Notes) (place : ℕ) (v : Event) (tallies : List (Option AskedEntry))
     (rule : AskedRule) → asked_in t n v rule ≡ false → tallied t n place v tallies rule ≡ tallies
 not_tallied t n place v tallies rule is = rw is (set_again tallies (number_of rule - 14))
+
+-- a sixel or a repeat, which only three of the rules can count
+pub tallied_data : (t : Terminals) (n : Notes) (place : ℕ) (v : Event) (tallies : List (Option AskedEntry))
+    → is_data_command v ≡ true
+    → tallied t n place v (tallied t n place v (tallied t n place v tallies Stale) Past) Far
+    ≡ tallied_each t n place v tallies
+tallied_data t n place v tallies one =
+    let count = tallied t n place v in
+    let skip = λ (rule : AskedRule) (l : List (Option AskedEntry)) (other : is_of_data rule ≡ false).
+    not_tallied t n place v l rule (data_counts t n v rule one other) in
+    let dropped = skip Dropped _ refl ∙ skip RasterLate tallies refl in
+    let stale = ap (λ (l : List (Option AskedEntry)). count l Stale) dropped in
+    let rows = skip Rows _ refl ∙ (skip Large _ refl ∙ stale) in
+    let past = ap (λ (l : List (Option AskedEntry)). count l Past) rows in
+    let hue = skip Hue _ refl ∙ past in
+    let far = ap (λ (l : List (Option AskedEntry)). count l Far) hue in
+    sym (skip SpaceAfter _ refl ∙ (skip Bare _ refl ∙ (skip Introducer _ refl ∙ far)))
 
 -- ---- a list of eleven
 

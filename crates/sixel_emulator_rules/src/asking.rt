@@ -1,7 +1,7 @@
 //! Asks while a document is read: the first rule that is broken, of those that a set of terminals asks for.
 
 ghost use Rattle.std.specs.Prelude.{◌≡◌, ◌++◌, ◌∷◌, ◌<◌, ◌+◌, ◌≤◌, [], ℕ, IsTrue, List, length, nat_lt, slice_index};
-ghost use Rattle.std.specs.Prelude.{take};
+ghost use Rattle.std.specs.Prelude.{false, take};
 ghost use Rattle.std.specs.Option.{option_map};
 ghost use Rattle.sixel_grammar.specs.Bytes.{is_data};
 ghost use Rattle.sixel_grammar.specs.Document.{most_bytes};
@@ -13,7 +13,7 @@ ghost use Rattle.sixel_grammar.specs.declared.command.Placed.{Placed as PlacedVa
 ghost use Rattle.sixel_emulator_rules.specs.Asking.{HasAsked, HasAskedOn, HasFound, IsAnswer, TakesOn, found_at};
 ghost use Rattle.sixel_emulator_rules.specs.Asking.{placed_at};
 ghost use Rattle.sixel_emulator_rules.specs.Counts.{IsCalmBefore, asked_in, first_in};
-ghost use Rattle.sixel_emulator_rules.specs.Notes.{IsNotesAfter};
+ghost use Rattle.sixel_emulator_rules.specs.Notes.{IsNotesAfter, lowered};
 
 use crate::notes::Notes;
 use crate::rule::AskedRule;
@@ -205,6 +205,15 @@ impl Asking {
         }
     }
 
+    /// Whether that column may be another one in the next band.
+    #[inline(always)]
+    fn hangs_on_band(&self) -> bool
+        ensures { result ≡ false → IsCalmBefore self.now.terminals self.now.notes self.now.calm
+            → IsCalmBefore self.now.terminals (lowered self.now.notes) self.now.calm }
+    {
+        self.calm != 0 && self.terminals.asks_where()
+    }
+
     /// Takes a new line. It breaks no rule unless it comes after a select, a definition or raster attributes.
     #[inline(always)]
     fn push_next_line(&mut self, place: u64)
@@ -216,8 +225,9 @@ impl Asking {
         if self.notes.droppable {
             self.push_rarely(place, &Event::Step(Command::NextLine));
         } else {
+            let hangs = self.hangs_on_band();
             self.notes.go_down();
-            if self.calm != 0 {
+            if hangs {
                 self.settle();
             }
         }

@@ -1,8 +1,9 @@
 //! How often a rule has counted so far, and where first.
 
-ghost use Rattle.std.specs.Prelude.{◌≡◌, ◌-◌, ◌<◌, Some, filter_map, slice_set, true};
+ghost use Rattle.std.specs.Prelude.{◌≡◌, ◌-◌, ◌<◌, ℕ, None, Some, filter_map, slice_set, true};
 ghost use Rattle.sixel_emulator_rules.specs.Asked.{number_of};
 ghost use Rattle.sixel_emulator_rules.specs.Tallying.{next_tally, tally_in};
+ghost use Rattle.sixel_emulator_rules.specs.declared.rule.AskedRule.{AskedRule as ARule};
 
 use crate::rule::{ASKED_COUNT, AskedRule};
 use arrayvec::ArrayVec;
@@ -65,21 +66,26 @@ pub(crate) fn put(
     tallies[index_of(rule)] = tally;
 }
 
-/// The tally of a rule after an event at this offset, at which the rule counts. The count stops at `u64::MAX`.
+/// The tally of a rule after the first event at which it counts, which has this offset.
 #[inline(always)]
-pub(crate) fn counted(tally: Option<AskedEntry>, rule: AskedRule, place: u64) -> AskedEntry
-    ensures { Some result ≡ next_tally rule place true tally }
+pub(crate) fn begun(rule: AskedRule, place: u64) -> AskedEntry
+    ensures { Some result ≡ next_tally rule place true None }
 {
-    match tally {
-        None => AskedEntry {
-            rule,
-            count: 1,
-            place,
-        },
-        Some(tally) => AskedEntry {
-            count: tally.count.saturating_add(1),
-            ..tally
-        },
+    AskedEntry {
+        rule,
+        count: 1,
+        place,
+    }
+}
+
+/// The tally after one more event at which its rule counts. The count stops at `u64::MAX`.
+#[inline(always)]
+pub(crate) fn counted(tally: AskedEntry) -> AskedEntry
+    ensures { (rule : ARule) (place : ℕ) → Some result ≡ next_tally rule place true (Some tally) }
+{
+    AskedEntry {
+        count: tally.count.saturating_add(1),
+        ..tally
     }
 }
 

@@ -1,21 +1,25 @@
 //! Counts how often each rule is broken that a set of terminals asks for, while a document is read.
 
 ghost use Rattle.std.specs.Prelude.{◌≡◌, ◌++◌, ◌∷◌, ◌<◌, ◌+◌, ◌≤◌, [], ℕ, IsTrue, List, None, length, slice_index};
-ghost use Rattle.std.specs.Prelude.{take};
+ghost use Rattle.std.specs.Prelude.{◌-◌, slice_set, take, true};
 ghost use Rattle.sixel_grammar.specs.Bytes.{is_data};
 ghost use Rattle.sixel_grammar.specs.Document.{Document, most_bytes};
 ghost use Rattle.sixel_grammar.specs.Stretches.{sixels_from};
 ghost use Rattle.sixel_grammar.specs.declared.command.Command.TheVariants.{Repeat};
 ghost use Rattle.sixel_grammar.specs.declared.command.Event.TheVariants.{Step};
 ghost use Rattle.sixel_grammar.specs.declared.command.Placed.{Placed as PlacedValue};
+ghost use Rattle.sixel_model.specs.Events.{is_data_command};
+ghost use Rattle.sixel_emulator_rules.specs.Asked.{number_of};
 ghost use Rattle.sixel_emulator_rules.specs.Asking.{placed_at};
 ghost use Rattle.sixel_emulator_rules.specs.Counts.{asked_in, first_in, is_calm_in};
 ghost use Rattle.sixel_emulator_rules.specs.Tallies.{AreAskedEntries};
-ghost use Rattle.sixel_emulator_rules.specs.Tallying.{HasTallied, HasTalliedOn, TalliesOn, tallied, tallied_each};
+ghost use Rattle.sixel_emulator_rules.specs.Tallying.{HasTallied, HasTalliedOn, TalliesOn, next_tally, tallied};
+ghost use Rattle.sixel_emulator_rules.specs.Tallying.{tallied_each};
 
+use crate::events::columns_of;
 use crate::notes::Notes;
 use crate::rule::{ASKED_COUNT, AskedRule};
-use crate::tally::{AskedEntries, AskedEntry, counted, entries_of, put, tally_of};
+use crate::tally::{AskedEntries, AskedEntry, begun, counted, entries_of, put, tally_of};
 use crate::terminals::Terminals;
 use sixel_grammar::{Command, Event, Follower, Placed};
 use std::convert::Infallible;
@@ -61,6 +65,18 @@ impl Tallying {
         self.terminals.asks_for(rule) && self.notes.breaks(rule, event)
     }
 
+    /// Begins the tally of a rule, by an event with this offset. It is a call: so little is written for a rule that has
+    /// counted before.
+    #[inline(never)]
+    fn begin(&mut self, rule: AskedRule, place: u64)
+        ensures { self.new ≡ record self.old {
+          tallies =
+              slice_set self.old.tallies (number_of rule - 14) (next_tally rule place true None);
+        } }
+    {
+        put(&mut self.tallies, rule, Some(begun(rule, place)));
+    }
+
     /// Counts the event for the rule.
     #[inline(always)]
     fn count(&mut self, rule: AskedRule, place: u64, event: &Event)
@@ -69,8 +85,10 @@ impl Tallying {
         } }
     {
         if self.counts(rule, event) {
-            let tally = tally_of(&self.tallies, rule);
-            put(&mut self.tallies, rule, Some(counted(tally, rule, place)));
+            match tally_of(&self.tallies, rule) {
+                None => self.begin(rule, place),
+                Some(tally) => put(&mut self.tallies, rule, Some(counted(tally))),
+            }
         }
     }
 
@@ -92,6 +110,41 @@ impl Tallying {
         self.count(AskedRule::Introducer, place, event);
         self.count(AskedRule::Bare, place, event);
         self.count(AskedRule::SpaceAfter, place, event);
+    }
+
+    /// Counts a sixel or a repeat for each rule. It can break only these three.
+    #[inline(always)]
+    fn count_data(&mut self, place: u64, event: &Event)
+        requires { is_data_command event.now ≡ true }
+        ensures { self.new ≡ record self.old {
+          tallies = tallied_each self.old.terminals self.old.notes place event.now self.old.tallies;
+        } }
+    {
+        self.count(AskedRule::Stale, place, event);
+        self.count(AskedRule::Past, place, event);
+        self.count(AskedRule::Far, place, event);
+    }
+
+    /// Takes a sixel or a repeat.
+    #[inline(always)]
+    fn push_data(&mut self, place: u64, event: &Event)
+        requires { is_data_command event.now ≡ true }
+        ensures terminals { self.new.terminals ≡ self.old.terminals }
+        ensures taken { (seen : List PlacedValue) → HasTallied self.old seen
+            → HasTallied self.new (seen ++ placed_at place event.now ∷ []) }
+    {
+        self.count_data(place, event);
+        self.notes.pass(u32::from(columns_of(event)));
+    }
+
+    /// Takes a repeat that may break a rule.
+    #[inline(never)]
+    fn push_far_repeat(&mut self, place: u64, count: u16, bits: u8)
+        ensures terminals { self.new.terminals ≡ self.old.terminals }
+        ensures taken { (seen : List PlacedValue) → HasTallied self.old seen
+            → HasTallied self.new (seen ++ placed_at place (Step (Repeat count bits)) ∷ []) }
+    {
+        self.push_data(place, &Event::Step(Command::Repeat { count, bits }));
     }
 
     /// Takes the next event.
@@ -135,11 +188,10 @@ impl Tallying {
         ensures taken { (seen : List PlacedValue) → HasTallied self.old seen
             → HasTallied self.new (seen ++ placed_at place (Step (Repeat count bits)) ∷ []) }
     {
-        let event = Event::Step(Command::Repeat { count, bits });
         if self.is_calm(u32::from(count)) {
-            self.pass_by(&event);
+            self.pass_by(&Event::Step(Command::Repeat { count, bits }));
         } else {
-            self.push_rarely(place, &event);
+            self.push_far_repeat(place, count, bits);
         }
     }
 
@@ -172,7 +224,7 @@ impl Tallying {
     {
         for (index, byte) in stretch.iter().enumerate() {
             let event = Event::Step(Command::Sixel(byte - b'?'));
-            self.push(place + index as u64, &event);
+            self.push_data(place + index as u64, &event);
         }
     }
 

@@ -40,5 +40,8 @@ pub mod CanonWalkLemmas
 pub mod CanonAskedLemmas
 pub mod ProfileLemmas
 pub mod LateLemmas
-pub mod WrongLemmas
 pub mod WitnessLemmas
+pub mod FarLemmas
+pub mod BareDocumentLemmas
+pub mod PixelLemmas
+pub mod WrongLemmas

@@ -22,7 +22,7 @@ use Rattle.sixel_foot.specs.Settings.{foot_display}
 use Rattle.sixel_judge.specs.Portable.{Shows}
 use Rattle.sixel_encode.specs.Canon.{canon}
 use Rattle.sixel_emulator_rules.specs.Asked.{BreaksAsked, asks}
-use Rattle.sixel_emulator_rules_laws.specs.Witnesses.{asker_of, is_of_events, witness_of}
+use Rattle.sixel_emulator_rules_laws.specs.Witnesses.{is_of_events, witness_of}
 use Rattle.sixel_emulator_rules.specs.declared.rule.AskedRule.{AskedRule}
 use Rattle.sixel_emulator_rules_laws.specs.Stale.{DefinesFirst, NoneIsStale}
 
@@ -57,11 +57,11 @@ IsShownRight named registers events =
     → (picture_left registers events).height ≤ height
     → IsShownOn named background (width, height) events (picture_left registers events)
 
--- the document that breaks the rule alone isn't shown right by the terminal that asks for it, if events tell of it
+-- the document that breaks the rule alone isn't shown right by any terminal that asks for it, if events tell of it
 abbrev pub EachWitnessIsShownWrong : Type 0
 EachWitnessIsShownWrong =
-    (rule : AskedRule) (registers : ℕ) → IsTrue (is_of_events rule) → 16 ≤ registers
-    → ¬ IsShownRight (asker_of rule) registers (witness_of rule)
+    (named : Named) (rule : AskedRule) (registers : ℕ) → IsTrue (asks named rule) → IsTrue (is_of_events rule)
+    → 16 ≤ registers → ¬ IsShownRight named registers (witness_of rule)
 
 -- ---- definitions after selects
 

@@ -1,3 +1,4 @@
 pub mod Witnesses
 pub mod Stale
 pub mod Laws
+pub mod Wrong

@@ -4,12 +4,13 @@ ghost use Rattle.std.specs.Prelude.{ℕ};
 ghost use Rattle.sixel_model.specs.Profiles.{count_of};
 ghost use Rattle.sixel_model.specs.declared.profile.Profile.{Profile};
 ghost use Rattle.sixel_named_terminals.specs.declared.named.Named.{Named};
-ghost use Rattle.sixel_emulator_rules_laws.specs.Witnesses.{EachRuleHasAWitness};
+ghost use Rattle.sixel_emulator_rules_laws.specs.Witnesses.{EachRuleHasAWitness, FarBreaksPast};
 ghost use Rattle.sixel_emulator_rules_laws.specs.Laws.{CanonSuitsFoot, CanonSuitsKonsole, CanonSuitsMlTerm};
 ghost use Rattle.sixel_emulator_rules_laws.specs.Laws.{CanonSuitsXTerm};
 ghost use Rattle.sixel_emulator_rules_laws.specs.Laws.{CanonDefinesFirst, CanonShownOnFoot, FirstIsNotStale};
 ghost use Rattle.sixel_emulator_rules_laws.specs.Laws.{ShowsPortable};
 ghost use Rattle.sixel_emulator_rules_laws.specs.Laws.{EachWitnessIsShownWrong, LateDefinitionsCanDiffer};
+ghost use Rattle.sixel_emulator_rules_laws.specs.Wrong.{BareStringIsShownWrong, EachWitnessHasAPixel, MlTermEndsAtEach};
 
 /// If a list breaks no rule, and none of those that a named terminal asks for, that terminal shows the picture.
 pub fn named_terminals_show_portable_pictures()
@@ -19,14 +20,31 @@ pub fn named_terminals_show_portable_pictures()
     ensures konsole { (profile : Profile) → ShowsPortable Named.Konsole (count_of profile) }
 {}
 
-/// For each rule of which events tell there is a document that breaks it, and breaks no rule of portable pictures and
-/// no other rule that the same terminal asks for.
+/// For each rule of which events tell there is a document that breaks it, no rule of portable pictures, and no other
+/// rule that a named terminal asks for; only the one for `Far` breaks `Past`, too.
 pub fn each_rule_has_a_witness()
     ensures { EachRuleHasAWitness }
 {}
 
-/// For each rule that a terminal asks for, and of which events tell, a document that breaks it alone isn't shown right
-/// by that terminal.
+/// What breaks `Far` breaks `Past`, too, if it breaks no rule of portable pictures.
+pub fn far_breaks_past()
+    ensures { FarBreaksPast }
+{}
+
+/// A terminal that asks for a rule, of which events tell, shows that document otherwise than its picture at this pixel;
+/// or it is mlterm, whose model ends at the event that breaks the rule.
+pub fn each_witness_has_a_pixel()
+    ensures pixel { EachWitnessHasAPixel }
+    ensures mlterm { MlTermEndsAtEach }
+{}
+
+/// A string with a select without a number breaks `Bare` and no other rule. xterm shows its first pixel wrong, and
+/// mlterm's model ends at the select.
+pub fn bare_string_is_shown_wrong()
+    ensures { BareStringIsShownWrong }
+{}
+
+/// No terminal that asks for a rule, of which events tell, shows that document right.
 pub fn each_witness_is_shown_wrong()
     ensures { EachWitnessIsShownWrong }
 {}

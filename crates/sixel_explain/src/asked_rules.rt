@@ -102,7 +102,7 @@ String: ESC P q \"1;1;1001;1#0;2;0;0;0#0!1001@ ESC \\
 Output of check --on xterm: broken Large 3
 
 Fix: scale the picture down, or cut it into several strings. sixel mend keeps
-its size. Or start xterm with -xrm 'XTerm*maxGraphicSize: 2048x2048': then it
+its size, and sixel mend --on xterm refuses it. Or start xterm with -xrm 'XTerm*maxGraphicSize: 2048x2048': then it
 draws the picture, and the rule doesn't matter.
 ";
 
@@ -115,8 +115,8 @@ six.
 String: ESC P q \"1;1;1;1#0;2;0;0;0#0@ ESC \\
 Output of check --on konsole: broken Rows 3
 
-Fix: make the height a multiple of six. sixel mend keeps it. Or leave room for
-up to five rows below the picture: then the rule doesn't matter.
+Fix: make the height a multiple of six, as sixel mend --on konsole does. Or leave
+room for up to five rows below the picture: then the rule doesn't matter.
 ";
 
 const PAST: &str = "Past: blanks right of the box or below it

@@ -74,6 +74,8 @@ pub fn topic_of(fault: &RunFault) -> Topic
         RunFault::NoBox => Topic::NoBox,
         RunFault::Unmodelled { .. } => Topic::Unmodelled,
         RunFault::NoString => Topic::NoString,
+        RunFault::Large { .. } => Topic::Asked(AskedRule::Large),
+        RunFault::Hue => Topic::Asked(AskedRule::Hue),
         RunFault::Empty => Topic::Empty,
         RunFault::TooLarge => Topic::TooLarge,
         RunFault::TooManyColours => Topic::Ppm(PpmReason::TooManyColours),

@@ -268,7 +268,7 @@ pub const NOT_RGB: &str =
     "NotRgb: a colour of hue, lightness and saturation that would appear in a PPM
 
 Refused: render and show can't write a visible colour of hue, lightness and
-saturation, since a PPM can't hold it. Nothing is written.
+saturation, since neither a PPM nor a PNG can hold it. Nothing is written.
 
 String: ESC P q \"1;1;1;1#0;1;0;0;0#0@ ESC \\
 Output of render: sixel: NotRgb

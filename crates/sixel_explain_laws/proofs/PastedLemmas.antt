@@ -19,6 +19,7 @@ use Rattle.std.proofs.lemmas.List.Splits.{slice_split-cons_no}
 use Rattle.std.proofs.lemmas.Slice.Eq.{ends_is}
 use Rattle.sixel_emulator_rules.specs.Names.{name_of}
 use Rattle.sixel_emulator_rules.specs.declared.asking.AskedFinding.{AskedFinding}
+use Rattle.sixel_emulator_rules.specs.declared.rule.AskedRule.TheVariants as asked
 use Rattle.sixel_model.specs.declared.rule.Rule.{Rule as ARule}
 use Rattle.sixel_model.specs.declared.rule.Rule.TheVariants as rule
 use Rattle.sixel_judge.specs.declared.verdict.Finding.{Finding}
@@ -308,6 +309,19 @@ name_at first t n said are =
     ∙ ap (λ (d : Text). low (32 ∷ first) ++ spaced (low (topic_name t) ∷ codes "at" ∷ d ∷ [])) (low_number n))
     ∙ name_before_number (low (32 ∷ first)) t (codes "at" ∷ []) n (refl, (number_nameless n, tt))
 
+-- a name and two numbers
+name_size : (first : Text) (t : Topic) (width height : ℕ) (said : List Text)
+    → ArePasted said (line first (topic_name t ∷ decimal width ∷ decimal height ∷ []))
+    → names_in (line_of said) ≡ Some (topic_name t ∷ [])
+name_size first t width height said are =
+    let name = low (topic_name t) in
+    ap names_in
+    (pasted said first (topic_name t ∷ decimal width ∷ decimal height ∷ []) are
+    ∙ ap (λ (d : Text). low (32 ∷ first) ++ spaced (name ∷ d ∷ low (decimal height) ∷ [])) (low_number width)
+    ∙ ap (λ (d : Text). low (32 ∷ first) ++ spaced (name ∷ decimal width ∷ d ∷ [])) (low_number height))
+    ∙ name_before_number (low (32 ∷ first)) t (decimal width ∷ []) height
+    (number_nameless width, (number_nameless height, tt))
+
 -- a name at the end
 name_last : (first : Text) (t : Topic) (said : List Text)
     → list_any is_mark (low (32 ∷ first)) ≡ true
@@ -438,6 +452,18 @@ too_large_unended x =
     (not_at_end x t _ (codes " write faile") (codes "d") refl (omega arith) refl)
     (not_at_end x t _ (codes " the input is empt") (codes "y") refl (omega arith) refl)
 
+hue_unended : (x : Text) → topic_of_end (x ++ codes " hue") ≡ None
+hue_unended x =
+    let t = codes " hue" in
+    no_topic (x ++ t) (not_at_end x t _ (codes " out of memor") (codes "y") refl (omega arith) refl)
+    (not_at_end x t _ (codes " read faile") (codes "d") refl (omega arith) refl)
+    (not_at_end x t _ (codes " no such fi") (codes "le") refl (omega arith) refl)
+    (not_at_end x t _ (codes " permission denie") (codes "d") refl (omega arith) refl)
+    (not_at_end x t _ (codes " is a folde") (codes "r") refl (omega arith) refl)
+    (not_at_end x t _ (codes " name is not valid utf") (codes "-8") refl (omega arith) refl)
+    (not_at_end x t _ (codes " write faile") (codes "d") refl (omega arith) refl)
+    (not_at_end x t _ (codes " the input is empt") (codes "y") refl (omega arith) refl)
+
 -- ---- what the program writes
 
 -- the text is another and then a colon, after a space and in small letters
@@ -462,6 +488,10 @@ fault_pasted first (fault.Unmodelled place) said colon are = name_at first topic
 fault_pasted first fault.NoString said colon are =
     name_last first topic.NoString said (colon_marked first colon)
     (no_ending (low (32 ∷ first)) (codes " nostring") (omega arith) refl refl refl refl refl) are
+fault_pasted first (fault.Large width height) said colon are =
+    name_size first (topic.Asked asked.Large) width height said are
+fault_pasted first fault.Hue said colon are =
+    name_last first (topic.Asked asked.Hue) said (colon_marked first colon) (hue_unended (low (32 ∷ first))) are
 fault_pasted first fault.Empty said colon are =
     name_last first topic.Empty said (colon_marked first colon)
     (ap (λ (x : Text). topic_of_end (x ++ codes " empty")) colon.is

@@ -190,6 +190,10 @@ impl Reading for Foot {
         }
     }
 
+    fn draws_blanks(&self) -> bool {
+        false
+    }
+
     fn note_sixels(&mut self, bytes: &[u8]) {
         let has_painted = self.paints_with(bytes);
         self.size = self.size.after_sixels(bytes.len());

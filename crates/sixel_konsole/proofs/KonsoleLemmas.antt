@@ -25,7 +25,8 @@ use Rattle.sixel_emulator.proofs.CutLemmas.{none_at_all}
 use Rattle.sixel_emulator.proofs.PlainLemmas.{first_before, same_over}
 use Rattle.sixel_konsole.specs.Konsole.{may_count, moves_or_ends}
 use Rattle.sixel_konsole.specs.KonsoleSeen.{HasSeenKonsole, begun_in, counting_in, konsole_in, may_count_in, next_begun}
-use Rattle.sixel_konsole.specs.KonsoleSeen.{is_settled, next_declares, next_late, next_stuck, said, selects_or_paints}
+use Rattle.sixel_konsole.specs.KonsoleSeen.{is_settled, keeps_settled, next_declares, next_late, next_stuck, said}
+use Rattle.sixel_konsole.specs.KonsoleSeen.{selects_or_paints}
 use Rattle.sixel_konsole.proofs.FollowedLemmas.{any_followed_push, first_followed_push}
 
 none_either : {A : Type 0} (b : Bool) → ◌≡◌ {A = Option A} None (if b then None else None)
@@ -273,15 +274,52 @@ settled_push before (Step NextLine) settled is s = absurd cc
 settled_push before (Start eight parameters) settled is s = absurd cc
 settled_push before (Finish eight) settled is s = absurd cc
 
+-- a return or a new line where nothing is dropped
+still_begun : (k : Konsole) → k.begun ≡ true
+    → k.begun ≡ ((k.begun || (k.declares && false)) || (false || (false && not k.stuck)))
+still_begun k begun =
+    begun ∙ ap (λ (b : Bool). (b || (k.declares && false)) || (false || (false && not k.stuck))) (sym begun)
+
+margin_push : {k : Konsole} (before : List Event) (e : Event) → is_settled k ≡ true → is_return e ≡ true
+    → k.stuck ≡ false → HasSeenKonsole k before → HasSeenKonsole k (before ++ e ∷ [])
+margin_push {k} before (Step CarriageReturn) settled goes free s =
+    let past = settled_past k settled in
+    seen_push k (Step CarriageReturn) s free (sym (or_false k.has_late)) (still_begun k (settled_begun k settled))
+    past.declares_is (none_more (option_map said k.counting)) (ap (option_map said) past.waiting_is) past.settled_is
+margin_push {k} before (Step NextLine) settled goes free s =
+    let past = settled_past k settled in
+    seen_push k (Step NextLine) s free (sym (or_false k.has_late)) (still_begun k (settled_begun k settled))
+    past.declares_is (none_more (option_map said k.counting)) (ap (option_map said) past.waiting_is) past.settled_is
+margin_push before (Step (Sixel bits)) settled goes free s = absurd cc
+margin_push before (Step (Repeat count bits)) settled goes free s = absurd cc
+margin_push before (Step (Raster pan pad width height)) settled goes free s = absurd cc
+margin_push before (Step (Select register)) settled goes free s = absurd cc
+margin_push before (Step (Define register system x y z)) settled goes free s = absurd cc
+margin_push before (Start eight parameters) settled goes free s = absurd cc
+margin_push before (Finish eight) settled goes free s = absurd cc
+
+not_true : (x : Bool) → not x ≡ true → x ≡ false
+not_true true is = absurd cc
+not_true false is = refl
+
+keeps_push : {k : Konsole} (before : List Event) (e : Event) (a b : Bool) → selects_or_paints e ≡ a
+    → is_return e ≡ b → (a || (b && not k.stuck)) ≡ true → is_settled k ≡ true → HasSeenKonsole k before
+    → HasSeenKonsole k (before ++ e ∷ [])
+keeps_push before e true b selects goes keeps settled s = settled_push before e settled selects s
+keeps_push {k} before e false true selects goes keeps settled s =
+    margin_push before e settled goes (not_true k.stuck keeps) s
+keeps_push before e false false selects goes keeps settled s = absurd cc
+
 and_both : (a b : Bool) → (a && b) ≡ true → (a ≡ true) × (b ≡ true)
 and_both true true h = (refl, refl)
 and_both true false h = absurd cc
 and_both false b h = absurd cc
 
-pub stays_push : {k : Konsole} (before : List Event) (e : Event) → (k.settled && selects_or_paints e) ≡ true
+pub stays_push : {k : Konsole} (before : List Event) (e : Event) → (k.settled && keeps_settled k e) ≡ true
     → HasSeenKonsole k before → HasSeenKonsole k (before ++ e ∷ [])
 stays_push {k} before e h s =
-    let both = and_both k.settled (selects_or_paints e) h in settled_push before e (s.settled_is both.0) both.1 s
+    let both = and_both k.settled (keeps_settled k e) h in
+    keeps_push before e (selects_or_paints e) (is_return e) refl refl both.1 (s.settled_is both.0) s
 
 -- ---- whether all is dropped, and what is drawn
 

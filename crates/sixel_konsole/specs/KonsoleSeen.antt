@@ -27,7 +27,7 @@ counting_in k dropped = option_or (option_map said k.counting) (if dropped then 
 abbrev pub begun_in : Konsole → Bool → Bool
 begun_in k dropped = k.begun || (k.declares && not dropped)
 
--- a select or a data command changes nothing of what it stores
+-- a select or a data command changes nothing of what it stores; nor does a return or a new line, unless all is dropped
 abbrev pub is_settled : Konsole → Bool
 is_settled k = ((k.has_late && k.begun) && not k.declares) && is_none k.waiting
 
@@ -68,6 +68,10 @@ selects_or_paints (Step (Select register)) = true
 selects_or_paints (Step (Sixel bits)) = true
 selects_or_paints (Step (Repeat count bits)) = true
 selects_or_paints _ = false
+
+-- a settled automaton stores the same after the event
+abbrev pub keeps_settled : Konsole → Event → Bool
+keeps_settled k e = selects_or_paints e || (is_return e && not k.stuck)
 
 -- ---- what it makes of an event, if the event after it moves or ends (true) or doesn't
 

@@ -11,7 +11,7 @@ ghost use Rattle.sixel_grammar.specs.declared.command.Event.TheVariants.{Step as
 ghost use Rattle.sixel_terminal.specs.Stretches.{sixels_of};
 ghost use Rattle.sixel_konsole.specs.Konsole as rule;
 ghost use Rattle.sixel_konsole.specs.KonsoleSeen.{HasSeenKonsole, begun_in, counting_in, konsole_in, may_count_in};
-ghost use Rattle.sixel_konsole.specs.KonsoleSeen.{is_settled, said, selects_or_paints};
+ghost use Rattle.sixel_konsole.specs.KonsoleSeen.{is_settled, keeps_settled, said, selects_or_paints};
 
 use sixel_emulator::words::{
     defining, is_data_command, is_finish, is_raster, is_return, named_by, nearest,
@@ -47,7 +47,8 @@ pub struct Konsole {
     counting: Option<Stated>,
     /// The last event, if it is raster attributes that may count, unless what follows drops them.
     waiting: Option<Stated>,
-    /// Whether a select or a data command changes nothing of what it stores.
+    /// Whether a select or a data command changes nothing of what it stores; nor does a return or a new line, unless all
+    /// is dropped.
     settled: bool,
 }
 
@@ -345,7 +346,7 @@ impl Konsole {
         reads
     }
 
-    /// The same, with whether a select or a data command changes nothing of it.
+    /// The same, with whether it is settled.
     #[inline(always)]
     fn noted(self) -> Konsole
         ensures { result ≡ record self { settled = is_settled self } }
@@ -368,9 +369,9 @@ impl Konsole {
     /// Whether the event changes nothing of what it stores.
     #[inline(always)]
     fn stays_after(&self, event: &Event) -> bool
-        ensures { result ≡ (self.now.settled && selects_or_paints event.now) }
+        ensures { result ≡ (self.now.settled && keeps_settled self.now event.now) }
     {
-        self.settled && selects_or_paints(event)
+        self.settled && (selects_or_paints(event) || (is_return(event) && !self.stuck))
     }
 
     /// Notes a repeat.
@@ -467,6 +468,10 @@ impl Reading for Konsole {
 
     fn plain_sixels(&self) -> usize {
         if self.stuck { 0 } else { usize::MAX }
+    }
+
+    fn draws_blanks(&self) -> bool {
+        false
     }
 
     fn note_sixels(&mut self, bytes: &[u8]) {

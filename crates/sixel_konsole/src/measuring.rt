@@ -4,7 +4,8 @@ ghost use Rattle.std.specs.Prelude.{◌≡◌, ◌<◌, ◌++◌, ◌∷◌, [],
 ghost use Rattle.std.specs.Prelude.{slice_index, true};
 ghost use Rattle.std.specs.Option.{option_to_list};
 ghost use Rattle.sixel_grammar.specs.Bytes.{is_data};
-ghost use Rattle.sixel_grammar.specs.declared.command.Command.TheVariants.{Repeat, Select};
+ghost use Rattle.sixel_grammar.specs.declared.command.Command.TheVariants.{CarriageReturn, NextLine, Repeat};
+ghost use Rattle.sixel_grammar.specs.declared.command.Command.TheVariants.{Select};
 ghost use Rattle.sixel_grammar.specs.declared.command.Event.{Event as AnEvent};
 ghost use Rattle.sixel_grammar.specs.declared.command.Event.TheVariants.{Step};
 ghost use Rattle.sixel_terminal.specs.Stretches.{sixels_of};
@@ -136,6 +137,56 @@ impl Measuring {
         self.add(event);
     }
 
+    /// Takes a return that comes next.
+    #[inline(never)]
+    fn push_return(&mut self)
+        ensures taken { (before : List AnEvent) → HasTakenAll self.old before
+            → HasTakenAll self.new (before ++ Step CarriageReturn ∷ []) }
+    {
+        self.push(Event::Step(Command::CarriageReturn));
+    }
+
+    /// Takes a new line that comes next.
+    #[inline(never)]
+    fn push_next_line(&mut self)
+        ensures taken { (before : List AnEvent) → HasTakenAll self.old before
+            → HasTakenAll self.new (before ++ Step NextLine ∷ []) }
+    {
+        self.push(Event::Step(Command::NextLine));
+    }
+
+    /// Takes a select that comes next.
+    #[inline(never)]
+    fn push_select(&mut self, register: u16)
+        ensures taken { (before : List AnEvent) → HasTakenAll self.old before
+            → HasTakenAll self.new (before ++ Step (Select register) ∷ []) }
+    {
+        self.push(Event::Step(Command::Select(register)));
+    }
+
+    /// Takes a command that comes next, of a kind that is rare.
+    #[inline(never)]
+    fn push_rarely(&mut self, command: Command)
+        ensures taken { (before : List AnEvent) → HasTakenAll self.old before
+            → HasTakenAll self.new (before ++ Step command ∷ []) }
+    {
+        self.push(Event::Step(command));
+    }
+
+    /// Takes the command that comes next. It is inlined, since it only tells the kinds apart.
+    #[inline(always)]
+    fn push_command(&mut self, command: Command)
+        ensures taken { (before : List AnEvent) → HasTakenAll self.old before
+            → HasTakenAll self.new (before ++ Step command ∷ []) }
+    {
+        match command {
+            Command::CarriageReturn => self.push_return(),
+            Command::NextLine => self.push_next_line(),
+            Command::Select(register) => self.push_select(register),
+            other => self.push_rarely(other),
+        }
+    }
+
     /// Takes the sixels of these data bytes, in order.
     fn push_stretch(&mut self, bytes: &[u8])
         requires { (k : ℕ) → k < length bytes.now → IsTrue (is_data (slice_index bytes.now k)) }
@@ -171,6 +222,11 @@ impl Listener for Measuring {
     #[inline(always)]
     fn hear(&mut self, _place: u64, event: Event) {
         self.push(event);
+    }
+
+    #[inline(always)]
+    fn hear_command(&mut self, _place: u64, command: Command) {
+        self.push_command(command);
     }
 
     #[inline(always)]

@@ -12,7 +12,7 @@ use Rattle.sixel_report.specs.declared.wanted_lines.Lines.{Lines}
 use Rattle.sixel_report.specs.Texts.{Text, fault_line, finding_line}
 
 abbrev pub is_render : Task → Bool
-is_render (task.Render profile) = true
+is_render (task.Render profile format) = true
 is_render _ = false
 
 -- a line about an input, after the input's name if it has one

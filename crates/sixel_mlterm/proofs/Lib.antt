@@ -1,2 +1,3 @@
 pub mod MlTermLemmas
+pub mod PastLemmas
 pub mod SettingLemmas

@@ -111,7 +111,7 @@ pub buffer_push : (before : List Event) (e : Event)
 buffer_push before e = each_push buffer_with no_buffer before e
 
 -- numbers that stop at the greatest one
-past_capped : (c n l : ℕ) → is_past_all (min c most + n) (rows_to (min l most)) ≡ is_past_all (c + n) (rows_to l)
+pub past_capped : (c n l : ℕ) → is_past_all (min c most + n) (rows_to (min l most)) ≡ is_past_all (c + n) (rows_to l)
 past_capped c n l = grind (arith, nat_tests)
 
 -- what isn't past column or row 32,767 doesn't stop
@@ -208,14 +208,14 @@ data_is {m} {before} {u} command s is =
 
 -- ---- sixels
 
-selected_over : (before : List Event) (bytes : List ℕ)
+pub selected_over : (before : List Event) (bytes : List ℕ)
     → mlterm_selected (before ++ sixels_of bytes) ≡ mlterm_selected before
 selected_over before bytes =
     same_over mlterm_selected
     (λ es bits. ap (λ (o : Option ℕ). option_map_or mlterm_register o 0) (latest_push named_by es (Step (Sixel bits))))
     before bytes
 
-colours_over : (before : List Event) (bytes : List ℕ) (r : ℕ)
+pub colours_over : (before : List Event) (bytes : List ℕ) (r : ℕ)
     → latest (said_by r) (before ++ sixels_of bytes) ≡ latest (said_by r) before
 colours_over before bytes r =
     same_over (latest (said_by r)) (λ es bits. latest_push (said_by r) es (Step (Sixel bits))) before bytes

@@ -310,6 +310,24 @@ impl MlTerm {
         }
     }
 
+    /// Whether the next sixel is past all: the buffer stays as it is then.
+    #[inline(always)]
+    fn is_past_next(&self) -> bool
+        ensures { result ≡ rule.is_past_all (self.now.place.column + 1) (rule.rows_to self.now.place.band) }
+    {
+        is_past_all(u64::from(self.place.column) + 1, self.rows())
+    }
+
+    /// Notes so many sixels, of which the first is past all.
+    #[inline(always)]
+    fn see_past(&mut self, count: usize)
+        requires { rule.is_past_all (self.old.place.column + 1) (rule.rows_to self.old.place.band) ≡ true }
+        ensures { (before : List AnEvent) (bytes : List ℕ) → length bytes ≡ count → HasSeenMlTerm self.old before
+            → HasSeenMlTerm self.new (before ++ sixels_of bytes) }
+    {
+        self.place = self.place.after_sixels(count);
+    }
+
     /// Whether a repeat of so many columns has one or more, and leaves the sides of the buffer as they are.
     #[inline(always)]
     fn is_free(&self, count: u16) -> bool
@@ -372,9 +390,15 @@ impl Reading for MlTerm {
         }
     }
 
+    fn draws_blanks(&self) -> bool {
+        false
+    }
+
     fn note_sixels(&mut self, bytes: &[u8]) {
         if bytes.len() <= self.free_columns() as usize {
             self.see_free(bytes.len() as u32);
+        } else if self.is_past_next() {
+            self.see_past(bytes.len());
         } else {
             self.see_each(bytes);
         }

@@ -44,7 +44,7 @@ use Rattle.sixel_run.specs.LineTasks.{ReadsOver, has_lines}
 use Rattle.sixel_messages.specs.Hints.{causes_in, causes_of, with_cause, with_causes}
 use Rattle.sixel_program.specs.Openings.{FailsWith, FolderView, bytes_of}
 use Rattle.sixel_messages.specs.declared.unopened.Unopened.{Unopened}
-use Rattle.sixel_run.specs.Outputs.{TakesMemory, Wrote}
+use Rattle.sixel_run.specs.Outputs.{RunWrote, TakesMemory, Wrote}
 use Rattle.sixel_report.specs.Outputs.{failures_by}
 use Rattle.sixel_program.specs.Counts.{has_failed}
 use Rattle.sixel_report.specs.declared.wanted_lines.Lines.{Lines}
@@ -300,14 +300,15 @@ memory_kept task.List told has same takes = absurd takes
 memory_kept (task.Check profile named) told has same takes = kept _ told has same takes
 memory_kept (task.Survey profile named) told has same takes = kept _ told has same takes
 memory_kept (task.Scan profile eight) told has same takes = kept _ told has same takes
-memory_kept (task.Render profile) told has same takes = kept _ told has same takes
-memory_kept (task.Encode profile) told has same takes = kept _ told has same takes
-memory_kept (task.Show profile showing fill selects width height) told has same takes = kept _ told has same takes
-memory_kept (task.ShowBox profile showing fill selects) told has same takes = kept _ told has same takes
-memory_kept (task.ShowOn named background area) told has same takes = kept _ told has same takes
+memory_kept (task.Render profile format) told has same takes = kept _ told has same takes
+memory_kept (task.Encode profile fitting) told has same takes = kept _ told has same takes
+memory_kept (task.Show profile showing fill selects width height format) told has same takes =
+    kept _ told has same takes
+memory_kept (task.ShowBox profile showing fill selects format) told has same takes = kept _ told has same takes
+memory_kept (task.ShowOn named background area format) told has same takes = kept _ told has same takes
 memory_kept (task.Differ background) told has same takes = kept _ told has same takes
 memory_kept (task.DifferSheet background) told has same takes = kept _ told has same takes
-memory_kept (task.Mend profile background showing selects) told has same takes = kept _ told has same takes
+memory_kept (task.Mend profile background showing selects fitting) told has same takes = kept _ told has same takes
 
 -- what was read of a source was read of the bytes that the source was made from
 consumed_kept : (bytes : List ℕ) (told has left : Option (List ℕ)) → Keeps told has → Consumes has left bytes
@@ -330,6 +331,12 @@ pub wrote_kept : (t : Task) (told has left : Option (List ℕ)) (answer : Result
     → IfSome told (λ bytes. Wrote t bytes left answer was is)
 wrote_kept t told has left answer was is same =
     kept (λ (bytes : List ℕ). Wrote t bytes left answer was is) told has same
+
+pub run_kept : (t : Task) (told has left : Option (List ℕ)) (answer : Result Status RunFault)
+    (was is : Option (List ℕ)) → Keeps told has → IfSome has (λ bytes. RunWrote t bytes left answer was is)
+    → IfSome told (λ bytes. RunWrote t bytes left answer was is)
+run_kept t told has left answer was is same =
+    kept (λ (bytes : List ℕ). RunWrote t bytes left answer was is) told has same
 
 -- a file was opened without a failure; if calls on an input over it failed, calls on it did
 pub fails_with : {O : Type 0} (folder : FolderView O) (name : Text) (answer : Result Status RunFault) (opened ended : O)

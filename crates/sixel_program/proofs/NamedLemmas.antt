@@ -11,8 +11,8 @@ use Rattle.sixel_report.specs.declared.fault.RunFault.TheVariants as run
 use Rattle.sixel_report.specs.declared.item.Item.{Item}
 use Rattle.sixel_report.specs.declared.task.Status.{Status}
 use Rattle.sixel_report.specs.declared.task.Task.{Task}
-use Rattle.sixel_run.specs.LineTasks.{EndsAs, PutsText, WritesItems}
-use Rattle.sixel_report.specs.Outputs.{CountsWrites, failures_by}
+use Rattle.sixel_run.specs.LineTasks.{EndsAs, WritesItems}
+use Rattle.sixel_report.specs.Outputs.{CountsWrites, PutsText, failures_by}
 use Rattle.sixel_report.specs.Texts.{Text}
 use Rattle.sixel_run.proofs.LineTaskLemmas.{same_found}
 use Rattle.sixel_report.specs.Lines.{is_quiet}

@@ -21,7 +21,8 @@ use Rattle.sixel_program.specs.Files.{FileEnd, FileEnds, FilesEnd, RequestEnds, 
 use Rattle.sixel_program.specs.Files.{told_of, worse}
 use Rattle.sixel_messages.specs.Reports.{name_of}
 use Rattle.sixel_program.specs.Openings.{FolderView, bytes_of}
-use Rattle.sixel_run.specs.Outputs.{Wrote}
+use Rattle.sixel_report.proofs.FormatLemmas.{as_text}
+use Rattle.sixel_run.specs.Outputs.{Gives, RunWrote, Wrote, WroteBefore, WroteUnread, format_of}
 use Rattle.sixel_report.specs.Texts.{Text}
 use Rattle.sixel_program.proofs.DashLemmas.{labels_read}
 
@@ -34,10 +35,23 @@ IsRunOver t x told = (answer : Result Status RunFault) × (x ≡ exit_for_answer
     × (x ≢ exit.Refused → (left : Option (List ℕ)) × (had : Option (List ℕ)) × (has : Option (List ℕ))
     × IfSome told (λ bytes. Wrote t bytes left answer had has))
 
+-- what the task writes as a PPM
+text_wrote : (t : Task) (told left : Option (List ℕ)) (answer : Result Status RunFault) (had has : Option (List ℕ))
+    → IfSome told (λ bytes. RunWrote t bytes left answer had has)
+    → (b : Option (List ℕ)) × (e : Option (List ℕ)) × IfSome told (λ bytes. Wrote t bytes left answer b e)
+text_wrote t None left answer had has wrote = (had, has, tt)
+text_wrote t (Some bytes) left answer had has wrote =
+    as_text (Gives t bytes) (WroteUnread t bytes left) (WroteBefore t bytes) (format_of t) answer had has wrote
+
 run_ends : (t : Task) (q : Lines) (name : Option Text) (x : Exit) (i : Change SourceState) (o e : Change SinkState)
     → RunEnds t q name x i o e → IsRunOver t x i.old.remaining
-run_ends t q name x i o e ended =
-    (ended.answer, ended.ends, λ judged. (i.new.remaining, o.old.taken, o.new.taken, ended.wrote))
+run_ends t q name x i o e ended = (
+  ended.answer,
+  ended.ends,
+  λ judged.
+      (let w = text_wrote t i.old.remaining i.new.remaining ended.answer o.old.taken o.new.taken ended.wrote in
+      (i.new.remaining, w.0, w.1, w.2)),
+)
 
 file_run : {O : Type 0} (folder : FolderView O) (t : Task) (q : Lines) (name : Text) (x : Exit)
     (i : Change SourceState) (o e : Change SinkState) → FileEnds t q folder name x i o e
@@ -70,34 +84,35 @@ module _ {O : Type 0} (folder : FolderView O) (x : Exit) (i : Change SourceState
       inr (Plain false, sym (labels_read (task.Differ background) names refl), ended)
   request_read task.List q h [] ended = inl (codes "-", refl, run_ends task.List q None x i o e ended)
   request_read task.List q h (name ∷ more) ended = inl (name, refl, file_run folder task.List q name x i o e ended)
-  request_read (task.Render profile) q h [] ended =
-      inl (codes "-", refl, run_ends (task.Render profile) q None x i o e ended)
-  request_read (task.Render profile) q h (name ∷ more) ended =
-      inl (name, refl, file_run folder (task.Render profile) q name x i o e ended)
-  request_read (task.Encode profile) q h [] ended =
-      inl (codes "-", refl, run_ends (task.Encode profile) q None x i o e ended)
-  request_read (task.Encode profile) q h (name ∷ more) ended =
-      inl (name, refl, file_run folder (task.Encode profile) q name x i o e ended)
-  request_read (task.Show profile showing fill selects width height) q h [] ended =
-      inl (codes "-", refl, run_ends (task.Show profile showing fill selects width height) q None x i o e ended)
-  request_read (task.Show profile showing fill selects width height) q h (name ∷ more) ended =
-      inl (name, refl, file_run folder (task.Show profile showing fill selects width height) q name x i o e ended)
-  request_read (task.ShowBox profile showing fill selects) q h [] ended =
-      inl (codes "-", refl, run_ends (task.ShowBox profile showing fill selects) q None x i o e ended)
-  request_read (task.ShowBox profile showing fill selects) q h (name ∷ more) ended =
-      inl (name, refl, file_run folder (task.ShowBox profile showing fill selects) q name x i o e ended)
-  request_read (task.ShowOn named background area) q h [] ended =
-      inl (codes "-", refl, run_ends (task.ShowOn named background area) q None x i o e ended)
-  request_read (task.ShowOn named background area) q h (name ∷ more) ended =
-      inl (name, refl, file_run folder (task.ShowOn named background area) q name x i o e ended)
+  request_read (task.Render profile format) q h [] ended =
+      inl (codes "-", refl, run_ends (task.Render profile format) q None x i o e ended)
+  request_read (task.Render profile format) q h (name ∷ more) ended =
+      inl (name, refl, file_run folder (task.Render profile format) q name x i o e ended)
+  request_read (task.Encode profile fitting) q h [] ended =
+      inl (codes "-", refl, run_ends (task.Encode profile fitting) q None x i o e ended)
+  request_read (task.Encode profile fitting) q h (name ∷ more) ended =
+      inl (name, refl, file_run folder (task.Encode profile fitting) q name x i o e ended)
+  request_read (task.Show profile showing fill selects width height format) q h [] ended =
+      inl (codes "-", refl, run_ends (task.Show profile showing fill selects width height format) q None x i o e ended)
+  request_read (task.Show profile showing fill selects width height format) q h (name ∷ more) ended =
+      inl
+      (name, refl, file_run folder (task.Show profile showing fill selects width height format) q name x i o e ended)
+  request_read (task.ShowBox profile showing fill selects format) q h [] ended =
+      inl (codes "-", refl, run_ends (task.ShowBox profile showing fill selects format) q None x i o e ended)
+  request_read (task.ShowBox profile showing fill selects format) q h (name ∷ more) ended =
+      inl (name, refl, file_run folder (task.ShowBox profile showing fill selects format) q name x i o e ended)
+  request_read (task.ShowOn named background area format) q h [] ended =
+      inl (codes "-", refl, run_ends (task.ShowOn named background area format) q None x i o e ended)
+  request_read (task.ShowOn named background area format) q h (name ∷ more) ended =
+      inl (name, refl, file_run folder (task.ShowOn named background area format) q name x i o e ended)
   request_read (task.DifferSheet background) q h [] ended =
       inl (codes "-", refl, run_ends (task.DifferSheet background) q None x i o e ended)
   request_read (task.DifferSheet background) q h (name ∷ more) ended =
       inl (name, refl, file_run folder (task.DifferSheet background) q name x i o e ended)
-  request_read (task.Mend profile background showing selects) q h [] ended =
-      inl (codes "-", refl, run_ends (task.Mend profile background showing selects) q None x i o e ended)
-  request_read (task.Mend profile background showing selects) q h (name ∷ more) ended =
-      inl (name, refl, file_run folder (task.Mend profile background showing selects) q name x i o e ended)
+  request_read (task.Mend profile background showing selects fitting) q h [] ended =
+      inl (codes "-", refl, run_ends (task.Mend profile background showing selects fitting) q None x i o e ended)
+  request_read (task.Mend profile background showing selects fitting) q h (name ∷ more) ended =
+      inl (name, refl, file_run folder (task.Mend profile background showing selects fitting) q name x i o e ended)
 
 answer_no_usage : (a : Result Status RunFault) → exit_for_answer a ≢ exit.Usage
 answer_no_usage (Ok status.Done) = λ (is : exit.Done ≡ exit.Usage). cc

@@ -10,7 +10,7 @@ use Rattle.sixel_messages.specs.declared.formats.Format.{Format}
 use Rattle.sixel_messages.specs.Formats.{IsFormat, advice_for}
 use Rattle.sixel_report.specs.declared.wanted_lines.Lines.{Lines}
 use Rattle.sixel_report.specs.Outputs.{CountsReads, CountsWrites}
-use Rattle.sixel_run.specs.Outputs.{TakesMemory, Wrote}
+use Rattle.sixel_run.specs.Outputs.{RunWrote, TakesMemory}
 use Rattle.sixel_report.specs.Texts.{Text}
 use Rattle.sixel_report.specs.Exits.{IsPut, exit_for_answer}
 use Rattle.sixel_messages.specs.Messages.{complaint}
@@ -24,7 +24,7 @@ pub record RunEnds (t : Task) (lines : Lines) (name : Option Text) (exit : Exit)
   pub format : Option Format
   pub is_format : IsFormat input.old.remaining format
   pub wrote : IfSome input.old.remaining
-      (λ bytes. Wrote t bytes input.new.remaining answer output.old.taken output.new.taken)
+      (λ bytes. RunWrote t bytes input.new.remaining answer output.old.taken output.new.taken)
   pub memory : answer ≡ Err run.OutOfMemory → TakesMemory t input.old.remaining
   pub read : CountsReads answer input.old.failures input.new.failures
   pub written : CountsWrites answer output.old.failures output.new.failures

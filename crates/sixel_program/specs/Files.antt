@@ -14,6 +14,8 @@ use Rattle.sixel_scan.specs.Scans.{longest_stream}
 use Rattle.sixel_report.specs.declared.fault.RunFault.{RunFault}
 use Rattle.sixel_report.specs.declared.fault.RunFault.TheVariants as run
 use Rattle.sixel_report.specs.declared.task.Status.{Status}
+use Rattle.sixel_report.specs.declared.task.PictureFormat.{PictureFormat}
+use Rattle.sixel_report.specs.declared.task.PictureFormat.TheVariants.{Ppm, Png}
 use Rattle.sixel_report.specs.declared.task.Task.{Task}
 use Rattle.sixel_report.specs.declared.task.Task.TheVariants.{Check, Encode, Render, Scan, Show, ShowBox, ShowOn}
 use Rattle.sixel_report.specs.declared.task.Task.TheVariants.{Differ, DifferSheet, Survey}
@@ -23,7 +25,7 @@ use Rattle.sixel_messages.specs.Formats.{IsFormat}
 use Rattle.sixel_report.specs.Exits.{IsPut, exit_code, exit_for_answer}
 use Rattle.sixel_program.specs.Exits.{RunEnds}
 use Rattle.sixel_run.specs.LineTasks.{ReadsOver, scans}
-use Rattle.sixel_run.specs.Outputs.{Gives, TakesMemory, Wrote}
+use Rattle.sixel_run.specs.Outputs.{Gives, TakesMemory, Wrote, format_of}
 use Rattle.sixel_report.specs.Outputs.{failures_by}
 use Rattle.sixel_messages.specs.Hints.{causes_of, hinted, hints_of}
 use Rattle.sixel_messages.specs.Names.{unopened_line}
@@ -96,7 +98,7 @@ IsJudgedOver t told = IfSome told (λ bytes. (text : Text) × (status : Status) 
 
 -- what the task says if it waits for a terminal
 abbrev pub waiting_line : Task → Text
-waiting_line (Encode profile) = codes "sixel: waiting for a PPM on standard input" ++ 10 ∷ []
+waiting_line (Encode profile fitting) = codes "sixel: waiting for a PPM on standard input" ++ 10 ∷ []
 waiting_line t = codes "sixel: waiting for sixel text on standard input" ++ 10 ∷ []
 
 -- the notice before a task: one that reads standard input says that it waits, if that is a terminal and it isn't quiet
@@ -104,21 +106,28 @@ abbrev pub notice : Terminals → Task → Lines → List Text → Text
 notice terminals t lines names =
     if terminals.input && not (is_quiet lines) && reads_input t names then waiting_line t else []
 
--- whether the task writes a PPM
-abbrev pub writes_ppm : Task → Bool
-writes_ppm (Render profile) = true
-writes_ppm (Show profile showing fill selects width height) = true
-writes_ppm (ShowBox profile showing fill selects) = true
-writes_ppm (ShowOn named background area) = true
-writes_ppm (DifferSheet background) = true
-writes_ppm t = false
+-- whether the task writes a picture as a PPM or a PNG
+abbrev pub writes_file : Task → Bool
+writes_file (Render profile format) = true
+writes_file (Show profile showing fill selects width height format) = true
+writes_file (ShowBox profile showing fill selects format) = true
+writes_file (ShowOn named background area format) = true
+writes_file (DifferSheet background) = true
+writes_file t = false
 
--- whether the task would write a PPM to a terminal
+-- whether the task would write a PPM or a PNG to a terminal
 abbrev pub is_misdirected : Terminals → Task → Bool
-is_misdirected terminals t = terminals.output && writes_ppm t
+is_misdirected terminals t = terminals.output && writes_file t
 
-abbrev pub redirection : Text
-redirection = codes "sixel: a terminal can't show a PPM; redirect the output, as in `> picture.ppm`" ++ 10 ∷ []
+-- what is said of it
+abbrev pub redirection_as : PictureFormat → Text
+redirection_as Ppm =
+    codes "sixel: a terminal can't show a PPM; redirect the output, as in `> picture.ppm`" ++ 10 ∷ []
+redirection_as Png =
+    codes "sixel: a terminal can't show a PNG; redirect the output, as in `> picture.png`" ++ 10 ∷ []
+
+abbrev pub redirection : Task → Text
+redirection t = redirection_as (format_of t)
 
 -- ---- usage errors
 
@@ -127,13 +136,13 @@ abbrev pub named_twice : Text
 named_twice =
     codes "sixel: standard input is named twice" ++ 10 ∷ 10 ∷ codes "For more information, try '--help'." ++ 10 ∷ []
 
--- whether the request is a usage error: it would write a PPM to a terminal, or it names standard input twice
+-- whether the request is a usage error: it would write a PPM or a PNG to a terminal, or it names standard input twice
 abbrev pub is_misasked : Terminals → Task → List Text → Bool
 is_misasked terminals t names = is_misdirected terminals t || names_input_twice t names
 
 -- what is said of it
 abbrev pub mistake : Terminals → Task → Text
-mistake terminals t = if is_misdirected terminals t then redirection else named_twice
+mistake terminals t = if is_misdirected terminals t then redirection t else named_twice
 
 -- ---- one file
 

@@ -23,7 +23,7 @@ use std::alloc::Global;
 
 /// Carries out a request over `input` and the files of `folder`. Results go to `output`, messages to `errors`. A task
 /// that is to read a terminal says first that it waits. If `errors` is a terminal, a check or a survey ends with a hint
-/// on the first broken rule, unless it is quiet. `Usage`: a PPM would be written to a terminal, or a task with lines names
+/// on the first broken rule, unless it is quiet. `Usage`: a picture would be written to a terminal, or a task with lines names
 /// standard input twice. Nothing is read then.
 pub fn execute<F: Folder, S: Source, K: Sink, E: Sink>(
     alloc: Global,
@@ -66,7 +66,7 @@ pub fn execute<F: Folder, S: Source, K: Sink, E: Sink>(
         (names_read request.now.task (map string_bytes request.now.files.items)) }
 {
     if is_misdirected(terminals, request.task) {
-        put_redirection(errors);
+        put_redirection(request.task, errors);
         return Exit::Usage;
     }
     if names_input_twice(request) {

@@ -4,24 +4,25 @@ ghost use Rattle.std.specs.Prelude.{◌≡◌, map};
 ghost use Rattle.std.specs.String.{string_bytes};
 ghost use Rattle.sixel_io.specs.Devices.{change};
 ghost use Rattle.sixel_report.specs.Exits.{IsPut};
-ghost use Rattle.sixel_program.specs.Files.{is_misdirected, notice, redirection, waiting_line};
+ghost use Rattle.sixel_run.specs.Outputs.{format_of};
+ghost use Rattle.sixel_program.specs.Files.{is_misdirected, notice, redirection, redirection_as, waiting_line};
 
 use crate::dashes::reads_input;
 use sixel_io::{Sink, put_all};
-use sixel_report::{Request, Task, is_quiet};
+use sixel_report::{PictureFormat, Request, Task, is_quiet};
 
 /// Which of the standard streams are terminals.
 #[derive(Clone, Copy, Debug, PartialEq, Eq)]
 pub struct Terminals {
     /// Whether standard input is one: what is read is typed, and the task waits for it.
     pub input: bool,
-    /// Whether standard output is one: it shows sixel text, but not a PPM.
+    /// Whether standard output is one: it shows sixel text, but neither a PPM nor a PNG.
     pub output: bool,
     /// Whether standard error is one: it shows messages while a task runs.
     pub errors: bool,
 }
 
-/// Whether the task would write a PPM to a terminal.
+/// Whether the task would write a PPM or a PNG to a terminal.
 pub fn is_misdirected(terminals: Terminals, task: Task) -> bool
     ensures { result ≡ is_misdirected terminals task }
 {
@@ -36,14 +37,38 @@ pub fn is_misdirected(terminals: Terminals, task: Task) -> bool
         )
 }
 
-/// Says how to write a PPM to a file.
-pub fn put_redirection<E: Sink>(errors: &mut E)
-    ensures { IsPut redirection (change (E.state errors.old) (E.state errors.new)) }
+/// Says how to write the picture of a task to a file.
+pub fn put_redirection<E: Sink>(task: Task, errors: &mut E)
+    ensures { IsPut (redirection task) (change (E.state errors.old) (E.state errors.new)) }
 {
-    let _ = put_all(
-        errors,
-        b"sixel: a terminal can't show a PPM; redirect the output, as in `> picture.ppm`\n",
-    );
+    let _ = put_all(errors, redirection(format_of(task)));
+}
+
+/// The format of the picture that a task writes; `Ppm` for a task without one.
+fn format_of(task: Task) -> PictureFormat
+    ensures { result ≡ format_of task }
+{
+    match task {
+        Task::Render { format, .. }
+        | Task::Show { format, .. }
+        | Task::ShowBox { format, .. }
+        | Task::ShowOn { format, .. } => format,
+        _ => PictureFormat::Ppm,
+    }
+}
+
+/// What is said of a picture in this format.
+fn redirection(format: PictureFormat) -> &'static [u8]
+    ensures { result.now ≡ redirection_as format }
+{
+    match format {
+        PictureFormat::Ppm => {
+            b"sixel: a terminal can't show a PPM; redirect the output, as in `> picture.ppm`\n"
+        }
+        PictureFormat::Png => {
+            b"sixel: a terminal can't show a PNG; redirect the output, as in `> picture.png`\n"
+        }
+    }
 }
 
 /// What the task says if it waits for a terminal.

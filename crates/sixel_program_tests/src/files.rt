@@ -4,17 +4,38 @@ ghost use Rattle.std.specs.Prelude.{None};
 
 mod told;
 
-use sixel_emulator_rules::Terminals as NamedTerminals;
+use sixel_emulator_rules::{AskedRules, Terminals as NamedTerminals};
 use sixel_io::{SliceSink, SliceSource};
 use sixel_model::Profile;
 use sixel_program::{Folder, Peeked, Terminals, Unopened, execute};
 use sixel_report::{Exit, Lines, Request, Task};
 use std::test::Fail;
 
+/// No rule is ignored.
+const NO_RULES: AskedRules = AskedRules {
+    raster_late: false,
+    dropped: false,
+    stale: false,
+    large: false,
+    rows: false,
+    past: false,
+    hue: false,
+    far: false,
+    introducer: false,
+    bare: false,
+    space_after: false,
+};
+
 /// A check for no named terminal.
 const CHECK: Task = Task::Check {
     profile: Profile::Registers16,
-    terminals: NamedTerminals::none(),
+    terminals: NamedTerminals {
+        xterm: false,
+        mlterm: false,
+        foot: false,
+        konsole: false,
+        ignored: NO_RULES,
+    },
 };
 
 /// No standard stream is a terminal.

@@ -27,9 +27,10 @@ use Rattle.sixel_report.specs.declared.fault.RunFault.TheVariants.{NotRgb}
 use Rattle.sixel_report.specs.declared.task.Status.{Status}
 use Rattle.sixel_report.specs.declared.task.Status.TheVariants.{Done}
 use Rattle.sixel_report.specs.Texts.{Text}
-use Rattle.sixel_run.specs.Outputs.{picture_output}
+use Rattle.sixel_report.proofs.FormatLemmas.{as_same}
+use Rattle.sixel_run.specs.Outputs.{RenderGives, picture_output}
 use Rattle.sixel_show.specs.Notes.{has_high_register, names_high_register, shown_status}
-use Rattle.sixel_show.specs.Outputs.{ShowGives}
+use Rattle.sixel_show.specs.Outputs.{ShowBoxGives, ShowGives}
 use Rattle.sixel_show.specs.Screens.{grey, percent_at, screen_terminal, screen_text, show_terminal}
 use Rattle.sixel_show.proofs.BoxLemmas.{boxed, unboxed}
 use Rattle.sixel_show.proofs.ScreenLemmas.{show-once}
@@ -128,7 +129,7 @@ show_class profile u bytes d p false e document at are status =
     rw o (refl, (d, document, sym (ap are_rgb are) ∙ e))
 
 pub show_box_gives_what_render_gives : ShowBoxGivesWhatRenderGives
-show_box_gives_what_render_gives profile t bytes text showing fill selects given = λ line answer.
+show_box_gives_what_render_gives profile t bytes text showing fill selects format given =
     let n : ℕ = count_of profile in
     let d : IsDone n t bytes text = done n t bytes text given in
     let p : PictureValue = d.picture in
@@ -145,6 +146,7 @@ show_box_gives_what_render_gives profile t bytes text showing fill selects given
     let o = picture_output p in
     let shown = show_class profile (terminal sides) bytes d.events p (are_rgb (colours_of p)) refl d.document at are
     (unnoted profile (events_of d.events) d.unbroken) in
+    as_same (ShowBoxGives profile terminal bytes) (RenderGives n bytes) format (λ line answer.
     let render = render_is n bytes d.events p d.document (d.unbroken, d.left) line answer in (
       λ g.
           (let plain = unboxed profile terminal bytes d.events sides d.document declared line answer g in
@@ -154,4 +156,4 @@ show_box_gives_what_render_gives profile t bytes text showing fill selects given
           boxed profile terminal bytes d.events sides d.document declared line answer
           (subst (λ (q : Text × Result Status RunFault). ShowGives profile (terminal sides) bytes q.0 q.1)
           (sym (render.0 g)) shown),
-    )
+    ))

@@ -1,8 +1,9 @@
 -- The colours of a picture's pixels, row by row, and what `render` gives of it.
 use Rattle.std.proofs.Common.{◌≡◌, ◌∙◌, ◌≤◌, ◌<◌, ◌+◌, ◌*◌, ◌/◌, ◌%◌, ℕ, zero, suc, Bool, true, false, List, [], ◌∷◌}
-use Rattle.std.proofs.Common.{Option, Some, Result, Ok, Err, ap, ap₂, arith, filter_map, length, map, refl, subst, sym}
+use Rattle.std.proofs.Common.{◌^◌, Option, Some, Result, Ok, Err, ap, ap₂, arith, filter_map, inl, inr, length, map, refl}
+use Rattle.std.proofs.Common.{subst, sym}
 use Rattle.std.specs.Prelude.{◌↔◌, slice_get, unwrap_or}
-use Rattle.std.specs.List.{cons_option, range_with_len}
+use Rattle.std.specs.List.{cons_option, flat_map, range_with_len}
 use Rattle.std.proofs.lemmas.Nat.{mod_below, row-Below}
 use Rattle.sixel_grammar.specs.declared.command.Event.{Event}
 use Rattle.sixel_grammar.specs.declared.command.Placed.{Placed}
@@ -13,16 +14,21 @@ use Rattle.sixel_model.specs.Grids.{row_by_row}
 use Rattle.sixel_model.specs.Pictures.{PictureValue, register_of}
 use Rattle.sixel_model.specs.Rules.{palette_left, picture_left, register_at}
 use Rattle.sixel_model.proofs.GridLemmas.{at_rows, get_rows, length_rows}
-use Rattle.sixel_ppm.specs.Ppm.{are_rgb, colours_of, ppm_text}
+use Rattle.sixel_ppm.specs.Ppm.{are_rgb, colours_of, ppm_text, samples_of}
+use Rattle.sixel_png.specs.Png.{IsPng}
+use Rattle.sixel_png.specs.Writing.{levels_of}
 use Rattle.sixel_judge.specs.declared.verdict.Verdict.TheVariants.{Portable}
 use Rattle.sixel_judge.specs.Verdicts.{IsVerdict}
 use Rattle.sixel_report.specs.declared.fault.RunFault.{RunFault}
 use Rattle.sixel_report.specs.declared.fault.RunFault.TheVariants.{NotRgb}
 use Rattle.sixel_report.specs.declared.task.Status.{Status}
 use Rattle.sixel_report.specs.declared.task.Status.TheVariants.{Done}
+use Rattle.sixel_report.specs.Outputs.{IsPngFor, IsPngOf}
 use Rattle.sixel_report.specs.Texts.{Text}
 use Rattle.sixel_run.specs.Outputs.{RenderGives, picture_output}
 use Rattle.sixel_run.proofs.PictureLemmas.{render-once}
+use Rattle.sixel_run_laws.proofs.FormatLemmas.{png_of_none, same_picture, some_header}
+use Rattle.sixel_promise_laws.specs.Twice.{IsPngOutput}
 
 -- ---- the colours
 
@@ -113,3 +119,61 @@ render_is n bytes d p document is text answer =
           output_is text answer (picture_output p) same.0 same.1),
       λ e. subst (λ (o : Output). RenderGives n bytes o.0 o.1) (sym e) given,
     )
+
+png_of_picture : (p : PictureValue) (text ppm : Text) → p.width < 2 ^ 31 → p.height < 2 ^ 31
+    → ppm ≡ ppm_text p.width p.height (colours_of p) → IsPngFor ppm text
+    → IsPng text p.width p.height (levels_of (colours_of p))
+unfolding ppm_text
+png_of_picture p text ppm wide high is (inl none) =
+    absurd (some_header p.width p.height (flat_map samples_of (colours_of p)) (sym is ∙ none.0))
+png_of_picture p text ppm wide high is (inr png) =
+    same_picture ppm text p.width p.height (flat_map samples_of (colours_of p)) wide high is png
+
+png_from : (p : PictureValue) (text : Text) → IsPng text p.width p.height (levels_of (colours_of p))
+    → IsPngOf (ppm_text p.width p.height (colours_of p)) text
+unfolding ppm_text
+png_from p text is = record {
+  width = p.width;
+  height = p.height;
+  samples = flat_map samples_of (colours_of p);
+  ppm_is = refl;
+  png_is = is;
+}
+
+-- the same with `--png`
+png_given : (p : PictureValue) (text : Text) (answer : Result Status RunFault) (rgb : Bool)
+    → are_rgb (colours_of p) ≡ rgb → p.width < 2 ^ 31 → p.height < 2 ^ 31
+    → (ppm : Text) × ((ppm, answer) ≡ picture_output p) × IsPngFor ppm text → IsPngOutput p text answer
+png_given p text answer true e wide high g =
+    let o : picture_output p ≡ (ppm_text p.width p.height (colours_of p), Ok Done) = rw e refl in
+    let ppm : g.0 ≡ ppm_text p.width p.height (colours_of p) = ap (λ (q : Output). q.0) (g.1 ∙ o) in
+    let done : answer ≡ Ok Done = ap (λ (q : Output). q.1) (g.1 ∙ o) in
+    rw done (e, png_of_picture p text g.0 wide high ppm g.2, refl)
+png_given p text answer false e wide high g =
+    let o : picture_output p ≡ ([], Err NotRgb) = rw e refl in
+    let none : g.0 ≡ [] = ap (λ (q : Output). q.0) (g.1 ∙ o) in
+    let refused : answer ≡ Err NotRgb = ap (λ (q : Output). q.1) (g.1 ∙ o) in
+    rw refused (e, png_of_none g.0 text none g.2)
+
+gives_png : (p : PictureValue) (text : Text) (answer : Result Status RunFault) → IsPngOutput p text answer
+    → (ppm : Text) × ((ppm, answer) ≡ picture_output p) × IsPngFor ppm text
+gives_png p text (Ok status) g = (
+  ppm_text p.width p.height (colours_of p),
+  rw (g.0, g.2) refl,
+  inr (png_from p text g.1),
+)
+gives_png p text (Err NotRgb) g = ([], rw g.0 refl, inl (refl, g.1))
+gives_png p text (Err other) g = absurd g
+
+pub render_png : (n : ℕ) (bytes : List ℕ) (d : List Placed) (p : PictureValue) → Document d bytes
+    → IsVerdict n d (Portable p) → p.width < 2 ^ 31 → p.height < 2 ^ 31 → (text : Text)
+    (answer : Result Status RunFault)
+    → ((ppm : Text) × RenderGives n bytes ppm answer × IsPngFor ppm text) ↔ IsPngOutput p text answer
+render_png n bytes d p document is wide high text answer = (
+  λ g.
+      png_given p text answer (are_rgb (colours_of p)) refl wide high
+      (g.0, (render_is n bytes d p document is g.0 answer).0 g.1, g.2),
+  λ g.
+      (let given = gives_png p text answer g in
+      (given.0, (render_is n bytes d p document is given.0 answer).1 given.1, given.2)),
+)

@@ -1,11 +1,13 @@
 -- A `portable` line is true.
-use Rattle.std.proofs.Common.{◌≡◌, ◌+◌, ℕ, List, arith}
+use Rattle.std.proofs.Common.{◌≡◌, ◌+◌, ◌<◌, ◌^◌, ℕ, List, arith, subst, sym, true}
+use Rattle.std.proofs.lemmas.Bool.{and_parts}
+use Rattle.std.proofs.lemmas.Bool.Decides.{nat_tests}
 use Rattle.sixel_grammar.specs.Document.{events_of}
 use Rattle.sixel_grammar.specs.declared.command.Event.{Event}
 use Rattle.sixel_model.specs.declared.colour.Parts.{Parts}
 use Rattle.sixel_model.specs.declared.profile.Profile.{Profile}
 use Rattle.sixel_model.specs.Grids.{row_by_row}
-use Rattle.sixel_model.specs.Pictures.{PictureValue}
+use Rattle.sixel_model.specs.Pictures.{PictureValue, is_side}
 use Rattle.sixel_model.specs.Profiles.{count_of}
 use Rattle.sixel_model.proofs.PictureLemmas.{at_most_256}
 use Rattle.sixel_ppm.specs.Ppm.{colours_of}
@@ -19,9 +21,10 @@ use Rattle.sixel_emulator_check_laws.specs.Shown.{IsShownOnEach}
 use Rattle.sixel_emulator_check_laws.proofs.ShownLemmas.{verdicts_are_shown}
 use Rattle.sixel_report.specs.Texts.{Text}
 use Rattle.sixel_promise_laws.specs.Portable.{IsRendered, IsShownFromEach, PortableLineIsTrue}
-use Rattle.sixel_promise_laws.proofs.DoneLemmas.{IsDone, done, done_portable}
+use Rattle.sixel_promise_laws.specs.Twice.{PngIsThePicture}
+use Rattle.sixel_promise_laws.proofs.DoneLemmas.{HasBox, IsDone, done, done_box, done_portable}
 use Rattle.sixel_promise_laws.proofs.MovedLemmas.{shows_from}
-use Rattle.sixel_promise_laws.proofs.PixelLemmas.{colours_are, colours_at, colours_count, render_is}
+use Rattle.sixel_promise_laws.proofs.PixelLemmas.{colours_are, colours_at, colours_count, render_is, render_png}
 
 -- `render` gives the picture, and some terminal of the class with room shows its colours
 is_rendered : (profile : Profile) (t : Terminals) (bytes : List ℕ) (text : Text)
@@ -74,4 +77,24 @@ portable_line_is_true profile t bytes text given =
         rendered = is_rendered profile t bytes text d;
         named = from_each profile t bytes text d;
       },
+    )
+
+-- ---- the PNG
+
+short_side : (n : ℕ) → is_side n ≡ true → n < 2 ^ 31
+short_side n side = grind (arith, nat_tests)
+
+pub png_is_the_picture : PngIsThePicture
+png_is_the_picture profile t bytes text given =
+    let n : ℕ = count_of profile in
+    let d : IsDone n t bytes text = done n t bytes text given in
+    let p : PictureValue = d.picture in
+    let b : HasBox (events_of d.events) p = done_box d in
+    let each = and_parts (is_side b.box.width) (is_side b.box.height) b.sides in (
+      p,
+      d.line,
+      render_is n bytes d.events p d.document (d.unbroken, d.left),
+      render_png n bytes d.events p d.document (d.unbroken, d.left)
+          (subst (λ (k : ℕ). k < 2 ^ 31) (sym b.width) (short_side b.box.width each.0))
+          (subst (λ (k : ℕ). k < 2 ^ 31) (sym b.height) (short_side b.box.height each.1)),
     )

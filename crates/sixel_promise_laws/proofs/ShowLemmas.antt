@@ -30,7 +30,8 @@ use Rattle.sixel_report.specs.declared.task.Area.TheVariants.{Box}
 use Rattle.sixel_report.specs.declared.task.Status.{Status}
 use Rattle.sixel_report.specs.declared.task.Status.TheVariants.{Done}
 use Rattle.sixel_report.specs.Texts.{Text}
-use Rattle.sixel_run.specs.Outputs.{picture_output}
+use Rattle.sixel_report.proofs.FormatLemmas.{as_same}
+use Rattle.sixel_run.specs.Outputs.{RenderGives, picture_output}
 use Rattle.sixel_show.specs.Outputs.{ShowOnGives}
 use Rattle.sixel_show.specs.Screens.{declared_screen}
 use Rattle.sixel_show.proofs.ShowOnLemmas.{on-once}
@@ -142,10 +143,11 @@ show_is profile t bytes text named background d shown line answer =
     )
 
 pub show_gives_what_render_gives : ShowGivesWhatRenderGives
-show_gives_what_render_gives profile t bytes text named background given is = λ line answer.
+show_gives_what_render_gives profile t bytes text named background format given is =
     let d : IsDone (count_of profile) t bytes text = done (count_of profile) t bytes text given in
     let p : PictureValue = d.picture in
     let shown = each_shows profile t bytes text d named background p.width p.height is (omega arith) (omega arith) in
+    as_same (ShowOnGives named background Box bytes) (RenderGives (count_of profile) bytes) format (λ line answer.
     let show = show_is profile t bytes text named background d shown line answer in
     let render = render_is (count_of profile) bytes d.events p d.document (d.unbroken, d.left) line answer in
-    (λ g. render.1 (show.0 g), λ g. show.1 (render.0 g))
+    (λ g. render.1 (show.0 g), λ g. show.1 (render.0 g)))

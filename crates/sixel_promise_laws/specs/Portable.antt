@@ -19,6 +19,7 @@ use Rattle.sixel_judge.specs.Portable.{IsPortable, Shows}
 use Rattle.sixel_emulator_rules.specs.declared.terminals.Terminals.{Terminals}
 use Rattle.sixel_emulator_check_laws.specs.Shown.{IsHeeded}
 use Rattle.sixel_report.specs.declared.fault.RunFault.{RunFault}
+use Rattle.sixel_report.specs.declared.task.PictureFormat.TheVariants.{Ppm}
 use Rattle.sixel_report.specs.declared.task.Status.{Status}
 use Rattle.sixel_report.specs.declared.task.Status.TheVariants.{Done}
 use Rattle.sixel_report.specs.declared.task.Task.TheVariants.{Check, Render}
@@ -29,7 +30,7 @@ use Rattle.sixel_run.specs.Outputs.{Gives, picture_output}
 -- There is a colour for each pixel, row by row: that of its register
 pub record IsRendered (profile : Profile) (bytes : List ℕ) (p : PictureValue) : Type 0 where
   pub gives : (text : Text) (answer : Result Status RunFault)
-      → Gives (Render profile) bytes text answer ↔ ((text, answer) ≡ picture_output p)
+      → Gives (Render profile Ppm) bytes text answer ↔ ((text, answer) ≡ picture_output p)
   pub pixels : length (colours_of p) ≡ p.width * p.height
   pub colours : (x y : ℕ) → x < p.width → y < p.height
       → slice_get (colours_of p) (y * p.width + x) ≡ palette_at p.palette (register_of p x y)

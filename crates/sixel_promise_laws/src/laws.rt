@@ -7,7 +7,7 @@ ghost use Rattle.sixel_model.specs.Profiles.{count_of};
 ghost use Rattle.sixel_model.specs.declared.profile.Profile.{Profile};
 ghost use Rattle.sixel_promise_laws.specs.Broken.{AskedLineIsTrue, BrokenLineIsTrue, UnbrokenIsDone};
 ghost use Rattle.sixel_promise_laws.specs.Portable.{PortableLineIsTrue};
-ghost use Rattle.sixel_promise_laws.specs.Twice.{CheckGivesTheVerdict, DifferSaysSame, SameInCheck};
+ghost use Rattle.sixel_promise_laws.specs.Twice.{CheckGivesTheVerdict, DifferSaysSame, PngIsThePicture, SameInCheck};
 ghost use Rattle.sixel_promise_laws.specs.Twice.{ShowBoxGivesWhatRenderGives, ShowGivesWhatRenderGives};
 
 /// If a check for some terminals, or for none, is done, it printed `portable` and the size of a picture, the one that
@@ -32,10 +32,17 @@ pub fn an_unbroken_document_is_portable()
 {}
 
 /// If a check for some terminals is done, `show --on NAME --box` writes for each of them of which no rule is ignored what
-/// `render` writes, on each background. So does `show --box` without `--on`, after any check that is done, with each of its options.
+/// `render` writes, on each background, in the same format. So does `show --box` without `--on`, after any check that is
+/// done, with each of its options.
 pub fn show_gives_what_render_gives()
     ensures named { ShowGivesWhatRenderGives }
     ensures class { ShowBoxGivesWhatRenderGives }
+{}
+
+/// If a check is done, `render --png` writes a PNG of the picture whose PPM `render` writes, or both refuse a colour that
+/// isn't RGB. It has the picture's width and height, and of each percentage of a pixel the nearest of 0 to 255.
+pub fn a_png_is_the_picture()
+    ensures { PngIsThePicture }
 {}
 
 /// If a check for all four terminals is done, `differ` writes `same` and the size that the check printed, on each

@@ -1,4 +1,5 @@
 pub mod OutputLemmas
+pub mod FormatLemmas
 pub mod PutLemmas
 pub mod ItemLemmas
 pub mod RuleSetLemmas

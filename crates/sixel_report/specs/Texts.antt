@@ -47,7 +47,7 @@ use Rattle.sixel_report.specs.declared.item.Item.TheVariants as item
 use Rattle.sixel_report.specs.declared.fault.RunFault.{RunFault}
 use Rattle.sixel_report.specs.declared.fault.RunFault.TheVariants.{Grammar, Ppm, NotRgb, NoBox, NoString, Empty}
 use Rattle.sixel_report.specs.declared.fault.RunFault.TheVariants.{TooLarge, TooManyColours, OutOfMemory, Read}
-use Rattle.sixel_report.specs.declared.fault.RunFault.TheVariants.{Unmodelled, Write}
+use Rattle.sixel_report.specs.declared.fault.RunFault.TheVariants.{Hue, Large, Unmodelled, Write}
 
 abbrev pub Text : Type 0
 Text = List ℕ
@@ -130,6 +130,8 @@ fault_parts NotRgb = codes "NotRgb" ∷ []
 fault_parts NoBox = codes "NoBox" ∷ []
 fault_parts (Unmodelled place) = codes "Unmodelled" ∷ codes "at" ∷ decimal place ∷ []
 fault_parts NoString = codes "NoString" ∷ []
+fault_parts (Large width height) = codes "Large" ∷ decimal width ∷ decimal height ∷ []
+fault_parts Hue = codes "Hue" ∷ []
 fault_parts Empty = codes "Empty" ∷ []
 fault_parts TooLarge = codes "TooLarge" ∷ []
 fault_parts TooManyColours = codes "TooManyColours" ∷ []

@@ -1,10 +1,12 @@
 //! Why a run is refused.
 
 use sixel_differ::DifferFault;
+use sixel_fit::FitFault;
 use sixel_grammar::{Fault, Halt, InputFault};
 use sixel_io::DeviceFault;
 use sixel_mend::MendFault;
 use sixel_named_terminals::ShowFault;
+use sixel_png::PngFault;
 use sixel_ppm::{PpmFault, PpmReason};
 use sixel_scan::ScanFault;
 use std::alloc::AllocError;
@@ -20,7 +22,7 @@ pub enum RunFault {
     /// The input is no picture file: why, and after how many bytes.
     #[error("Ppm")]
     Ppm { reason: PpmReason, place: u64 },
-    /// A pixel has a colour of hue, lightness and saturation, which a PPM can't hold. Nothing was written.
+    /// A pixel has a colour of hue, lightness and saturation, which a PPM or a PNG can't hold. Nothing was written.
     #[error("NotRgb")]
     NotRgb,
     /// A screen of the size of the declared box was asked for, but no box is declared, or a side of it isn't from 1 to
@@ -33,14 +35,22 @@ pub enum RunFault {
     /// The stream has no sixel string. Nothing was written.
     #[error("NoString")]
     NoString,
+    /// xterm is to show the picture, and it has more than 1,000 columns or 996 rows: its sides. Nothing was written.
+    #[error("Large")]
+    Large { width: u32, height: u32 },
+    /// xterm is to show the picture, and a colour of it is given by hue, lightness and saturation. Nothing was written.
+    #[error("Hue")]
+    Hue,
     /// A side of the mended picture is 0: nothing is painted, and no box with both sides is declared. Nothing was
     /// written.
     #[error("Empty")]
     Empty,
-    /// The mended picture has more than 2,048 columns or rows. Nothing was written.
+    /// The mended picture, or a picture with the rows below it that konsole needs, has more than 2,048 columns or rows.
+    /// Nothing was written.
     #[error("TooLarge")]
     TooLarge,
-    /// The mended picture has more colours than the profile has registers. Nothing was written.
+    /// The mended picture, or a picture with the rows below it that konsole needs, has more colours than the profile has
+    /// registers. Nothing was written.
     #[error("TooManyColours")]
     TooManyColours,
     /// An allocation failed.
@@ -86,6 +96,20 @@ impl From<PpmFault> for RunFault {
     }
 }
 
+impl From<PngFault> for RunFault {
+    ghost use Rattle.std.specs.Prelude.{◌≡◌};
+    ghost use Rattle.sixel_report.specs.Conversions.{of_png};
+
+    ghost from_gives = { λ fault result. result ≡ of_png fault };
+
+    fn from(fault: PngFault) -> RunFault {
+        match fault {
+            PngFault::NotRgb => RunFault::NotRgb,
+            PngFault::Write => RunFault::Write,
+        }
+    }
+}
+
 impl From<MendFault> for RunFault {
     ghost use Rattle.std.specs.Prelude.{◌≡◌};
     ghost use Rattle.sixel_report.specs.Conversions.{of_mend};
@@ -99,6 +123,23 @@ impl From<MendFault> for RunFault {
             MendFault::TooLarge => RunFault::TooLarge,
             MendFault::TooManyColours => RunFault::TooManyColours,
             MendFault::OutOfMemory => RunFault::OutOfMemory,
+        }
+    }
+}
+
+impl From<FitFault> for RunFault {
+    ghost use Rattle.std.specs.Prelude.{◌≡◌};
+    ghost use Rattle.sixel_report.specs.Conversions.{of_fit};
+
+    ghost from_gives = { λ fault result. result ≡ of_fit fault };
+
+    fn from(fault: FitFault) -> RunFault {
+        match fault {
+            FitFault::Large { width, height } => RunFault::Large { width, height },
+            FitFault::Hue => RunFault::Hue,
+            FitFault::TooHigh => RunFault::TooLarge,
+            FitFault::NoRegister => RunFault::TooManyColours,
+            FitFault::OutOfMemory => RunFault::OutOfMemory,
         }
     }
 }

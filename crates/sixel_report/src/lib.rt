@@ -17,7 +17,8 @@ mod task;
 mod wanted_lines;
 
 pub use differences::{
-    Group, Members, differ_items, differ_status, group_line, same_line, terminal_name, unmodelled_line,
+    Group, Members, differ_items, differ_status, group_line, same_line, terminal_name,
+    unmodelled_line,
 };
 pub use exit::{Exit, code_of, exit_of};
 pub use fault::RunFault;
@@ -32,5 +33,5 @@ pub use request::Request;
 pub use rule_set::{RuleSet, rules_of};
 pub use string_lines::{StringLine, string_line};
 pub use survey_lines::{asked_entry_line, entry_line, size_line};
-pub use task::{Area, MOST_SCREEN_SIDE, Note, Status, Task};
+pub use task::{Area, MOST_SCREEN_SIDE, Note, PictureFormat, Status, Task};
 pub use wanted_lines::{Lines, all_of, is_json, is_portable_item, is_quiet};

@@ -18,7 +18,7 @@ use sixel_grammar::{Command, Event, Placed, Reason};
 use sixel_io::{DeviceFault, Sink, put_all};
 use sixel_ppm::PpmReason;
 
-/// A line, with its line feed: of an event at most 58 bytes, of a fault at most 46, of a verdict at most 82, of a
+/// A line, with its line feed: of an event at most 58 bytes, of a fault at most 55, of a verdict at most 82, of a
 /// survey's entry at most 94.
 pub type Line = ArrayVec<u8, 96>;
 
@@ -178,6 +178,17 @@ fn push_reason(line: &mut Line, reason: &str, place: u64)
     push_number(line, place);
 }
 
+/// A name of at most 5 bytes, and the sides of a picture.
+fn push_size(line: &mut Line, name: &[u8], width: u32, height: u32)
+    requires { array_vec_len line.old + length name.now ≤ 12 }
+    ensures items { line.new.items ≡ line.old.items ++ (name.now ++ spaced (decimal width ∷ decimal height ∷ [])) }
+    ensures len { array_vec_len line.new ≤ 54 }
+{
+    push_all(line, name);
+    push_number(line, u64::from(width));
+    push_number(line, u64::from(height));
+}
+
 /// The line of a fault.
 pub fn fault_line(fault: &RunFault) -> Line
     ensures { result.items ≡ fault_line fault.now }
@@ -191,6 +202,8 @@ pub fn fault_line(fault: &RunFault) -> Line
         RunFault::NoBox => push_all(&mut line, b"NoBox"),
         RunFault::Unmodelled { place } => push_reason(&mut line, "Unmodelled", *place),
         RunFault::NoString => push_all(&mut line, b"NoString"),
+        RunFault::Large { width, height } => push_size(&mut line, b"Large", *width, *height),
+        RunFault::Hue => push_all(&mut line, b"Hue"),
         RunFault::Empty => push_all(&mut line, b"Empty"),
         RunFault::TooLarge => push_all(&mut line, b"TooLarge"),
         RunFault::TooManyColours => push_all(&mut line, b"TooManyColours"),

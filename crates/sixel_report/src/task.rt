@@ -4,6 +4,7 @@ use crate::rule_set::RuleSet;
 use sixel_check::Finding;
 use sixel_emulator_check::NamedFinding;
 use sixel_emulator_rules::{AskedFinding, Terminals};
+use sixel_fit::Fitting;
 use sixel_model::{Colour, Profile};
 use sixel_named_terminals::Named;
 
@@ -17,6 +18,15 @@ pub enum Area {
     Box,
     /// Of this width and height in pixels, each from 1 to 4,096.
     Sides { width: u32, height: u32 },
+}
+
+/// The format of a picture that a task writes.
+#[derive(Clone, Copy, Debug, PartialEq, Eq)]
+pub enum PictureFormat {
+    /// A Netpbm PPM with a maxval of 100.
+    Ppm,
+    /// A PNG of the picture that the PPM has. Its samples are the nearest of 0 to 255.
+    Png,
 }
 
 /// What to do with the input.
@@ -49,11 +59,12 @@ pub enum Task {
         /// The 8-bit controls count: 90 introduces a string, and 9C ends one (hexadecimal).
         eight_bit: bool,
     },
-    /// A sixel picture that is portable in the profile, as a Netpbm PPM with a maxval of 100.
+    /// A sixel picture that is portable in the profile, in this format.
     Render {
         profile: Profile,
+        format: PictureFormat,
     },
-    /// The screen of one terminal after a sixel picture, as a Netpbm PPM. The terminal has the registers of the
+    /// The screen of one terminal after a sixel picture, in this format. The terminal has the registers of the
     /// profile: of 16, register n starts as the grey of 6n percent; of 256, as that of n modulo 101 percent. The screen
     /// is white, and the picture begins at its top left.
     Show {
@@ -68,6 +79,7 @@ pub enum Task {
         width: u32,
         /// The height of the screen in pixels, from 1 to 4,096.
         height: u32,
+        format: PictureFormat,
     },
     /// As `Show`, on a screen with the size of the declared box, that of the first raster attributes. Its sides must be
     /// from 1 to 4,096 pixels.
@@ -76,14 +88,16 @@ pub enum Task {
         showing: bool,
         fill: bool,
         selects: bool,
+        format: PictureFormat,
     },
-    /// The screen of a named terminal after a sixel picture, as a Netpbm PPM, by the terminal's model. The picture
+    /// The screen of a named terminal after a sixel picture, in this format, by the terminal's model. The picture
     /// begins at its top left.
     ShowOn {
         named: Named,
         /// The colour of the whole screen before the picture.
         background: Colour,
         area: Area,
+        format: PictureFormat,
     },
     /// Which of the named terminals show a sixel string differently, and where first. Each screen has the size of the
     /// mended picture, its height rounded up to whole bands of six rows.
@@ -105,10 +119,14 @@ pub enum Task {
         showing: bool,
         /// As in `Show`.
         selects: bool,
+        /// The terminals that are to show the picture, perhaps with rows below it.
+        fitting: Fitting,
     },
     /// A Netpbm PPM, with at most as many colours as the profile has registers, as a portable sixel picture.
     Encode {
         profile: Profile,
+        /// As in `Mend`.
+        fitting: Fitting,
     },
 }
 

@@ -4,6 +4,7 @@ use crate::devices::KeepingSink;
 use crate::format::{Row, RowFault};
 use crate::words::task_of;
 use sixel_encode::encode;
+use sixel_fit::{Fitting, fit};
 use sixel_mend::{MendFault, Mending, mend};
 use sixel_model::Picture;
 use sixel_report::{RunFault, Task, fault_line};
@@ -18,14 +19,29 @@ fn is_text_of(alloc: Global, picture: &Picture, text: &[u8]) -> bool {
     }
 }
 
-/// Whether the row ends as this result of `mend`.
-fn is_end_of(alloc: Global, row: &Row<'_>, mended: Result<Picture, MendFault>) -> bool {
+/// What named terminals show of a mended picture.
+fn fitted(
+    alloc: Global,
+    fitting: Fitting,
+    mended: Result<Picture, MendFault>,
+) -> Result<Picture, RunFault> {
+    match mended {
+        Ok(picture) => match fit(alloc, fitting, picture) {
+            Ok(picture) => Ok(picture),
+            Err(fault) => Err(RunFault::from(fault)),
+        },
+        Err(fault) => Err(RunFault::from(fault)),
+    }
+}
+
+/// Whether the row ends as this picture, or for this reason.
+fn is_end_of(alloc: Global, row: &Row<'_>, mended: Result<Picture, RunFault>) -> bool {
     match mended {
         Ok(picture) => row.status == 0 && is_text_of(alloc, &picture, row.output.as_slice()),
         Err(fault) => {
             row.status == 2
                 && row.output.is_empty()
-                && fault_line(&RunFault::from(fault)).as_slice() == row.said.as_slice()
+                && fault_line(&fault).as_slice() == row.said.as_slice()
         }
     }
 }
@@ -38,6 +54,7 @@ fn is_mended_so(alloc: Global, row: &Row<'_>) -> Result<bool, RowFault> {
             background,
             showing,
             selects,
+            fitting,
         } => {
             let mending = Mending {
                 background,
@@ -45,7 +62,7 @@ fn is_mended_so(alloc: Global, row: &Row<'_>) -> Result<bool, RowFault> {
                 selects,
             };
             let mended = mend(alloc, profile, &mending, row.input.as_slice());
-            Ok(is_end_of(alloc, row, mended))
+            Ok(is_end_of(alloc, row, fitted(alloc, fitting, mended)))
         }
         _ => Ok(false),
     }

@@ -6,9 +6,13 @@ ghost use Rattle.sixel_report.specs.Outputs.{HasSides, HasSidesIn};
 
 use crate::format::RowFault;
 use sixel_emulator_rules::Terminals;
+use sixel_fit::Fitting;
 use sixel_model::{Colour, Profile};
 use sixel_named_terminals::Named;
-use sixel_report::{Area, MOST_SCREEN_SIDE, Task};
+use sixel_report::{Area, MOST_SCREEN_SIDE, PictureFormat, Task};
+
+/// A row has the bytes of the output, and a picture has many PNGs.
+const FORMAT: PictureFormat = PictureFormat::Ppm;
 
 /// The options of a row.
 #[derive(Clone, Copy, Default)]
@@ -22,6 +26,7 @@ struct Options<'a> {
     sheet: bool,
     on: Option<&'a str>,
     background: Option<&'a str>,
+    pad: Option<&'a str>,
     width: Option<&'a str>,
     height: Option<&'a str>,
 }
@@ -32,6 +37,7 @@ enum Awaited {
     Nothing,
     On,
     Background,
+    Pad,
     Width,
     Height,
 }
@@ -61,8 +67,14 @@ pub fn task_of(words: &str) -> Result<Task, RowFault>
             profile,
             terminals: terminals_of(options.on)?,
         }),
-        "render" if is_wide => Ok(Task::Render { profile }),
-        "encode" if is_wide => Ok(Task::Encode { profile }),
+        "render" if is_wide => Ok(Task::Render {
+            profile,
+            format: FORMAT,
+        }),
+        "encode" if is_made(options) => Ok(Task::Encode {
+            profile,
+            fitting: fitting_of(options, "0,0,0")?,
+        }),
         "mend" => mended(profile, options),
         "show" => shown(profile, options),
         _ => Err(RowFault::Words),
@@ -77,6 +89,7 @@ fn kind_of(options: Options<'_>) -> (bool, bool) {
         && !options.boxed
         && options.on.is_none()
         && options.background.is_none()
+        && options.pad.is_none()
         && options.width.is_none()
         && options.height.is_none();
     (is_wide, is_wide && !options.wide)
@@ -89,6 +102,25 @@ fn is_ruled(options: Options<'_>) -> bool {
         ..options
     });
     is_wide
+}
+
+/// The same with `--pad`, which only goes with `--on`.
+fn is_made(options: Options<'_>) -> bool {
+    is_ruled(Options {
+        pad: None,
+        ..options
+    })
+}
+
+/// The terminals that are to show a picture, and the colour of rows below it, which is this one without the option.
+fn fitting_of(options: Options<'_>, fallback: &str) -> Result<Fitting, RowFault> {
+    if options.pad.is_some() && options.on.is_none() {
+        return Err(RowFault::Words);
+    }
+    Ok(Fitting {
+        terminals: terminals_of(options.on)?,
+        pad: colour_of(options.pad.unwrap_or(fallback))?,
+    })
 }
 
 /// The terminals whose rules count.
@@ -126,17 +158,19 @@ fn profile_of(wide: bool) -> Profile {
 fn mended(profile: Profile, options: Options<'_>) -> Result<Task, RowFault>
     ensures { IfOk result HasSides }
 {
-    if options.fill || options.boxed || options.on.is_some() {
+    if options.fill || options.boxed {
         return Err(RowFault::Words);
     }
     if options.width.is_some() || options.height.is_some() {
         return Err(RowFault::Words);
     }
+    let background = options.background.unwrap_or("0,0,0");
     Ok(Task::Mend {
         profile,
-        background: colour_of(options.background.unwrap_or("0,0,0"))?,
+        background: colour_of(background)?,
         showing: options.showing,
         selects: options.selects,
+        fitting: fitting_of(options, background)?,
     })
 }
 
@@ -207,6 +241,7 @@ fn shown_on(named: Named, options: Options<'_>) -> Result<Task, RowFault>
         named,
         background: colour_of(options.background.unwrap_or("100,100,100"))?,
         area: area_of(options)?,
+        format: FORMAT,
     })
 }
 
@@ -235,6 +270,7 @@ fn boxed(profile: Profile, options: Options<'_>) -> Result<Task, RowFault>
         showing: options.showing,
         fill: options.fill,
         selects: options.selects,
+        format: FORMAT,
     })
 }
 
@@ -250,6 +286,7 @@ fn sized(profile: Profile, options: Options<'_>) -> Result<Task, RowFault>
         selects: options.selects,
         width,
         height,
+        format: FORMAT,
     })
 }
 
@@ -284,6 +321,7 @@ fn take_word<'a>(
     match (awaited, word) {
         (Awaited::On, _) => options.on = Some(word),
         (Awaited::Background, _) => options.background = Some(word),
+        (Awaited::Pad, _) => options.pad = Some(word),
         (Awaited::Width, _) => options.width = Some(word),
         (Awaited::Height, _) => options.height = Some(word),
         (_, "--wide") => options.wide = true,
@@ -295,6 +333,7 @@ fn take_word<'a>(
         (_, "--sheet") => options.sheet = true,
         (_, "--on") => return Ok(Awaited::On),
         (_, "--background") => return Ok(Awaited::Background),
+        (_, "--pad") => return Ok(Awaited::Pad),
         (_, "--width") => return Ok(Awaited::Width),
         (_, "--height") => return Ok(Awaited::Height),
         _ => return Err(RowFault::Words),

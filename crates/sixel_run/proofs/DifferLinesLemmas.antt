@@ -17,8 +17,8 @@ use Rattle.sixel_report.specs.declared.task.Status.{Status}
 use Rattle.sixel_report.specs.declared.task.Task.TheVariants.{Differ}
 use Rattle.sixel_sheet.specs.Outputs.{IsRefusalOf, HasEachSize}
 use Rattle.sixel_report.specs.Differing.{differ_items, differ_status}
-use Rattle.sixel_run.specs.LineTasks.{PutsText, WritesItems}
-use Rattle.sixel_report.specs.Outputs.{CountsWrites, failures_by}
+use Rattle.sixel_run.specs.LineTasks.{WritesItems}
+use Rattle.sixel_report.specs.Outputs.{CountsWrites, PutsText, failures_by}
 use Rattle.sixel_run.specs.Outputs.{Gives, Wrote}
 use Rattle.sixel_report.specs.Texts.{Text, items_text}
 

@@ -17,11 +17,11 @@ use Rattle.sixel_report.specs.declared.fault.RunFault.TheVariants.{Grammar, OutO
 use Rattle.sixel_report.specs.declared.item.Item.{Item}
 use Rattle.sixel_report.specs.declared.task.Status.{Status}
 use Rattle.sixel_report.specs.declared.task.Task.{Task}
-use Rattle.sixel_report.specs.declared.task.Task.TheVariants.{List as Listing, Scan}
+use Rattle.sixel_report.specs.declared.task.Task.TheVariants.{List as Listing, Check, Differ, Scan, Survey}
 use Rattle.sixel_report.specs.Conversions.{of_input}
-use Rattle.sixel_run.specs.LineTasks.{EndsAs, IsOverFor, PutsText, ReadsOver, WritesItems, scans}
-use Rattle.sixel_report.specs.Outputs.{CountsWrites, WroteBy, failures_by}
-use Rattle.sixel_run.specs.Outputs.{FoundNoFault, Gives, TakesMemory, Wrote, WroteBefore, WroteUnread}
+use Rattle.sixel_run.specs.LineTasks.{EndsAs, IsOverFor, ReadsOver, WritesItems, has_lines, scans}
+use Rattle.sixel_report.specs.Outputs.{CountsWrites, PutsText, WroteBy, failures_by}
+use Rattle.sixel_run.specs.Outputs.{FoundNoFault, Gives, RunWrote, TakesMemory, Wrote, WroteBefore, WroteUnread}
 use Rattle.sixel_report.specs.Texts.{BeginsWith, Text, item_line, items_text}
 use Rattle.sixel_report.proofs.OutputLemmas.{begins-then}
 use Rattle.sixel_run.proofs.RunLemmas.{gives-once}
@@ -219,3 +219,13 @@ module _ (t : Task) (answer : Result Status RunFault) (i : Change SourceState) (
 pub same_found : (found answer : Result Status RunFault) → EndsAs found answer → answer ≢ Err Write → answer ≡ found
 same_found found answer (inl same) other = same
 same_found found answer (inr cut) other = absurd (other cut.2)
+
+-- a task with lines has no picture
+pub lines_wrote : (t : Task) (told left had has : Option (List ℕ)) (answer : Result Status RunFault)
+    → has_lines t ≡ true → IfSome told (λ bytes. Wrote t bytes left answer had has)
+    → IfSome told (λ bytes. RunWrote t bytes left answer had has)
+lines_wrote (Check profile terminals) told left had has answer lines w = w
+lines_wrote (Survey profile terminals) told left had has answer lines w = w
+lines_wrote (Scan profile eight) told left had has answer lines w = w
+lines_wrote (Differ background) told left had has answer lines w = w
+lines_wrote t told left had has answer lines w = absurd (let no : false ≡ true = lines in cc)

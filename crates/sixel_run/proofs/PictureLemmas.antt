@@ -12,10 +12,8 @@ use Rattle.sixel_report.proofs.OutputLemmas.{nothing-written}
 use Rattle.sixel_io.proofs.SinkLemmas.{Appends-none}
 use Rattle.sixel_grammar.proofs.TotalLemmas.{judged}
 use Rattle.sixel_grammar.proofs.UniqueLemmas.{fault_no_document, fault_once}
-use Rattle.sixel_ppm.specs.declared.ppm.PpmFault.{PpmFault}
-use Rattle.sixel_ppm.specs.declared.ppm.PpmFault.TheVariants as ppm
 use Rattle.sixel_model.specs.Pictures.{PictureValue}
-use Rattle.sixel_ppm.specs.Ppm.{WritesPpm, are_rgb, colours_of, ppm_text}
+use Rattle.sixel_ppm.specs.Ppm.{are_rgb, colours_of, ppm_text}
 use Rattle.sixel_judge.specs.declared.verdict.Finding.{Finding}
 use Rattle.sixel_judge.specs.declared.verdict.Verdict.{Verdict}
 use Rattle.sixel_judge.specs.declared.verdict.Verdict.TheVariants.{Portable, Broken}
@@ -23,13 +21,15 @@ use Rattle.sixel_check.specs.Answers.{Answers as CheckAnswers}
 use Rattle.sixel_judge.specs.Verdicts.{IsVerdict}
 use Rattle.sixel_judge.proofs.DecideLemmas.{verdict_exists}
 use Rattle.sixel_report.specs.declared.fault.RunFault.{RunFault}
-use Rattle.sixel_report.specs.declared.fault.RunFault.TheVariants.{Grammar, NotRgb}
+use Rattle.sixel_report.specs.declared.fault.RunFault.TheVariants.{Grammar, NotRgb, Write}
 use Rattle.sixel_report.specs.declared.task.Status.{Status}
 use Rattle.sixel_report.specs.declared.task.Status.TheVariants as status
 use Rattle.sixel_report.specs.declared.task.Status.TheVariants.{Done}
-use Rattle.sixel_report.specs.Conversions.{of_ppm}
+use Rattle.sixel_report.specs.declared.task.PictureFormat.{PictureFormat}
+use Rattle.sixel_report.specs.declared.task.PictureFormat.TheVariants.{Ppm}
+use Rattle.sixel_report.proofs.FormatLemmas.{as_nothing, as_unwritten, as_written}
 use Rattle.sixel_run.specs.Outputs.{RenderGives, render_output}
-use Rattle.sixel_report.specs.Outputs.{WroteBy, WroteNothing}
+use Rattle.sixel_report.specs.Outputs.{WritesFile, WroteBy, WroteNothing, WrotePicture}
 use Rattle.sixel_report.specs.Texts.{Text}
 use Rattle.sixel_run.proofs.CheckLemmas.{same_verdict}
 
@@ -116,11 +116,30 @@ render-gives registers bytes =
 
 -- ---- the text written
 
-picture_unrendered : (registers : ℕ) (bytes : List ℕ) (p : PictureValue) (fault : PpmFault) (had has : SinkState)
+ppm_rendered : (registers : ℕ) (bytes : List ℕ) (p : PictureValue) (had has : SinkState)
     → CheckAnswers registers (Ok (Portable p)) bytes
-    → WritesPpm {A = Unit {0}} (Err fault) had has p.width p.height (colours_of p)
-    → WroteBy (RenderGives registers bytes) WroteNothing (Err (of_ppm fault)) had.taken has.taken
-picture_unrendered registers bytes p ppm.Write had has given put =
+    → WritesFile {A = Unit {0}} Ppm (Ok tt) had has p.width p.height (colours_of p)
+    → WroteBy (RenderGives registers bytes) WroteNothing (Ok Done) had.taken has.taken
+ppm_rendered registers bytes p had has given put = (
+  ppm_text p.width p.height (colours_of p),
+  (given.0, given.1, (Portable p, given.2, rw put.0 refl)),
+  put.1.taken,
+)
+
+pub rendered : (format : PictureFormat) (registers : ℕ) (a : Option (List ℕ)) (p : PictureValue) (had has : SinkState)
+    → IfSome a (CheckAnswers registers (Ok (Portable p)))
+    → WritesFile {A = Unit {0}} format (Ok tt) had has p.width p.height (colours_of p)
+    → IfSome a (λ bytes. WrotePicture format (RenderGives registers bytes) (Ok Done) had.taken has.taken)
+rendered format registers None p had has given put = tt
+rendered format registers (Some bytes) p had has given put =
+    as_written (RenderGives registers bytes) WroteNothing WroteNothing format tt Done had has p.width p.height
+    (colours_of p) (λ b c. ppm_rendered registers bytes p b c given) put
+
+ppm_unrendered : (registers : ℕ) (bytes : List ℕ) (p : PictureValue) (fault : RunFault) (had has : SinkState)
+    → CheckAnswers registers (Ok (Portable p)) bytes
+    → WritesFile {A = Unit {0}} Ppm (Err fault) had has p.width p.height (colours_of p)
+    → WroteBy (RenderGives registers bytes) WroteNothing (Err fault) had.taken has.taken
+ppm_unrendered registers bytes p Write had has given put =
     let whole : Text = ppm_text p.width p.height (colours_of p) in (
       take put.1.taken.0 whole,
       put.1.taken.1,
@@ -129,21 +148,24 @@ picture_unrendered registers bytes p ppm.Write had has given put =
           (given.0, given.1, (Portable p, given.2, rw put.0 refl))).0 in
           (drop put.1.taken.0 whole, same ∙ sym (take-append-drop put.1.taken.0 whole)),
     )
-picture_unrendered registers bytes p ppm.NotRgb had has given put =
+ppm_unrendered registers bytes p NotRgb had has given put =
     ([], (given.0, given.1, (Portable p, given.2, rw put.0 refl)), nothing-written had has put.1)
-picture_unrendered registers bytes p _ had has given put = absurd put
+ppm_unrendered registers bytes p _ had has given put = absurd put
 
-pub unrendered : (registers : ℕ) (a : Option (List ℕ)) (p : PictureValue) (fault : PpmFault) (had has : SinkState)
-    → IfSome a (CheckAnswers registers (Ok (Portable p)))
-    → WritesPpm {A = Unit {0}} (Err fault) had has p.width p.height (colours_of p)
-    → IfSome a (λ bytes. WroteBy (RenderGives registers bytes) WroteNothing (Err (of_ppm fault)) had.taken has.taken)
-unrendered registers None p fault had has given put = tt
-unrendered registers (Some bytes) p fault had has given put = picture_unrendered _ bytes p fault had has given put
+pub unrendered : (format : PictureFormat) (registers : ℕ) (a : Option (List ℕ)) (p : PictureValue) (fault : RunFault)
+    (had has : SinkState) → IfSome a (CheckAnswers registers (Ok (Portable p)))
+    → WritesFile {A = Unit {0}} format (Err fault) had has p.width p.height (colours_of p)
+    → IfSome a (λ bytes. WrotePicture format (RenderGives registers bytes) (Err fault) had.taken has.taken)
+unrendered format registers None p fault had has given put = tt
+unrendered format registers (Some bytes) p fault had has given put =
+    as_unwritten (RenderGives registers bytes) WroteNothing WroteNothing (Unit {0}) format fault had has p.width p.height
+    (colours_of p) (λ b c. ppm_unrendered registers bytes p fault b c given) put
 
 -- for a broken picture nothing was written
-pub broken_rendered : (registers : ℕ) (a : Option (List ℕ)) (f : Finding) (had : Option (List ℕ))
-    → IfSome a (CheckAnswers registers (Ok (Broken f)))
-    → IfSome a (λ bytes. WroteBy (RenderGives registers bytes) WroteNothing (Ok (status.Broken f)) had had)
-broken_rendered registers None f had given = tt
-broken_rendered registers (Some bytes) f had given =
-    ([], (given.0, given.1, (Broken f, given.2, refl)), Appends-none had)
+pub broken_rendered : (format : PictureFormat) (registers : ℕ) (a : Option (List ℕ)) (f : Finding)
+    (had : Option (List ℕ)) → IfSome a (CheckAnswers registers (Ok (Broken f)))
+    → IfSome a (λ bytes. WrotePicture format (RenderGives registers bytes) (Ok (status.Broken f)) had had)
+broken_rendered format registers None f had given = tt
+broken_rendered format registers (Some bytes) f had given =
+    as_nothing (RenderGives registers bytes) WroteNothing WroteNothing format (Ok (status.Broken f)) had
+    (λ same. ([], (given.0, given.1, (Broken f, given.2, refl)), Appends-none same))

@@ -1,5 +1,7 @@
 -- Lemmas for any run: a task gives one text and answer, and if the flush fails a prefix of the text was written.
 use Rattle.std.proofs.Common.{◌≡◌, ◌∙◌, ℕ, Bool, List, [], take, Option, Some, None, refl, sym, ap, subst, inl, inr}
+use Rattle.std.proofs.Common.{length}
+use Rattle.std.proofs.Math.Seq.{take-length}
 use Rattle.std.specs.Prelude.{Result, Ok, Err, IfSome}
 use Rattle.std.specs.Io.KnownBytes.{Appends, Keeps}
 use Rattle.std.proofs.lemmas.List.{append-nil}
@@ -16,19 +18,22 @@ use Rattle.sixel_model.specs.declared.profile.Profile.{Profile}
 use Rattle.sixel_scan.specs.declared.answer.Scanned.{Scanned}
 use Rattle.sixel_report.specs.declared.task.Status.{Status}
 use Rattle.sixel_report.specs.declared.task.Status.TheVariants.{Done}
+use Rattle.sixel_report.specs.declared.task.PictureFormat.{PictureFormat}
+use Rattle.sixel_report.specs.declared.task.PictureFormat.TheVariants.{Ppm, Png}
 use Rattle.sixel_report.specs.declared.task.Task.{Task}
 use Rattle.sixel_report.specs.declared.task.Task.TheVariants.{List as Listing, Check, Survey, Render, Show, ShowBox}
 use Rattle.sixel_report.specs.declared.task.Task.TheVariants.{Encode, Differ, DifferSheet, Mend, Scan, ShowOn}
 use Rattle.sixel_sheet.specs.Outputs.{differ_output, sheet_output}
-use Rattle.sixel_run.specs.Outputs.{FoundNoFault, Gives, Wrote, WroteBefore, WroteUnread, mending}
+use Rattle.sixel_run.specs.Outputs.{FoundNoFault, Gives, RunWrote, Wrote, WroteBefore, WroteUnread, format_of, mending}
 use Rattle.sixel_list.specs.Outputs.{ListGives, ListsUnread}
-use Rattle.sixel_report.specs.Outputs.{WroteBy, WroteNothing}
+use Rattle.sixel_report.specs.Outputs.{PutsText, WroteAs, WroteBy, WroteNothing, WrotePicture}
 use Rattle.sixel_grammar.specs.Reading.{NoFaultBefore}
 use Rattle.sixel_run.specs.Scanned.{AreOfFirst, scan_text}
 use Rattle.sixel_show.specs.Screens.{screen_terminal, show_choices, show_terminal}
 use Rattle.sixel_report.specs.Texts.{Text, BeginsWith, list_text}
 use Rattle.sixel_list.proofs.OutputLemmas.{gives-begins}
 use Rattle.sixel_show.proofs.BoxLemmas.{box-gives, box-once}
+use Rattle.sixel_report.proofs.FormatLemmas.{as_mapped}
 use Rattle.sixel_report.proofs.OutputLemmas.{both_are}
 use Rattle.sixel_run.proofs.CheckLemmas.{check-gives, check-once}
 use Rattle.sixel_sheet.proofs.DifferLemmas.{differ-gives, differ-once, differ_given, sheet_given}
@@ -89,17 +94,17 @@ pub gives-once : (task : Task) (bytes : List ℕ) (first second : Text) (a b : R
     → Gives task bytes first a → Gives task bytes second b → (first ≡ second) × (a ≡ b)
 gives-once Listing bytes first second a b g h = list-once bytes first second a b g h
 gives-once (Check profile t) bytes first second a b g h = check-once _ t bytes first second a b g h
-gives-once (Render profile) bytes first second a b g h = render-once _ bytes first second a b g h
-gives-once (Encode profile) bytes first second a b g h = encode-once _ bytes first second a b g h
+gives-once (Render profile format) bytes first second a b g h = render-once _ bytes first second a b g h
+gives-once (Encode profile fitting) bytes first second a b g h = encode-once _ fitting bytes first second a b g h
 gives-once (Survey profile t) bytes first second a b g h = survey-once _ t bytes first second a b g h
 gives-once (Scan profile eight) bytes first second a b g h = scan-once eight _ bytes first second a b g h
-gives-once (Mend profile background showing selects) bytes first second a b g h =
-    mend-once _ (mending background showing selects) bytes first second a b g h
-gives-once (Show profile showing fill selects width height) bytes first second a b g h =
+gives-once (Mend profile background showing selects fitting) bytes first second a b g h =
+    mend-once _ (mending background showing selects) fitting bytes first second a b g h
+gives-once (Show profile showing fill selects width height format) bytes first second a b g h =
     show-once profile (show_terminal profile (show_choices showing fill selects width height)) bytes first second a b g h
-gives-once (ShowBox profile showing fill selects) bytes first second a b g h =
+gives-once (ShowBox profile showing fill selects format) bytes first second a b g h =
     box-once profile (screen_terminal profile showing fill selects) bytes first second a b g h
-gives-once (ShowOn named background area) bytes first second a b g h =
+gives-once (ShowOn named background area format) bytes first second a b g h =
     on-once named background area bytes first second a b g h
 gives-once (Differ background) bytes first second a b g h =
     differ-once differ_output differ_given background bytes first second a b g h
@@ -110,15 +115,16 @@ pub gives : (task : Task) (bytes : List ℕ)
     → (text : Text) × (answer : Result Status RunFault) × Gives task bytes text answer
 gives Listing bytes = list-gives bytes
 gives (Check profile t) bytes = check-gives _ t bytes
-gives (Render profile) bytes = render-gives _ bytes
-gives (Encode profile) bytes = encode-gives _ bytes
+gives (Render profile format) bytes = render-gives _ bytes
+gives (Encode profile fitting) bytes = encode-gives _ fitting bytes
 gives (Survey profile t) bytes = survey-gives _ t bytes
 gives (Scan profile eight) bytes = scan-gives eight _ bytes
-gives (Mend profile background showing selects) bytes = mend-gives _ (mending background showing selects) bytes
-gives (Show profile showing fill selects width height) bytes =
+gives (Mend profile background showing selects fitting) bytes = mend-gives _ (mending background showing selects) fitting bytes
+gives (Show profile showing fill selects width height format) bytes =
     show-gives profile (show_terminal profile (show_choices showing fill selects width height)) bytes
-gives (ShowBox profile showing fill selects) bytes = box-gives profile (screen_terminal profile showing fill selects) bytes
-gives (ShowOn named background area) bytes = on-gives named background area bytes
+gives (ShowBox profile showing fill selects format) bytes =
+    box-gives profile (screen_terminal profile showing fill selects) bytes
+gives (ShowOn named background area format) bytes = on-gives named background area bytes
 gives (Differ background) bytes = differ-gives differ_output differ_given background bytes
 gives (DifferSheet background) bytes = differ-gives sheet_output sheet_given background bytes
 
@@ -206,17 +212,53 @@ flushed-run task bytes left had mid has (Err Read) w kept = flushed-unread task 
 flushed-run task bytes left had mid has (Err Write) w kept = (w.0, Appends-keeps had mid has w.0 w.1 kept, w.2)
 flushed-run task bytes left had mid has answer w kept = (w.0, w.1, Appends-keeps had mid has w.0 w.2 kept)
 
+-- ---- a flush after a file in a format
+
+png_flushed : (answer : Result Status RunFault) (had mid has : Option (List ℕ)) (png : Text)
+    → PutsText answer had mid png → Keeps mid has → PutsText answer had has png
+png_flushed (Err Write) had mid has png put kept = (put.0, Appends-keeps had mid has (take put.0 png) put.1 kept)
+png_flushed answer had mid has png put kept = Appends-keeps had mid has png put kept
+
+png_unflushed : (answer : Result Status RunFault) (had mid has : Option (List ℕ)) (png : Text)
+    → PutsText answer had mid png → Keeps mid has → (n : ℕ) × Appends had has (take n png)
+png_unflushed (Err Write) had mid has png put kept = (put.0, Appends-keeps had mid has (take put.0 png) put.1 kept)
+png_unflushed answer had mid has png put kept =
+    (length png, subst (Appends had has) (sym (take-length png)) (Appends-keeps had mid has png put kept))
+
+flushed_as : (format : PictureFormat) (task : Task) (bytes : List ℕ) (left had mid has : Option (List ℕ))
+    (answer : Result Status RunFault)
+    → WroteAs format (Gives task bytes) (WroteUnread task bytes left) (WroteBefore task bytes) answer had mid
+    → Keeps mid has
+    → WroteAs format (Gives task bytes) (WroteUnread task bytes left) (WroteBefore task bytes) answer had has
+flushed_as Ppm task bytes left had mid has answer w kept = flushed-run task bytes left had mid has answer w kept
+flushed_as Png task bytes left had mid has answer w kept =
+    (w.0, w.1, (w.2.0, w.2.1, png_flushed answer had mid has w.2.0 w.2.2 kept))
+
+unflushed_as : (format : PictureFormat) (task : Task) (bytes : List ℕ) (left had mid has : Option (List ℕ))
+    (answer : Result Status RunFault)
+    → WroteAs format (Gives task bytes) (WroteUnread task bytes left) (WroteBefore task bytes) answer had mid
+    → Keeps mid has
+    → WroteAs format (Gives task bytes) (WroteUnread task bytes left) (WroteBefore task bytes) (Err Write) had has
+unflushed_as Ppm task bytes left had mid has answer w kept = unflushed-run task bytes left had mid has answer w kept
+unflushed_as Png task bytes left had mid has answer w kept = (
+  w.0,
+  unflushed-run task bytes left (Some []) (Some w.0) (Some w.0) answer w.1 refl,
+  (w.2.0, w.2.1, png_unflushed answer had mid has w.2.0 w.2.2 kept),
+)
+
 pub flushed : (task : Task) (a left had mid has : Option (List ℕ)) (answer : Result Status RunFault)
-    → IfSome a (λ (bytes : List ℕ). Wrote task bytes left answer had mid) → Keeps mid has
-    → IfSome a (λ (bytes : List ℕ). Wrote task bytes left answer had has)
+    → IfSome a (λ (bytes : List ℕ). RunWrote task bytes left answer had mid) → Keeps mid has
+    → IfSome a (λ (bytes : List ℕ). RunWrote task bytes left answer had has)
 flushed task None left had mid has answer w kept = tt
-flushed task (Some bytes) left had mid has answer w kept = flushed-run task bytes left had mid has answer w kept
+flushed task (Some bytes) left had mid has answer w kept =
+    flushed_as (format_of task) task bytes left had mid has answer w kept
 
 pub unflushed : (task : Task) (a left had mid has : Option (List ℕ)) (answer : Result Status RunFault)
-    → IfSome a (λ (bytes : List ℕ). Wrote task bytes left answer had mid) → Keeps mid has
-    → IfSome a (λ (bytes : List ℕ). Wrote task bytes left (Err Write) had has)
+    → IfSome a (λ (bytes : List ℕ). RunWrote task bytes left answer had mid) → Keeps mid has
+    → IfSome a (λ (bytes : List ℕ). RunWrote task bytes left (Err Write) had has)
 unflushed task None left had mid has answer w kept = tt
-unflushed task (Some bytes) left had mid has answer w kept = unflushed-run task bytes left had mid has answer w kept
+unflushed task (Some bytes) left had mid has answer w kept =
+    unflushed_as (format_of task) task bytes left had mid has answer w kept
 
 -- ---- a read that fails
 
@@ -244,3 +286,15 @@ pub unread : (gives : List ℕ → Text → Result Status RunFault → Type 0) (
     → (answer ≡ Err Read → IfSome a (NoFaultBefore left))
     → IfSome a (λ (bytes : List ℕ). WroteBy (gives bytes) (FoundNoFault bytes left) answer had has)
 unread gives a left had has answer wrote none = unread_by (NoFaultBefore left) gives a had has answer wrote none
+
+-- the same of a task that writes a picture
+pub unread_as : (format : PictureFormat) (gives : List ℕ → Text → Result Status RunFault → Type 0)
+    (a left had has : Option (List ℕ)) (answer : Result Status RunFault)
+    → IfSome a (λ (bytes : List ℕ). WrotePicture format (gives bytes) answer had has)
+    → (answer ≡ Err Read → IfSome a (NoFaultBefore left))
+    → IfSome a (λ (bytes : List ℕ).
+    WroteAs format (gives bytes) (FoundNoFault bytes left) WroteNothing answer had has)
+unread_as format gives None left had has answer wrote is = tt
+unread_as format gives (Some bytes) left had has answer wrote is =
+    as_mapped (gives bytes) (gives bytes) WroteNothing WroteNothing (FoundNoFault bytes left) WroteNothing format answer
+    had has (λ b c w. unread-run (NoFaultBefore left bytes) (gives bytes) b c answer w is) wrote

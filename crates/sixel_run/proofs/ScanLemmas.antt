@@ -31,12 +31,12 @@ use Rattle.sixel_report.specs.declared.item.Item.TheVariants.{String}
 use Rattle.sixel_report.specs.declared.task.Status.{Status}
 use Rattle.sixel_report.specs.declared.task.Task.TheVariants as task
 use Rattle.sixel_report.specs.Conversions.{of_scan}
-use Rattle.sixel_report.specs.Outputs.{CountsWrites, WroteWith, failures_by}
+use Rattle.sixel_report.specs.Outputs.{CountsWrites, PutsText, WroteWith, failures_by}
 use Rattle.sixel_run.specs.Outputs.{ScanGives, ScansBefore, ScansUnread, Wrote}
 use Rattle.sixel_run.specs.Scanned.{AreBeforeAllocation, AreOfFirst, AreOfGiven, AreOfStream, Finds, MayGrowInString}
 use Rattle.sixel_run.specs.Scanned.{answer_of_strings, answer_with, is_portable, is_wrapped, scan_text, status_where}
 use Rattle.sixel_run.specs.Scanned.{stream_of}
-use Rattle.sixel_run.specs.LineTasks.{PutsText, WritesItems}
+use Rattle.sixel_run.specs.LineTasks.{WritesItems}
 use Rattle.sixel_report.specs.Texts.{Text}
 use Rattle.sixel_run.proofs.WrappingLemmas.{marks_kept, marks_next}
 use Rattle.sixel_run.proofs.StringLemmas.{reports_join, scan-begins, short_take, strings_more}

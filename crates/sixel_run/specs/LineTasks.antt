@@ -13,7 +13,7 @@ use Rattle.sixel_report.specs.declared.task.Status.{Status}
 use Rattle.sixel_report.specs.declared.task.Status.TheVariants.{Done, Asked, Broken, Differing, Noted, Surveyed, Unfit}
 use Rattle.sixel_report.specs.declared.task.Task.{Task}
 use Rattle.sixel_report.specs.declared.task.Task.TheVariants.{Check, Differ, Scan, Survey}
-use Rattle.sixel_report.specs.Outputs.{CountsWrites, failures_by}
+use Rattle.sixel_report.specs.Outputs.{CountsWrites, PutsText, failures_by}
 use Rattle.sixel_run.specs.Outputs.{TakesMemory, Wrote}
 use Rattle.sixel_report.specs.RuleSets.{rules_of}
 use Rattle.sixel_report.specs.Texts.{Text, items_text}
@@ -41,11 +41,6 @@ pub record ReadsOver (t : Task) (answer : Result Status RunFault) (old new : Opt
   pub bytes : List ℕ
   pub read : Consumes old new bytes
   pub ended : OnOk answer (IsOverFor t new bytes)
-
--- the text was appended to what the sink `had`; after Write, a prefix of it
-abbrev pub PutsText : Result Status RunFault → Option (List ℕ) → Option (List ℕ) → Text → Type 0
-PutsText (Err Write) had has text = (n : ℕ) × Appends had has (take n text)
-PutsText answer had has text = Appends had has text
 
 -- a task that found this answers it; or Write, if the output failed after all was read
 abbrev pub EndsAs : Result Status RunFault → Result Status RunFault → Type 0

@@ -25,19 +25,24 @@ use Rattle.sixel_emulator_check.specs.declared.verdict.NamedOutcome.{NamedOutcom
 use Rattle.sixel_emulator_check.specs.declared.verdict.NamedOutcome.TheVariants as outcome
 use Rattle.sixel_emulator_check.specs.declared.verdict.NamedVerdict.{NamedVerdict}
 use Rattle.sixel_emulator_check.specs.declared.verdict.NamedVerdict.TheVariants as named
+use Rattle.sixel_fit.specs.Fitted.{fitted}
+use Rattle.sixel_fit.specs.declared.making.FitFault.{FitFault}
+use Rattle.sixel_fit.specs.declared.making.Fitting.{Fitting}
 use Rattle.sixel_mend.specs.declared.mending.MendFault.{MendFault}
 use Rattle.sixel_mend.specs.declared.mending.Mending.{Mending}
 use Rattle.sixel_mend.specs.Mended.{mended}
 use Rattle.sixel_mend.specs.Painted.{hidden_pixels}
 use Rattle.sixel_mend.specs.Sizes.{IsSize}
 use Rattle.sixel_scan.specs.declared.answer.Scanned.{Scanned}
-use Rattle.sixel_report.specs.Conversions.{of_mend, of_ppm}
+use Rattle.sixel_report.specs.Conversions.{of_fit, of_mend, of_ppm}
 use Rattle.sixel_report.specs.declared.fault.RunFault.{RunFault}
 use Rattle.sixel_report.specs.declared.fault.RunFault.TheVariants.{Grammar, NotRgb}
 use Rattle.sixel_report.specs.declared.task.Status.{Status}
 use Rattle.sixel_report.specs.declared.task.Status.TheVariants as status
 use Rattle.sixel_report.specs.declared.task.Note.TheVariants.{Hidden}
 use Rattle.sixel_report.specs.declared.task.Status.TheVariants.{Done, Noted, Surveyed}
+use Rattle.sixel_report.specs.declared.task.PictureFormat.{PictureFormat}
+use Rattle.sixel_report.specs.declared.task.PictureFormat.TheVariants.{Ppm}
 use Rattle.sixel_report.specs.declared.task.Task.{Task}
 use Rattle.sixel_report.specs.declared.task.Task.TheVariants.{List as Listing, Check, Survey, Render, Show, ShowBox}
 use Rattle.sixel_report.specs.declared.task.Task.TheVariants.{Encode, Differ, DifferSheet, Mend, Scan, ShowOn}
@@ -49,7 +54,7 @@ use Rattle.sixel_show.specs.Screens.{DeclareScreenIn, screen_terminal, show_choi
 use Rattle.sixel_report.specs.Texts.{Text, named_verdict_line, survey_text}
 use Rattle.sixel_list.specs.Outputs.{ListGives, ListsUnread}
 use Rattle.sixel_show.specs.Outputs.{ShowBoxGives, ShowGives, ShowOnGives}
-use Rattle.sixel_report.specs.Outputs.{WroteNothing, WroteWith}
+use Rattle.sixel_report.specs.Outputs.{GivesAs, WroteAs, WroteNothing, WroteWith}
 
 -- ---- verdicts
 
@@ -135,13 +140,22 @@ RenderGives registers bytes text answer =
 
 -- ---- picture files
 
--- for a picture that was read its canonical text; else the fault, and no text
-abbrev pub encode_output : Result PictureValue PpmFault → Text × Result Status RunFault
-encode_output (Ok picture) = (canon_text picture, Ok Done)
-encode_output (Err fault) = ([], Err (of_ppm fault))
+-- for a picture that named terminals show its canonical text, with this status; else the fault, and no text
+abbrev pub fit_output : Result PictureValue FitFault → Status → Text × Result Status RunFault
+fit_output (Ok picture) status = (canon_text picture, Ok status)
+fit_output (Err fault) status = ([], Err (of_fit fault))
 
-abbrev pub EncodeGives : ℕ → List ℕ → Text → Result Status RunFault → Type 0
-EncodeGives registers bytes text answer = (text, answer) ≡ encode_output (ppm_read registers bytes)
+-- for a picture, the fit_output of the one that the terminals show in its place
+abbrev pub made_output : Fitting → PictureValue → Status → Text × Result Status RunFault
+made_output f picture status = fit_output (fitted f.terminals f.pad picture) status
+
+-- for a picture that was read its made_output; else the fault, and no text
+abbrev pub encode_output : Fitting → Result PictureValue PpmFault → Text × Result Status RunFault
+encode_output f (Ok picture) = made_output f picture Done
+encode_output f (Err fault) = ([], Err (of_ppm fault))
+
+abbrev pub EncodeGives : ℕ → Fitting → List ℕ → Text → Result Status RunFault → Type 0
+EncodeGives registers f bytes text answer = (text, answer) ≡ encode_output f (ppm_read registers bytes)
 
 -- ---- mended strings
 
@@ -149,19 +163,19 @@ EncodeGives registers bytes text answer = (text, answer) ≡ encode_output (ppm_
 abbrev pub mended_status : ℕ → Status
 mended_status hidden = if hidden == 0 then Done else Noted (Hidden hidden)
 
--- for a mended picture that hides so many pixels its canonical text; else the fault, and no text
-abbrev pub mend_output : Result PictureValue MendFault → ℕ → Text × Result Status RunFault
-mend_output (Ok picture) hidden = (canon_text picture, Ok (mended_status hidden))
-mend_output (Err fault) hidden = ([], Err (of_mend fault))
+-- for a mended picture that hides so many pixels its made_output; else the fault, and no text
+abbrev pub mend_output : Fitting → Result PictureValue MendFault → ℕ → Text × Result Status RunFault
+mend_output f (Ok picture) hidden = made_output f picture (mended_status hidden)
+mend_output f (Err fault) hidden = ([], Err (of_mend fault))
 
 -- for a document the mend_output of its mended picture, in the profile with this many registers, or of the first reason
 -- why there is none; for other bytes their fault, and no text
-abbrev pub MendGives : ℕ → Mending → List ℕ → Text → Result Status RunFault → Type 0
-MendGives registers m bytes text (Err (Grammar fault)) = (text ≡ []) × IsFaultOf bytes fault
-MendGives registers m bytes text answer =
+abbrev pub MendGives : ℕ → Mending → Fitting → List ℕ → Text → Result Status RunFault → Type 0
+MendGives registers m f bytes text (Err (Grammar fault)) = (text ≡ []) × IsFaultOf bytes fault
+MendGives registers m f bytes text answer =
     (events : List Placed) × Document events bytes
     × ((width : ℕ) × (height : ℕ) × IsSize m (events_of events) width height
-    × ((text, answer) ≡ mend_output (mended registers m (events_of events) width height)
+    × ((text, answer) ≡ mend_output f (mended registers m (events_of events) width height)
     (hidden_pixels m (events_of events) width height)))
 
 -- ---- tasks
@@ -170,21 +184,22 @@ MendGives registers m bytes text answer =
 abbrev pub mending : Parts → Bool → Bool → Mending
 mending background showing selects = record { background = background; showing = showing; selects = selects }
 
--- what a task writes for these bytes, and its answer, if no allocation and no device fails
+-- what a task writes for these bytes, and its answer, if no allocation and no device fails; a picture as a PPM, whatever
+-- its format
 abbrev pub Gives : Task → List ℕ → Text → Result Status RunFault → Type 0
 Gives Listing bytes text answer = ListGives bytes text answer
 Gives (Check profile terminals) bytes text answer = CheckGives (count_of profile) terminals bytes text answer
 Gives (Survey profile terminals) bytes text answer = SurveyGives (count_of profile) terminals bytes text answer
 Gives (Scan profile eight) bytes text answer = ScanGives eight (count_of profile) bytes text answer
-Gives (Render profile) bytes text answer = RenderGives (count_of profile) bytes text answer
-Gives (Encode profile) bytes text answer = EncodeGives (count_of profile) bytes text answer
-Gives (Mend profile background showing selects) bytes text answer =
-    MendGives (count_of profile) (mending background showing selects) bytes text answer
-Gives (Show profile showing fill selects width height) bytes text answer =
+Gives (Render profile format) bytes text answer = RenderGives (count_of profile) bytes text answer
+Gives (Encode profile fitting) bytes text answer = EncodeGives (count_of profile) fitting bytes text answer
+Gives (Mend profile background showing selects fitting) bytes text answer =
+    MendGives (count_of profile) (mending background showing selects) fitting bytes text answer
+Gives (Show profile showing fill selects width height format) bytes text answer =
     ShowGives profile (show_terminal profile (show_choices showing fill selects width height)) bytes text answer
-Gives (ShowBox profile showing fill selects) bytes text answer =
+Gives (ShowBox profile showing fill selects format) bytes text answer =
     ShowBoxGives profile (screen_terminal profile showing fill selects) bytes text answer
-Gives (ShowOn named background area) bytes text answer = ShowOnGives named background area bytes text answer
+Gives (ShowOn named background area format) bytes text answer = ShowOnGives named background area bytes text answer
 Gives (Differ background) bytes text answer = DifferGives differ_output background bytes text answer
 Gives (DifferSheet background) bytes text answer = DifferGives sheet_output background bytes text answer
 
@@ -201,7 +216,7 @@ FoundNoPpmFault registers bytes left had has = NoPpmFaultBefore (ppm_read regist
 abbrev pub WroteUnread : Task → List ℕ → Option (List ℕ) → Option (List ℕ) → Option (List ℕ) → Type 0
 WroteUnread Listing bytes left had has = ListsUnread bytes left had has
 WroteUnread (Scan profile eight) bytes left had has = ScansUnread eight (count_of profile) bytes left had has
-WroteUnread (Encode profile) bytes left had has = FoundNoPpmFault (count_of profile) bytes left had has
+WroteUnread (Encode profile fitting) bytes left had has = FoundNoPpmFault (count_of profile) bytes left had has
 WroteUnread t bytes left had has = FoundNoFault bytes left had has
 
 -- what a task over these bytes has appended to what the sink `had` when an allocation fails
@@ -218,18 +233,39 @@ TakesMemory Listing told = ⊥
 TakesMemory (Check profile terminals) told = IfSome told (MayGrowIn (count_of profile))
 TakesMemory (Survey profile terminals) told = IfSome told DeclareBoxIn
 TakesMemory (Scan profile eight) told = IfSome told (MayGrowInString eight (count_of profile))
-TakesMemory (Render profile) told = IfSome told (MayGrowIn (count_of profile))
-TakesMemory (Encode profile) told = IfSome told HasWholeHeader
-TakesMemory (Mend profile background showing selects) told =
+TakesMemory (Render profile format) told = IfSome told (MayGrowIn (count_of profile))
+TakesMemory (Encode profile fitting) told = IfSome told HasWholeHeader
+TakesMemory (Mend profile background showing selects fitting) told =
     IfSome told (HasPictureSize (mending background showing selects))
-TakesMemory (Show profile showing fill selects width height) told = IfSome told IsDocument
-TakesMemory (ShowBox profile showing fill selects) told = IfSome told DeclareScreenIn
-TakesMemory (ShowOn named background area) told = IfSome told IsDocument
+TakesMemory (Show profile showing fill selects width height format) told = IfSome told IsDocument
+TakesMemory (ShowBox profile showing fill selects format) told = IfSome told DeclareScreenIn
+TakesMemory (ShowOn named background area format) told = IfSome told IsDocument
 TakesMemory (Differ background) told = IfSome told HasEachSize
 TakesMemory (DifferSheet background) told = IfSome told HasEachSize
 
--- what a run of the task over these bytes, with `left` unread, appended to what the sink `had`, for this answer
+-- what a run of the task over these bytes, with `left` unread, appended to what the sink `had`, for this answer; a
+-- picture as a PPM, whatever its format
 abbrev pub Wrote : Task → List ℕ → Option (List ℕ)
     → Result Status RunFault → Option (List ℕ) → Option (List ℕ) → Type 0
 Wrote task bytes left answer had has =
     WroteWith (Gives task bytes) (WroteUnread task bytes left) (WroteBefore task bytes) answer had has
+
+-- ---- formats
+
+-- the format of the picture that a task writes; any other text is as it is, as for a PPM
+abbrev pub format_of : Task → PictureFormat
+format_of (Render profile format) = format
+format_of (Show profile showing fill selects width height format) = format
+format_of (ShowBox profile showing fill selects format) = format
+format_of (ShowOn named background area format) = format
+format_of t = Ppm
+
+-- what a run of the task over these bytes writes and answers, if no allocation and no device fails
+abbrev pub RunGives : Task → List ℕ → Text → Result Status RunFault → Type 0
+RunGives task bytes text answer = GivesAs (format_of task) (Gives task bytes) text answer
+
+-- what a run of the task over these bytes, with `left` unread, appended to what the sink `had`, for this answer
+abbrev pub RunWrote : Task → List ℕ → Option (List ℕ)
+    → Result Status RunFault → Option (List ℕ) → Option (List ℕ) → Type 0
+RunWrote task bytes left answer had has =
+    WroteAs (format_of task) (Gives task bytes) (WroteUnread task bytes left) (WroteBefore task bytes) answer had has

@@ -4,7 +4,7 @@ ghost use Rattle.std.specs.Prelude.{◌≡◌, ◌≢◌, Err, IfSome, true};
 ghost use Rattle.sixel_io.specs.Devices.{change};
 ghost use Rattle.sixel_run.specs.LineTasks.{WritesItems, has_lines};
 ghost use Rattle.sixel_report.specs.Outputs.{CountsReads, CountsWrites, HasSides, failures_by};
-ghost use Rattle.sixel_run.specs.Outputs.{TakesMemory, Wrote};
+ghost use Rattle.sixel_run.specs.Outputs.{RunWrote, TakesMemory};
 
 mod check;
 mod differ;
@@ -38,7 +38,8 @@ pub fn run<S: Source, K: Sink>(
 ) -> Result<Status, RunFault>
     requires { HasSides task }
     ensures wrote { IfSome (S.state input.old).remaining (λ bytes.
-        Wrote task bytes (S.state input.new).remaining result (K.state output.old).taken (K.state output.new).taken) }
+        RunWrote task bytes (S.state input.new).remaining result
+        (K.state output.old).taken (K.state output.new).taken) }
     ensures memory { result ≡ Err RunFault.OutOfMemory → TakesMemory task (S.state input.old).remaining }
     ensures reads { CountsReads result (S.state input.old).failures (S.state input.new).failures }
     ensures writes { CountsWrites result (K.state output.old).failures (K.state output.new).failures }
@@ -95,7 +96,8 @@ fn perform<S: Source, K: Sink>(
 ) -> Result<Status, RunFault>
     requires { HasSides task }
     ensures wrote { IfSome (S.state input.old).remaining (λ bytes.
-        Wrote task bytes (S.state input.new).remaining result (K.state output.old).taken (K.state output.new).taken) }
+        RunWrote task bytes (S.state input.new).remaining result
+        (K.state output.old).taken (K.state output.new).taken) }
     ensures memory { result ≡ Err RunFault.OutOfMemory → TakesMemory task (S.state input.old).remaining }
     ensures reads { (S.state input.new).failures ≡ failures_by RunFault.Read result (S.state input.old).failures }
     ensures writes { CountsWrites result (K.state output.old).failures (K.state output.new).failures }
@@ -105,20 +107,25 @@ fn perform<S: Source, K: Sink>(
             write_lines(alloc, task, &Plain, input, piece, output)
         }
         Task::List => list::list(input, piece, output),
-        Task::Render { profile } => render::render(alloc, profile, input, piece, output),
-        Task::Encode { profile } => encode::encode(alloc, profile, input, output),
+        Task::Render { profile, format } => {
+            render::render(alloc, profile, format, input, piece, output)
+        }
+        Task::Encode { profile, fitting } => {
+            encode::encode(alloc, profile, fitting, input, output)
+        }
         Task::Mend {
             profile,
             background,
             showing,
             selects,
+            fitting,
         } => {
             let mending = Mending {
                 background,
                 showing,
                 selects,
             };
-            mend::mend(alloc, profile, &mending, input, piece, output)
+            mend::mend(alloc, profile, &mending, fitting, input, piece, output)
         }
         Task::Show {
             profile,
@@ -127,21 +134,26 @@ fn perform<S: Source, K: Sink>(
             selects,
             width,
             height,
+            format,
         } => {
             let choices = show::show_choices(showing, fill, selects, width, height);
-            show::show(alloc, profile, choices, input, piece, output)
+            show::show(alloc, profile, choices, format, input, piece, output)
         }
         Task::ShowBox {
             profile,
             showing,
             fill,
             selects,
-        } => show_box::show_box(alloc, profile, showing, fill, selects, input, piece, output),
+            format,
+        } => show_box::show_box(
+            alloc, profile, showing, fill, selects, format, input, piece, output,
+        ),
         Task::ShowOn {
             named,
             background,
             area,
-        } => show_on::show_on(alloc, named, background, area, input, piece, output),
+            format,
+        } => show_on::show_on(alloc, named, background, area, format, input, piece, output),
         Task::DifferSheet { background } => {
             differ_sheet::differ_sheet(alloc, background, input, piece, output)
         }

@@ -43,29 +43,3 @@ pub fault-boxed : (profile : Profile) (terminal : Sides → Display) (sides : Si
 fault-boxed profile terminal sides bytes fault is text answer g =
     let same = show-once profile (terminal sides) bytes text [] answer (Err (Grammar fault)) g (refl, is) in
     rw (same.0, same.1) (refl, is)
-
--- ---- the sides
-
-some-then : (b : Bool) (p q : Sides) → then_some b p ≡ Some q → (b ≡ true) × (p ≡ q)
-some-then true p q e = (refl, cc)
-some-then false p q e = cc
-
-both-true : (a b : Bool) → (a && b) ≡ true → (a ≡ true) × (b ≡ true)
-both-true true b e = (refl, e)
-both-true false b e = cc
-
-sides-in : (o : Option Attributes) (width height : ℕ)
-    → option_and_then (λ (a : Attributes). sides_of_box a.width a.height) o ≡ Some (width, height)
-    → IsTrue (is_file_side width) × IsTrue (is_file_side height)
-sides-in None width height e = cc
-sides-in (Some a) width height e =
-    let s = some-then (is_file_side a.width && is_file_side a.height) (a.width, a.height) (width, height) e in
-    let t = both-true (is_file_side a.width) (is_file_side a.height) s.0 in (
-      subst (λ (p : Sides). IsTrue (is_file_side p.0)) s.1 t.0,
-      subst (λ (p : Sides). IsTrue (is_file_side p.1)) s.1 t.1,
-    )
-
-pub declared_sides : (events : List Event) (width height : ℕ) → declared_screen events ≡ Some (width, height)
-    → IsTrue (is_file_side width) × IsTrue (is_file_side height)
-unfolding declared_screen
-declared_sides events width height e = sides-in (raster_before events) width height e

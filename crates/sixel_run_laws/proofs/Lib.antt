@@ -1,4 +1,5 @@
 pub mod BoxLemmas
+pub mod FormatLemmas
 pub mod OneStringLemmas
 pub mod RoundTripLemmas
 pub mod DocumentLemmas

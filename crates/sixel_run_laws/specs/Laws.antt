@@ -1,5 +1,5 @@
 -- The laws of encoded pictures, of shown boxes and of scanned strings.
-use Rattle.std.specs.Prelude.{◌≡◌, ◌↔◌, ◌++◌, ℕ, Bool, false, List, [], Option, Some, None, Result, Ok, Err, codes, ⊤}
+use Rattle.std.specs.Prelude.{◌≡◌, ◌⊎◌, ◌↔◌, ◌++◌, ℕ, Bool, false, List, [], Option, Some, None, Result, Ok, Err, codes, ⊤}
 use Rattle.sixel_grammar.specs.Bytes.{introducer}
 use Rattle.sixel_grammar.specs.declared.command.Placed.{Placed}
 use Rattle.sixel_grammar.specs.declared.fault.Fault.{Fault}
@@ -10,6 +10,7 @@ use Rattle.sixel_grammar.specs.Faults.{IsFaultOf}
 use Rattle.sixel_model.specs.Pictures.{IsPicture, PictureValue}
 use Rattle.sixel_model.specs.declared.profile.Profile.{Profile}
 use Rattle.sixel_check.specs.Answers.{Answers}
+use Rattle.sixel_png.specs.Png.{IsPng}
 use Rattle.sixel_judge.specs.declared.verdict.Verdict.{Verdict}
 use Rattle.sixel_judge.specs.declared.verdict.Verdict.TheVariants.{Portable}
 use Rattle.sixel_judge.specs.Portable.{IsPortable}
@@ -20,9 +21,11 @@ use Rattle.sixel_report.specs.declared.fault.RunFault.{RunFault}
 use Rattle.sixel_report.specs.declared.fault.RunFault.TheVariants.{NoBox}
 use Rattle.sixel_report.specs.declared.task.Status.{Status}
 use Rattle.sixel_report.specs.declared.task.Status.TheVariants.{Done, Asked, Broken, Differing, Noted, Surveyed, Unfit}
+use Rattle.sixel_report.specs.declared.task.PictureFormat.{PictureFormat}
+use Rattle.sixel_report.specs.declared.task.PictureFormat.TheVariants.{Ppm, Png}
 use Rattle.sixel_report.specs.declared.task.Task.{Task}
 use Rattle.sixel_report.specs.declared.task.Task.TheVariants.{Check, Scan, Show, ShowBox}
-use Rattle.sixel_run.specs.Outputs.{CheckGives, Gives}
+use Rattle.sixel_run.specs.Outputs.{CheckGives, Gives, RunGives, RunWrote, format_of}
 use Rattle.sixel_report.specs.Outputs.{HasSides}
 use Rattle.sixel_show.specs.Screens.{declared_screen}
 use Rattle.sixel_report.specs.Texts.{Text, portable_line}
@@ -53,10 +56,10 @@ EncodedChecks registers = (p : PictureValue) → IsPicture registers p
 
 -- ---- boxes
 
--- both tasks give the same for the bytes
+-- runs of both tasks give the same for the bytes
 abbrev pub GiveTheSame : List ℕ → Task → Task → Type 0
 GiveTheSame bytes a b = (text : Text) (answer : Result Status RunFault)
-    → Gives a bytes text answer ↔ Gives b bytes text answer
+    → RunGives a bytes text answer ↔ RunGives b bytes text answer
 
 -- these bytes are a document that declares a screen of these sides, or none
 abbrev pub DeclaresScreen : List ℕ → Option (ℕ × ℕ) → Type 0
@@ -65,22 +68,49 @@ DeclaresScreen bytes sides =
 
 -- if a document declares a screen, its sides are allowed for `show`, and `show --box` gives what `show` gives on it
 abbrev pub BoxIsShown : Type 0
-BoxIsShown = (profile : Profile) (showing fill selects : Bool) (width height : ℕ) (bytes : List ℕ)
-    → DeclaresScreen bytes (Some (width, height))
-    → HasSides (Show profile showing fill selects width height)
-    × GiveTheSame bytes (ShowBox profile showing fill selects) (Show profile showing fill selects width height)
+BoxIsShown = (profile : Profile) (showing fill selects : Bool) (width height : ℕ) (format : PictureFormat)
+    (bytes : List ℕ) → DeclaresScreen bytes (Some (width, height))
+    → HasSides (Show profile showing fill selects width height format)
+    × GiveTheSame bytes (ShowBox profile showing fill selects format)
+    (Show profile showing fill selects width height format)
 
 -- if it declares none, `show --box` writes nothing and answers NoBox
 abbrev pub NoBoxIsShown : Type 0
-NoBoxIsShown = (profile : Profile) (showing fill selects : Bool) (bytes : List ℕ) (text : Text)
-    (answer : Result Status RunFault) → DeclaresScreen bytes None
-    → Gives (ShowBox profile showing fill selects) bytes text answer ↔ (text ≡ []) × (answer ≡ Err NoBox)
+NoBoxIsShown = (profile : Profile) (showing fill selects : Bool) (format : PictureFormat) (bytes : List ℕ)
+    (text : Text) (answer : Result Status RunFault) → DeclaresScreen bytes None
+    → RunGives (ShowBox profile showing fill selects format) bytes text answer ↔ (text ≡ []) × (answer ≡ Err NoBox)
 
 -- for bytes that are no document, `show --box` gives what `show` gives on a screen of any size
 abbrev pub FaultIsShown : Type 0
-FaultIsShown = (profile : Profile) (showing fill selects : Bool) (width height : ℕ) (bytes : List ℕ) (fault : Fault)
-    → IsFaultOf bytes fault
-    → GiveTheSame bytes (ShowBox profile showing fill selects) (Show profile showing fill selects width height)
+FaultIsShown = (profile : Profile) (showing fill selects : Bool) (width height : ℕ) (format : PictureFormat)
+    (bytes : List ℕ) (fault : Fault) → IsFaultOf bytes fault
+    → GiveTheSame bytes (ShowBox profile showing fill selects format)
+    (Show profile showing fill selects width height format)
+
+-- ---- formats
+
+-- one PNG each, of the same width, height and samples
+pub record AreOnePicture (first second : Text) : Type 0 where
+  pub width : ℕ
+  pub height : ℕ
+  pub samples : List ℕ
+  pub one : IsPng first width height samples
+  pub other : IsPng second width height samples
+
+-- two texts of a run in this format: they are the same, or PNGs of one picture
+abbrev pub AreOne : PictureFormat → Text → Text → Type 0
+AreOne Ppm first second = first ≡ second
+AreOne Png first second = (first ≡ second) ⊎ AreOnePicture first second
+
+-- two runs of a task over the same bytes, if no allocation and no device fails: they answer the same
+abbrev pub RunsGiveOnePicture : Type 0
+RunsGiveOnePicture = (task : Task) (bytes : List ℕ) (first second : Text) (a b : Result Status RunFault)
+    → RunGives task bytes first a → RunGives task bytes second b → AreOne (format_of task) first second × (a ≡ b)
+
+-- a run that has a status, and whose output was empty, wrote what a run gives
+abbrev pub RunsWriteWhatTheyGive : Type 0
+RunsWriteWhatTheyGive = (task : Task) (bytes : List ℕ) (left : Option (List ℕ)) (status : Status) (text : Text)
+    → RunWrote task bytes left (Ok status) (Some []) (Some text) → RunGives task bytes text (Ok status)
 
 -- ---- scans
 

@@ -7,21 +7,28 @@ ghost use Rattle.sixel_report.specs.declared.fault.RunFault.{RunFault};
 ghost use Rattle.sixel_report.specs.declared.task.Status.{Status};
 ghost use Rattle.sixel_report.specs.declared.task.Task.{Task};
 ghost use Rattle.sixel_run_laws.specs.Laws.{BoxIsShown, EncodedAnswers, EncodedChecks, EncodedIsPortable, FaultIsShown};
-ghost use Rattle.sixel_run_laws.specs.Laws.{NoBoxIsShown, ScanIsCheck};
+ghost use Rattle.sixel_run_laws.specs.Laws.{NoBoxIsShown, RunsGiveOnePicture, RunsWriteWhatTheyGive, ScanIsCheck};
 ghost use Rattle.sixel_scan.specs.Laws.{DocumentIsOneString};
 ghost use Rattle.sixel_run.specs.Outputs.{Gives};
 ghost use Rattle.sixel_report.specs.Texts.{Text};
 
-/// A task gives some text and answer for any bytes.
+/// A task gives some text and answer for any bytes, a picture as a PPM.
 pub fn tasks_give_an_output()
     ensures { (task : Task) (bytes : List ℕ) →
         (text : Text) × (answer : Result Status RunFault) × Gives task bytes text answer }
 {}
 
-/// A task gives one text and answer for the same bytes.
+/// A task gives one text and answer for the same bytes, a picture as a PPM.
 pub fn tasks_give_one_output()
     ensures { (task : Task) (bytes : List ℕ) (first second : Text) (a b : Result Status RunFault) →
         Gives task bytes first a → Gives task bytes second b → (first ≡ second) × (a ≡ b) }
+{}
+
+/// Runs of a task over the same bytes answer the same and, without `--png`, write the same text. With `--png` they write
+/// the same, or two PNGs of one picture. A run with a status wrote what a run gives.
+pub fn runs_give_one_picture()
+    ensures one { RunsGiveOnePicture }
+    ensures written { RunsWriteWhatTheyGive }
 {}
 
 /// The text that `encode` writes for a picture is a document. Its verdict, in the picture's profile, is that picture

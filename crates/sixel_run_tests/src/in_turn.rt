@@ -5,15 +5,37 @@ ghost use Rattle.sixel_report.specs.Outputs.{HasSides};
 use crate::runs::{Limits, run_counted};
 use sixel_check::{Finding, Rule};
 use sixel_emulator_check::{NamedFinding, NamedRule};
-use sixel_emulator_rules::Terminals;
+use sixel_emulator_rules::{AskedRules, Terminals};
+use sixel_fit::Fitting;
 use sixel_grammar::{Fault, Reason};
 use sixel_model::{Colour, Profile};
 use sixel_ppm::PpmReason;
-use sixel_report::{RuleSet, RunFault, Status, Task};
+use sixel_report::{PictureFormat, RuleSet, RunFault, Status, Task};
 use std::alloc::Global;
 
+/// No rule is ignored.
+const NO_RULES: AskedRules = AskedRules {
+    raster_late: false,
+    dropped: false,
+    stale: false,
+    large: false,
+    rows: false,
+    past: false,
+    hue: false,
+    far: false,
+    introducer: false,
+    bare: false,
+    space_after: false,
+};
+
 /// No named terminal.
-const NO_TERMINALS: Terminals = Terminals::none();
+const NO_TERMINALS: Terminals = Terminals {
+    xterm: false,
+    mlterm: false,
+    foot: false,
+    konsole: false,
+    ignored: NO_RULES,
+};
 
 const CHECK: Task = Task::Check {
     profile: Profile::Registers16,
@@ -32,14 +54,12 @@ const SURVEY: Task = Task::Survey {
 
 const RENDER: Task = Task::Render {
     profile: Profile::Registers16,
+    format: PictureFormat::Ppm,
 };
 
 const WIDE_RENDER: Task = Task::Render {
     profile: Profile::Registers256,
-};
-
-const ENCODE: Task = Task::Encode {
-    profile: Profile::Registers16,
+    format: PictureFormat::Ppm,
 };
 
 /// A screen of one pixel.
@@ -50,6 +70,7 @@ const WIDE_SCREEN: Task = Task::Show {
     selects: false,
     width: 1,
     height: 1,
+    format: PictureFormat::Ppm,
 };
 
 /// A screen with the sides of the declared box.
@@ -58,6 +79,7 @@ const SHOW_BOX: Task = Task::ShowBox {
     showing: false,
     fill: false,
     selects: false,
+    format: PictureFormat::Ppm,
 };
 
 /// What a task reads, and what it writes and answers if no device fails.
@@ -347,6 +369,14 @@ fn all_stop(alloc: Global, task: &Task, cases: &[Case]) -> bool
     true
 }
 
+/// For no named terminal.
+fn for_none() -> Fitting {
+    Fitting {
+        terminals: NO_TERMINALS,
+        pad: Colour::of_percentages(0, 0, 0),
+    }
+}
+
 #[test]
 fn each_call_of_a_device_fails(rt: HostRuntime) {
     let alloc = rt.alloc();
@@ -354,7 +384,11 @@ fn each_call_of_a_device_fails(rt: HostRuntime) {
     assert!(rt; all_stop(alloc, &CHECK, &[CHECKED, UNCOVERED, FAULT]));
     assert!(rt; all_stop(alloc, &SURVEY, &[CHECKED, three(), FAULT]));
     assert!(rt; all_stop(alloc, &RENDER, &[RENDERED, FAULT]));
-    assert!(rt; all_stop(alloc, &ENCODE, &ENCODED));
+    let encode = Task::Encode {
+        profile: Profile::Registers16,
+        fitting: for_none(),
+    };
+    assert!(rt; all_stop(alloc, &encode, &ENCODED));
     assert!(rt; all_stop(alloc, &SHOW_BOX, &[RENDERED, FAULT]));
     assert!(rt; all_stop(alloc, &SHOW_BOX, &BOXED));
     let mend = Task::Mend {
@@ -362,6 +396,7 @@ fn each_call_of_a_device_fails(rt: HostRuntime) {
         background: Colour::of_percentages(0, 0, 0),
         showing: false,
         selects: false,
+        fitting: for_none(),
     };
     assert!(rt; all_stop(alloc, &mend, &MENDED));
     assert!(rt; all_stop(alloc, &mend, &[FAULT]));

@@ -1,6 +1,10 @@
 -- Lemmas for a run of `show --box`.
-use Rattle.std.proofs.Common.{◌≡◌, ◌∙◌, ℕ, List, [], Option, Some, None, refl, sym, ap, subst, inl, inr}
-use Rattle.std.specs.Prelude.{Result, Ok, Err}
+use Rattle.std.proofs.Common.{◌≡◌, ◌∙◌, ℕ, Bool, true, false, List, [], Option, Some, None, refl, sym, ap, subst, inl, inr}
+use Rattle.std.specs.Prelude.{◌&&◌, option_and_then, IsTrue, Result, Ok, Err}
+use Rattle.std.specs.Bool.{then_some}
+use Rattle.std.proofs.lemmas.Bool.{and_parts}
+use Rattle.sixel_io.proofs.SinkLemmas.{Appends-none}
+use Rattle.sixel_grammar.specs.declared.command.Event.{Event}
 use Rattle.sixel_grammar.specs.declared.command.Placed.{Placed}
 use Rattle.sixel_grammar.specs.declared.fault.Fault.{Fault}
 use Rattle.sixel_grammar.specs.Document.{Document, events_of}
@@ -8,13 +12,18 @@ use Rattle.sixel_grammar.specs.Faults.{IsFaultOf}
 use Rattle.sixel_grammar.proofs.TotalLemmas.{judged}
 use Rattle.sixel_grammar.proofs.UniqueLemmas.{document_once, fault_no_document, fault_once}
 use Rattle.sixel_model.specs.declared.profile.Profile.{Profile}
+use Rattle.sixel_model.specs.Events.{Attributes}
+use Rattle.sixel_model.specs.Rules.{raster_before}
+use Rattle.sixel_ppm.specs.Ppm.{is_file_side}
 use Rattle.sixel_terminal.specs.Displays.{Display}
 use Rattle.sixel_report.specs.declared.fault.RunFault.{RunFault}
 use Rattle.sixel_report.specs.declared.fault.RunFault.TheVariants.{Grammar, NotRgb, NoBox, OutOfMemory, Read, Write}
+use Rattle.sixel_report.specs.declared.task.PictureFormat.{PictureFormat}
 use Rattle.sixel_report.specs.declared.task.Status.{Status}
+use Rattle.sixel_report.proofs.FormatLemmas.{as_mapped, as_nothing}
 use Rattle.sixel_show.specs.Outputs.{ShowBoxGives, ShowGives}
-use Rattle.sixel_report.specs.Outputs.{WroteBy, WroteNothing}
-use Rattle.sixel_show.specs.Screens.{declared_screen}
+use Rattle.sixel_report.specs.Outputs.{WroteBy, WroteNothing, WrotePicture}
+use Rattle.sixel_show.specs.Screens.{declared_screen, sides_of_box}
 use Rattle.sixel_report.specs.Texts.{Text}
 use Rattle.sixel_show.proofs.ScreenLemmas.{show-gives, show-once}
 
@@ -136,14 +145,55 @@ box-gives profile terminal bytes =
 -- ---- the text written
 
 -- if `show` on a screen of that size wrote this, `show --box` did too
-pub written-boxed : (profile : Profile) (terminal : Sides → Display) (bytes : List ℕ) (d : List Placed) (sides : Sides)
+ppm_boxed : (profile : Profile) (terminal : Sides → Display) (bytes : List ℕ) (d : List Placed) (sides : Sides)
     (answer : Result Status RunFault) (had has : Option (List ℕ)) → Document d bytes
     → declared_screen (events_of d) ≡ Some sides
     → WroteBy (ShowGives profile (terminal sides) bytes) WroteNothing answer had has
     → WroteBy (ShowBoxGives profile terminal bytes) WroteNothing answer had has
-written-boxed profile terminal bytes d sides (Err OutOfMemory) had has doc is w = w
-written-boxed profile terminal bytes d sides (Err Read) had has doc is w = w
-written-boxed profile terminal bytes d sides (Err Write) had has doc is w =
+ppm_boxed profile terminal bytes d sides (Err OutOfMemory) had has doc is w = w
+ppm_boxed profile terminal bytes d sides (Err Read) had has doc is w = w
+ppm_boxed profile terminal bytes d sides (Err Write) had has doc is w =
     (w.0, w.1, λ text answer g. w.2 text answer (unboxed profile terminal bytes d sides doc is text answer g))
-written-boxed profile terminal bytes d sides answer had has doc is w =
+ppm_boxed profile terminal bytes d sides answer had has doc is w =
     (w.0, boxed profile terminal bytes d sides doc is w.0 answer w.1, w.2)
+
+pub written-boxed : (format : PictureFormat) (profile : Profile) (terminal : Sides → Display) (bytes : List ℕ)
+    (d : List Placed) (sides : Sides) (answer : Result Status RunFault) (had has : Option (List ℕ)) → Document d bytes
+    → declared_screen (events_of d) ≡ Some sides
+    → WrotePicture format (ShowGives profile (terminal sides) bytes) answer had has
+    → WrotePicture format (ShowBoxGives profile terminal bytes) answer had has
+written-boxed format profile terminal bytes d sides answer had has doc is w =
+    as_mapped (ShowGives profile (terminal sides) bytes) (ShowBoxGives profile terminal bytes) WroteNothing WroteNothing
+    WroteNothing WroteNothing format answer had has
+    (λ a b. ppm_boxed profile terminal bytes d sides answer a b doc is) w
+
+-- nothing is written if no box is declared
+pub unboxed_written : (format : PictureFormat) (profile : Profile) (terminal : Sides → Display) (bytes : List ℕ)
+    (d : List Placed) (had : Option (List ℕ)) → Document d bytes → declared_screen (events_of d) ≡ None
+    → WrotePicture format (ShowBoxGives profile terminal bytes) (Err NoBox) had had
+unboxed_written format profile terminal bytes d had doc none =
+    as_nothing (ShowBoxGives profile terminal bytes) WroteNothing WroteNothing format (Err NoBox) had
+    (λ same. ([], (refl, (d, doc, none)), Appends-none same))
+
+-- ---- the sides
+
+some-then : (b : Bool) (p q : Sides) → then_some b p ≡ Some q → (b ≡ true) × (p ≡ q)
+some-then true p q e = (refl, cc)
+some-then false p q e = cc
+
+sides-in : (o : Option Attributes) (sides : Sides)
+    → option_and_then (λ (a : Attributes). sides_of_box a.width a.height) o ≡ Some sides
+    → IsTrue (is_file_side sides.0) × IsTrue (is_file_side sides.1)
+sides-in None sides e = cc
+sides-in (Some a) sides e =
+    let s = some-then (is_file_side a.width && is_file_side a.height) (a.width, a.height) sides e in
+    let t = and_parts (is_file_side a.width) (is_file_side a.height) s.0 in (
+      subst (λ (p : Sides). IsTrue (is_file_side p.0)) s.1 t.0,
+      subst (λ (p : Sides). IsTrue (is_file_side p.1)) s.1 t.1,
+    )
+
+-- those that a document declares are in range
+pub declared_sides : (events : List Event) (sides : Sides) → declared_screen events ≡ Some sides
+    → IsTrue (is_file_side sides.0) × IsTrue (is_file_side sides.1)
+unfolding declared_screen
+declared_sides events sides e = sides-in (raster_before events) sides e

@@ -1,6 +1,6 @@
 -- A document that konsole draws while it is read.
-use Rattle.std.proofs.Common.{◌≡◌, ◌∙◌, ◌++◌, [], ℕ, List, ap, refl, subst, sym}
-use Rattle.std.specs.Prelude.{Result, Err}
+use Rattle.std.proofs.Common.{◌≡◌, ◌≢◌, ◌∙◌, ◌++◌, [], ℕ, List, ap, refl, subst, sym}
+use Rattle.std.specs.Prelude.{Result, Ok, Err}
 use Rattle.std.specs.declared.convert.Infallible.{Infallible}
 use Rattle.sixel_grammar.specs.declared.command.Event.{Event}
 use Rattle.sixel_grammar.specs.declared.command.Placed.{Placed}
@@ -30,7 +30,7 @@ use Rattle.sixel_report.specs.declared.fault.RunFault.{RunFault}
 use Rattle.sixel_report.specs.declared.fault.RunFault.TheVariants.{Grammar, NoBox, OutOfMemory, Read, Unmodelled, Write}
 use Rattle.sixel_show.specs.declared.on_konsole.Kept.{Kept}
 use Rattle.sixel_report.specs.declared.task.Area.{Area}
-use Rattle.sixel_report.specs.declared.task.Status.{Status}
+use Rattle.sixel_terminal.specs.Screens.{Shown}
 use Rattle.sixel_show.specs.declared.on_konsole.KonsoleBytes.{KonsoleBytes}
 use Rattle.sixel_show.specs.NamedScreens.{HasDrawnPieces, HasTakenOnKonsole, IsDrawnOf, OnKonsole, ShowsIn, Suffices}
 use Rattle.sixel_report.specs.Outputs.{failures_by}
@@ -104,13 +104,13 @@ is_drawn first konsole start now reader bytes is d document followed measured ke
           (d.suffices measured kept);
     }
 
--- if a screen is refused, no device failed
-pub no_device : (named : Named) (background : Parts) (area : Area) (bytes : List ℕ) (fault : RunFault)
-    (n : ℕ) → ShowsIn named background area bytes (Err fault)
-    → (failures_by {A = Status} Read (Err fault) n ≡ n) × (failures_by {A = Status} Write (Err fault) n ≡ n)
-    × (◌≡◌ {A = Result Status RunFault} (Err fault) (Err Read) → ⊥)
-no_device named background area bytes (Grammar f) n g = (refl, refl, λ is. cc)
-no_device named background area bytes (Unmodelled place) n g = (refl, refl, λ is. cc)
-no_device named background area bytes NoBox n g = (refl, refl, λ is. cc)
-no_device named background area bytes OutOfMemory n g = (refl, refl, λ is. cc)
-no_device named background area bytes _ n g = absurd g
+-- whether there is a screen or not, no device failed
+pub no_device : (named : Named) (background : Parts) (area : Area) (bytes : List ℕ) (result : Result Shown RunFault)
+    (n : ℕ) → ShowsIn named background area bytes result
+    → (failures_by Read result n ≡ n) × (result ≢ Err Read) × (result ≢ Err Write)
+no_device named background area bytes (Ok screen) n g = (refl, λ is. cc, λ is. cc)
+no_device named background area bytes (Err (Grammar f)) n g = (refl, λ is. cc, λ is. cc)
+no_device named background area bytes (Err (Unmodelled place)) n g = (refl, λ is. cc, λ is. cc)
+no_device named background area bytes (Err NoBox) n g = (refl, λ is. cc, λ is. cc)
+no_device named background area bytes (Err OutOfMemory) n g = (refl, λ is. cc, λ is. cc)
+no_device named background area bytes (Err other) n g = absurd g

@@ -1,11 +1,12 @@
 -- Lemmas for a run of `show`.
 use Rattle.std.proofs.Common.{◌≡◌, ◌∙◌, ℕ, ◌+◌, Bool, true, false, List, [], ◌∷◌, ◌++◌, map, take, drop, arith, refl}
-use Rattle.std.proofs.Common.{sym, ap, subst, inl, inr}
+use Rattle.std.proofs.Common.{sym, ap, ap₂, subst, inl, inr, length, ◌*◌}
 use Rattle.std.specs.Prelude.{Result, Ok, Err, IsTrue, IsFalse, if◌then◌else◌}
 use Rattle.std.specs.Io.KnownBytes.{Appends}
 use Rattle.std.specs.List.{range_with_len}
 use Rattle.std.proofs.lemmas.List.{take-append-drop}
 use Rattle.std.proofs.lemmas.List.FromFn.{map-range_with_len_more}
+use Rattle.sixel_grammar.specs.declared.command.Event.{Event}
 use Rattle.sixel_grammar.specs.declared.command.Placed.{Placed}
 use Rattle.sixel_grammar.specs.declared.fault.Fault.{Fault}
 use Rattle.sixel_grammar.specs.Faults.{IsFaultOf}
@@ -13,20 +14,24 @@ use Rattle.sixel_grammar.specs.Document.{Document, events_of}
 use Rattle.sixel_grammar.proofs.TotalLemmas.{judged}
 use Rattle.sixel_grammar.proofs.UniqueLemmas.{document_once, fault_no_document, fault_once}
 use Rattle.sixel_model.specs.declared.colour.Parts.{Parts}
-use Rattle.sixel_ppm.specs.declared.ppm.PpmFault.{PpmFault}
-use Rattle.sixel_ppm.specs.declared.ppm.PpmFault.TheVariants as ppm
-use Rattle.sixel_ppm.specs.Ppm.{WritesPpm, are_rgb, ppm_text}
+use Rattle.sixel_model.proofs.GridLemmas.{length_rows}
+use Rattle.sixel_ppm.specs.Ppm.{are_rgb, is_file_side, ppm_text}
+use Rattle.sixel_screen.specs.Whole.{IsWhole}
+use Rattle.sixel_terminal.specs.declared.choices.Choices.{Choices}
 use Rattle.sixel_terminal.specs.Displays.{Display}
-use Rattle.sixel_terminal.specs.Drawing.{screen_on}
+use Rattle.sixel_terminal.specs.Drawing.{screen_on, shown_on}
+use Rattle.sixel_terminal.specs.Screens.{IsScreenAfter, Shown as Screen}
 use Rattle.sixel_report.specs.declared.fault.RunFault.{RunFault}
-use Rattle.sixel_report.specs.declared.fault.RunFault.TheVariants.{Grammar, NotRgb}
+use Rattle.sixel_report.specs.declared.fault.RunFault.TheVariants.{Grammar, NotRgb, Write}
 use Rattle.sixel_report.specs.declared.task.Status.{Status}
-use Rattle.sixel_report.specs.Conversions.{of_ppm}
+use Rattle.sixel_report.specs.declared.task.PictureFormat.{PictureFormat}
+use Rattle.sixel_report.specs.declared.task.PictureFormat.TheVariants.{Ppm}
+use Rattle.sixel_report.proofs.FormatLemmas.{as_unwritten, as_written}
 use Rattle.sixel_show.specs.Outputs.{ShowGives}
-use Rattle.sixel_report.specs.Outputs.{WroteBy, WroteNothing}
+use Rattle.sixel_report.specs.Outputs.{WritesFile, WroteBy, WroteNothing, WrotePicture}
 use Rattle.sixel_model.specs.declared.profile.Profile.{Profile}
 use Rattle.sixel_show.specs.Notes.{shown_status}
-use Rattle.sixel_show.specs.Screens.{grey, percent_at, screen_text}
+use Rattle.sixel_show.specs.Screens.{grey, percent_at, screen_text, show_terminal}
 use Rattle.sixel_report.specs.Texts.{Text, BeginsWith}
 use Rattle.sixel_io.specs.Devices.{SinkState}
 use Rattle.sixel_report.proofs.OutputLemmas.{both_are, nothing-written}
@@ -109,34 +114,71 @@ written-begins profile t bytes d n doc rgb text answer g =
       same ∙ sym (take-append-drop n (screen_text t (events_of d))),
     )
 
-pub written : {A : Type 0} (profile : Profile) (t : Display) (bytes : List ℕ) (d : List Placed) (status : Status)
+ppm_written : {A : Type 0} (profile : Profile) (t : Display) (bytes : List ℕ) (d : List Placed) (status : Status)
     (had has : SinkState) (colours : List Parts) (x : A) → Document d bytes → colours ≡ screen_on t (events_of d)
     → status ≡ shown_status profile (events_of d)
-    → WritesPpm {A = A} (Ok x) had has t.choices.screen_width t.choices.screen_height colours
+    → WritesFile {A = A} Ppm (Ok x) had has t.choices.screen_width t.choices.screen_height colours
     → WroteBy (ShowGives profile t bytes) WroteNothing (Ok status) had.taken has.taken
 unfolding screen_text
-written profile t bytes d status had has colours x doc is noted put =
+ppm_written profile t bytes d status had has colours x doc is noted put =
     let w = t.choices.screen_width in let h = t.choices.screen_height in (
       screen_text t (events_of d),
       (d, doc, subst (λ (cs : List Parts). IsTrue (are_rgb cs)) is put.0, refl, noted),
       subst (λ (cs : List Parts). Appends had.taken has.taken (ppm_text w h cs)) is put.1.taken,
     )
 
-pub unwritten : (A : Type 0) (profile : Profile) (t : Display) (bytes : List ℕ) (d : List Placed) (had has : SinkState)
-    (colours : List Parts) (fault : PpmFault) → Document d bytes → colours ≡ screen_on t (events_of d)
-    → WritesPpm {A = A} (Err fault) had has t.choices.screen_width t.choices.screen_height colours
-    → WroteBy (ShowGives profile t bytes) WroteNothing (Err (of_ppm fault)) had.taken has.taken
+pub written : {A : Type 0} (format : PictureFormat) (profile : Profile) (t : Display) (bytes : List ℕ)
+    (d : List Placed) (status : Status) (had has : SinkState) (colours : List Parts) (x : A) → Document d bytes
+    → colours ≡ screen_on t (events_of d) → status ≡ shown_status profile (events_of d)
+    → WritesFile {A = A} format (Ok x) had has t.choices.screen_width t.choices.screen_height colours
+    → WrotePicture format (ShowGives profile t bytes) (Ok status) had.taken has.taken
+written format profile t bytes d status had has colours x doc is noted put =
+    as_written (ShowGives profile t bytes) WroteNothing WroteNothing format x status had has t.choices.screen_width
+    t.choices.screen_height colours (λ a b. ppm_written profile t bytes d status a b colours x doc is noted) put
+
+ppm_unwritten : (A : Type 0) (profile : Profile) (t : Display) (bytes : List ℕ) (d : List Placed) (had has : SinkState)
+    (colours : List Parts) (fault : RunFault) → Document d bytes → colours ≡ screen_on t (events_of d)
+    → WritesFile {A = A} Ppm (Err fault) had has t.choices.screen_width t.choices.screen_height colours
+    → WroteBy (ShowGives profile t bytes) WroteNothing (Err fault) had.taken has.taken
 unfolding screen_text
-unwritten A profile t bytes d had has colours ppm.Write doc is put =
+ppm_unwritten A profile t bytes d had has colours Write doc is put =
     let w = t.choices.screen_width in let h = t.choices.screen_height in
     let rgb = subst (λ (cs : List Parts). IsTrue (are_rgb cs)) is put.0 in (
       take put.1.taken.0 (screen_text t (events_of d)),
       subst (λ (cs : List Parts). Appends had.taken has.taken (take put.1.taken.0 (ppm_text w h cs))) is put.1.taken.1,
       written-begins profile t bytes d put.1.taken.0 doc rgb,
     )
-unwritten A profile t bytes d had has colours ppm.NotRgb doc is put = (
+ppm_unwritten A profile t bytes d had has colours NotRgb doc is put = (
   [],
   (refl, (d, doc, subst (λ (cs : List Parts). IsFalse (are_rgb cs)) is put.0)),
   nothing-written had has put.1,
 )
-unwritten A profile t bytes d had has colours _ doc is put = absurd put
+ppm_unwritten A profile t bytes d had has colours _ doc is put = absurd put
+
+pub unwritten : (A : Type 0) (format : PictureFormat) (profile : Profile) (t : Display) (bytes : List ℕ)
+    (d : List Placed) (had has : SinkState) (colours : List Parts) (fault : RunFault) → Document d bytes
+    → colours ≡ screen_on t (events_of d)
+    → WritesFile {A = A} format (Err fault) had has t.choices.screen_width t.choices.screen_height colours
+    → WrotePicture format (ShowGives profile t bytes) (Err fault) had.taken has.taken
+unwritten A format profile t bytes d had has colours fault doc is put =
+    as_unwritten (ShowGives profile t bytes) WroteNothing WroteNothing A format fault had has t.choices.screen_width
+    t.choices.screen_height colours (λ a b. ppm_unwritten A profile t bytes d a b colours fault doc is) put
+
+-- ---- the sides
+
+-- a screen with sides in range has the pixels of its sides
+pub whole_after : (t : Display) (screen : Screen) (events : List Event) → IsScreenAfter t screen events
+    → IsTrue (is_file_side t.choices.screen_width) → IsTrue (is_file_side t.choices.screen_height) → IsWhole screen
+unfolding screen_on
+whole_after t screen events is wide high = record {
+  wide = subst (λ (n : ℕ). IsTrue (is_file_side n)) (sym is.width) wide;
+  high = subst (λ (n : ℕ). IsTrue (is_file_side n)) (sym is.height) high;
+  pixels = ap (λ (cs : List Parts). length cs) is.colours
+      ∙ length_rows t.choices.screen_width t.choices.screen_height (shown_on t events)
+      ∙ ap₂ (λ (w h : ℕ). w * h) (sym is.width) (sym is.height);
+}
+
+-- the terminal has the sides that are chosen
+pub show_sides : (profile : Profile) (choices : Choices) → (show_terminal profile choices).choices ≡ choices
+unfolding show_terminal
+show_sides profile choices = refl

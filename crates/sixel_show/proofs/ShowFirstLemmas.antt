@@ -7,7 +7,6 @@ use Rattle.std.proofs.Math.Seq.{take-append-add}
 use borrow.Rule.Slice.PartMut.{put_mid}
 use Rattle.std.specs.Prelude.{Result, Ok, Err, IfSome}
 use Rattle.std.specs.Io.KnownBytes.{Keeps}
-use Rattle.sixel_io.proofs.SinkLemmas.{Appends-none}
 use Rattle.sixel_grammar.specs.declared.command.Event.{Event}
 use Rattle.sixel_grammar.specs.declared.command.Placed.{Placed}
 use Rattle.sixel_grammar.specs.declared.reader.Reader.{Reader}
@@ -21,16 +20,13 @@ use Rattle.sixel_named_terminals.specs.declared.named.Named.{Named}
 use Rattle.sixel_named_terminals.specs.declared.named.Named.TheVariants.{Konsole}
 use Rattle.sixel_grammar.specs.FirstPiece.{with_first}
 use Rattle.sixel_report.specs.declared.fault.RunFault.{RunFault}
-use Rattle.sixel_report.specs.declared.fault.RunFault.TheVariants.{Grammar, NotRgb, NoBox, OutOfMemory, Read}
-use Rattle.sixel_report.specs.declared.fault.RunFault.TheVariants.{Unmodelled, Write}
+use Rattle.sixel_report.specs.declared.fault.RunFault.TheVariants.{Grammar, NoBox, OutOfMemory, Read, Unmodelled}
 use Rattle.sixel_report.specs.declared.task.Area.{Area}
 use Rattle.sixel_report.specs.declared.task.Area.TheVariants as area
-use Rattle.sixel_report.specs.declared.task.Status.{Status}
 use Rattle.sixel_show.specs.Boxes.{box_in}
-use Rattle.sixel_show.specs.NamedScreens.{HasSidesAfter}
-use Rattle.sixel_show.specs.Outputs.{ShowOnGives, sides_in}
-use Rattle.sixel_report.specs.Outputs.{WroteBy, WroteNothing}
-use Rattle.sixel_report.specs.Texts.{Text}
+use Rattle.sixel_show.specs.NamedScreens.{HasSidesAfter, ShowsRead}
+use Rattle.sixel_show.specs.Outputs.{sides_in}
+use Rattle.sixel_terminal.specs.Screens.{Shown}
 use Rattle.sixel_show.proofs.StageLemmas.{FindsBox, screen-in}
 
 abbrev Sides : Type 0
@@ -43,10 +39,10 @@ unread_all None b kept = tt
 unread_all (Some bytes) None kept = absurd kept
 unread_all (Some bytes) (Some left) kept = ([], sym kept, omega arith, ([], complete NothingYet nothing))
 
-pub nothing_shown : (named : Named) (background : Parts) (asked : Area) (a had : Option (List ℕ))
-    → IfSome a (λ bytes. WroteBy (ShowOnGives named background asked bytes) WroteNothing (Err Read) had had)
-nothing_shown named background asked None had = tt
-nothing_shown named background asked (Some bytes) had = Appends-none had
+pub nothing_shown : (named : Named) (background : Parts) (asked : Area) (a : Option (List ℕ))
+    → IfSome a (λ bytes. ShowsRead named background asked bytes (Err Read))
+nothing_shown named background asked None = tt
+nothing_shown named background asked (Some bytes) = tt
 
 -- ---- a second call, behind the bytes of the first
 
@@ -77,61 +73,40 @@ abbrev HaveSameSides : Area → Area → List ℕ → Type 0
 HaveSameSides a b bytes =
     (placed : List Placed) → Document placed bytes → sides_in b (events_of placed) ≡ sides_in a (events_of placed)
 
-same_output : (named : Named) (background : Parts) (a b : Area) (bytes : List ℕ) → HaveSameSides a b bytes
-    → (text : Text) (answer : Result Status RunFault) → ShowOnGives named background a bytes text answer
-    → ShowOnGives named background b bytes text answer
-same_output named background a b bytes same text (Ok s) g = (g.0, g.1, (g.2.0, same g.0 g.1 ∙ g.2.1, g.2.2))
-same_output named background a b bytes same text (Err NotRgb) g =
-    (g.0, (g.1.0, g.1.1, (g.1.2.0, same g.1.0 g.1.1 ∙ g.1.2.1, g.1.2.2)))
-same_output named background a b bytes same text (Err (Unmodelled place)) g = g
-same_output named background a b bytes same text (Err NoBox) g =
-    (g.0, (g.1.0, g.1.1, g.1.2, same g.1.0 g.1.1 ∙ g.1.3))
-same_output named background a b bytes same text (Err (Grammar f)) g = g
-same_output named background a b bytes same text (Err other) g = absurd g
-
-same_written : (named : Named) (background : Parts) (a b : Area) (bytes : List ℕ) (answer : Result Status RunFault)
-    (had has : Option (List ℕ)) → HaveSameSides a b bytes
-    → WroteBy (ShowOnGives named background a bytes) WroteNothing answer had has
-    → WroteBy (ShowOnGives named background b bytes) WroteNothing answer had has
-same_written named background a b bytes (Err OutOfMemory) had has same w = w
-same_written named background a b bytes (Err Read) had has same w = w
-same_written named background a b bytes (Err Write) had has same w = (
-  w.0,
-  w.1,
-  λ text answer g.
-      w.2 text answer
-      (same_output named background b a bytes (λ placed doc. sym (same placed doc)) text answer g),
-)
-same_written named background a b bytes answer had has same w =
-    (w.0, same_output named background a b bytes same w.0 answer w.1, w.2)
+same_shown : (named : Named) (background : Parts) (a b : Area) (bytes : List ℕ) (result : Result Shown RunFault)
+    → HaveSameSides a b bytes → ShowsRead named background a bytes result → ShowsRead named background b bytes result
+same_shown named background a b bytes (Ok screen) same g = (g.0, g.1, (g.2.0, same g.0 g.1 ∙ g.2.1, g.2.2))
+same_shown named background a b bytes (Err (Unmodelled place)) same g = g
+same_shown named background a b bytes (Err NoBox) same g = (g.0, g.1, g.2, same g.0 g.1 ∙ g.3)
+same_shown named background a b bytes (Err (Grammar f)) same g = g
+same_shown named background a b bytes (Err OutOfMemory) same g = tt
+same_shown named background a b bytes (Err Read) same g = tt
+same_shown named background a b bytes (Err other) same g = absurd g
 
 sides_known : (asked : Area) (first rest : List ℕ) (sides : Sides) → HasSidesAfter asked first sides
     → HaveSameSides (area.Sides sides.0 sides.1) asked (first ++ rest)
 sides_known asked first rest sides known = λ placed doc. known placed rest doc
 
--- what is written on a screen of these sides
+-- what is shown on a screen of these sides
 pub on_known_sides : (named : Named) (background : Parts) (asked : Area) (piece : List ℕ) (read : ℕ)
-    (left : Option (List ℕ)) (sides : Sides) (answer : Result Status RunFault) (had has : Option (List ℕ))
+    (left : Option (List ℕ)) (sides : Sides) (result : Result Shown RunFault)
     → HasSidesAfter asked (take read piece) sides
     → IfSome (with_first piece read left) (λ bytes.
-    WroteBy (ShowOnGives named background (area.Sides sides.0 sides.1) bytes) WroteNothing answer had has)
-    → IfSome (with_first piece read left) (λ bytes.
-    WroteBy (ShowOnGives named background asked bytes) WroteNothing answer had has)
+    ShowsRead named background (area.Sides sides.0 sides.1) bytes result)
+    → IfSome (with_first piece read left) (λ bytes. ShowsRead named background asked bytes result)
 unfolding with_first
-on_known_sides named background asked piece read None sides answer had has known w = tt
-on_known_sides named background asked piece read (Some rest) sides answer had has known w =
-    same_written named background (area.Sides sides.0 sides.1) asked (take read piece ++ rest) answer had has
+on_known_sides named background asked piece read None sides result known w = tt
+on_known_sides named background asked piece read (Some rest) sides result known w =
+    same_shown named background (area.Sides sides.0 sides.1) asked (take read piece ++ rest) result
     (sides_known asked (take read piece) rest sides known) w
 
 -- the same on konsole
 pub on_konsole_sides : (named : Named) (background : Parts) (asked : Area) (piece : List ℕ) (read : ℕ)
-    (left : Option (List ℕ)) (sides : Sides) (answer : Result Status RunFault) (had has : Option (List ℕ))
+    (left : Option (List ℕ)) (sides : Sides) (result : Result Shown RunFault)
     → named ≡ Konsole → HasSidesAfter asked (take read piece) sides
     → IfSome (with_first piece read left) (λ bytes.
-    WroteBy (ShowOnGives Konsole background (area.Sides sides.0 sides.1) bytes) WroteNothing answer had has)
-    → IfSome (with_first piece read left) (λ bytes.
-    WroteBy (ShowOnGives named background asked bytes) WroteNothing answer had has)
-on_konsole_sides named background asked piece read left sides answer had has is known w =
-    subst (λ (n : Named). IfSome (with_first piece read left) (λ bytes.
-    WroteBy (ShowOnGives n background asked bytes) WroteNothing answer had has)) (sym is)
-    (on_known_sides Konsole background asked piece read left sides answer had has known w)
+    ShowsRead Konsole background (area.Sides sides.0 sides.1) bytes result)
+    → IfSome (with_first piece read left) (λ bytes. ShowsRead named background asked bytes result)
+on_konsole_sides named background asked piece read left sides result is known w =
+    subst (λ (n : Named). IfSome (with_first piece read left) (λ bytes. ShowsRead n background asked bytes result))
+    (sym is) (on_known_sides Konsole background asked piece read left sides result known w)

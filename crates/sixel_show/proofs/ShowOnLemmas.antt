@@ -1,5 +1,5 @@
 -- Lemmas for a run of `show --on`.
-use Rattle.std.proofs.Common.{◌≡◌, ◌∙◌, ℕ, Bool, true, false, List, [], take, drop, Option}
+use Rattle.std.proofs.Common.{◌≡◌, ◌≢◌, ◌∙◌, ℕ, Bool, true, false, List, [], take, drop, Option}
 use Rattle.std.proofs.Common.{Some, None, refl, sym, ap, ap₂, subst, inl, inr}
 use Rattle.std.specs.Prelude.{Result, Ok, Err, IfSome, IsTrue, if◌then◌else◌}
 use Rattle.std.proofs.lemmas.List.{take-append-drop}
@@ -16,9 +16,8 @@ use Rattle.sixel_grammar.specs.Reading.{Explains}
 use Rattle.sixel_grammar.proofs.TotalLemmas.{judged}
 use Rattle.sixel_grammar.proofs.UniqueLemmas.{document_once, fault_no_document, fault_once}
 use Rattle.sixel_model.specs.declared.colour.Parts.{Parts}
-use Rattle.sixel_ppm.specs.declared.ppm.PpmFault.{PpmFault}
-use Rattle.sixel_ppm.specs.declared.ppm.PpmFault.TheVariants as ppm
-use Rattle.sixel_ppm.specs.Ppm.{WritesPpm, are_rgb, ppm_text}
+use Rattle.sixel_ppm.specs.Ppm.{are_rgb, is_file_side, ppm_text}
+use Rattle.sixel_screen.specs.Whole.{IsWhole}
 use Rattle.sixel_terminal.specs.Screens.{Shown}
 use Rattle.sixel_named_terminals.specs.declared.named.Named.{Named}
 use Rattle.sixel_named_terminals.specs.declared.named.Named.TheVariants.{XTerm, MlTerm, Foot, Konsole}
@@ -30,17 +29,21 @@ use Rattle.sixel_emulator.specs.Readings.{EndsAt, IsSaid}
 use Rattle.sixel_named_terminals.proofs.NamedLemmas.{ends_somewhere, one_end, said_does_not_end}
 use Rattle.sixel_named_terminals.proofs.NamedLemmas.{said_or_ends, screen_once, shows_or_ends}
 use Rattle.sixel_report.specs.declared.fault.RunFault.{RunFault}
-use Rattle.sixel_report.specs.declared.fault.RunFault.TheVariants.{Grammar, NotRgb, NoBox, OutOfMemory, Unmodelled}
+use Rattle.sixel_report.specs.declared.fault.RunFault.TheVariants.{Grammar, NotRgb, NoBox, OutOfMemory, Read, Unmodelled, Write}
 use Rattle.sixel_report.specs.declared.task.Area.{Area}
 use Rattle.sixel_report.specs.declared.task.Status.{Status}
 use Rattle.sixel_report.specs.declared.task.Status.TheVariants.{Done}
-use Rattle.sixel_report.specs.Conversions.{of_input, of_ppm, of_show}
-use Rattle.sixel_show.specs.NamedScreens.{ShowsIn}
+use Rattle.sixel_report.specs.declared.task.PictureFormat.{PictureFormat}
+use Rattle.sixel_report.specs.declared.task.PictureFormat.TheVariants.{Ppm}
+use Rattle.sixel_report.specs.Conversions.{of_input, of_show}
+use Rattle.sixel_report.proofs.FormatLemmas.{as_nothing, as_unwritten, as_written}
+use Rattle.sixel_show.specs.NamedScreens.{ShowsIn, ShowsRead}
 use Rattle.sixel_show.specs.Outputs.{ShowOnGives, sides_in}
-use Rattle.sixel_report.specs.Outputs.{WroteBy, WroteNothing}
+use Rattle.sixel_report.specs.Outputs.{HasSidesIn, WritesFile, WroteBy, WroteNothing, WrotePicture, failures_by}
 use Rattle.sixel_report.specs.Texts.{Text, BeginsWith}
 use Rattle.sixel_report.proofs.OutputLemmas.{both_are, nothing-written}
-use Rattle.sixel_show.proofs.ScreenLemmas.{not-both}
+use Rattle.sixel_show.proofs.BoxLemmas.{declared_sides}
+use Rattle.sixel_show.proofs.ScreenLemmas.{not-both, whole_after}
 use Rattle.sixel_report.specs.declared.task.Area.TheVariants as area
 
 abbrev Sides : Type 0
@@ -304,21 +307,48 @@ screen_sides named background sides events screen on =
     let s = on_sides named background ((model_of named).opening events) sides in
     (on.after.width ∙ s.0, on.after.height ∙ s.1)
 
+-- it has the pixels of its sides
+whole : (named : Named) (background : Parts) (sides : Sides) (events : List Event) (screen : Shown)
+    → IsScreenOn named background sides events screen → IsTrue (is_file_side sides.0) → IsTrue (is_file_side sides.1)
+    → IsWhole screen
+whole named background sides events screen on wide high =
+    let opening : List Event = (model_of named).opening events in
+    let s = on_sides named background opening sides in
+    whole_after (terminal_on named background opening sides) screen on.drawing on.after
+    (subst (λ (n : ℕ). IsTrue (is_file_side n)) (sym s.0) wide)
+    (subst (λ (n : ℕ). IsTrue (is_file_side n)) (sym s.1) high)
+
+area_sides : (area : Area) (events : List Event) (sides : Sides) → HasSidesIn area → sides_in area events ≡ Some sides
+    → IsTrue (is_file_side sides.0) × IsTrue (is_file_side sides.1)
+area_sides area.Box events sides given is = declared_sides events sides is
+area_sides (area.Sides width height) events sides given is =
+    let same : (width, height) ≡ sides = cc in (
+      subst (λ (s : Sides). IsTrue (is_file_side s.0)) same given.0,
+      subst (λ (s : Sides). IsTrue (is_file_side s.1)) same given.1,
+    )
+
+pub shown_whole : (named : Named) (background : Parts) (area : Area) (bytes : List ℕ) (screen : Shown) → HasSidesIn area
+    → ShowsIn named background area bytes (Ok screen) → IsWhole screen
+shown_whole named background area bytes screen given g =
+    let sides = area_sides area (events_of g.0) g.2.0 given g.2.1 in
+    whole named background g.2.0 (events_of (heard_on named bytes g.0)) screen g.2.2 sides.0 sides.1
+
 -- ---- the text written
 
-sized : {A : Type 0} (r : Result A PpmFault) (had has : SinkState) (a b c d : ℕ) (colours : List Parts) → a ≡ c
-    → b ≡ d → WritesPpm r had has a b colours → WritesPpm r had has c d colours
+sized : {A : Type 0} (r : Result A RunFault) (had has : SinkState) (a b c d : ℕ) (colours : List Parts) → a ≡ c
+    → b ≡ d → WritesFile Ppm r had has a b colours → WritesFile Ppm r had has c d colours
 sized r had has a b c d colours e f put =
-    subst (λ (n : ℕ). WritesPpm r had has n d colours) e (subst (λ (n : ℕ). WritesPpm r had has a n colours) f put)
+    subst (λ (n : ℕ). WritesFile Ppm r had has n d colours) e
+    (subst (λ (n : ℕ). WritesFile Ppm r had has a n colours) f put)
 
-written : {A : Type 0} (named : Named) (background : Parts) (area : Area) (bytes : List ℕ) (screen : Shown) (x : A)
+ppm_written : {A : Type 0} (named : Named) (background : Parts) (area : Area) (bytes : List ℕ) (screen : Shown) (x : A)
     (had has : SinkState) → ShowsIn named background area bytes (Ok screen)
-    → WritesPpm {A = A} (Ok x) had has screen.width screen.height screen.colours
+    → WritesFile {A = A} Ppm (Ok x) had has screen.width screen.height screen.colours
     → WroteBy (ShowOnGives named background area bytes) WroteNothing (Ok Done) had.taken has.taken
-written {A} named background area bytes screen x had has g put =
+ppm_written {A} named background area bytes screen x had has g put =
     let sides = g.2.0 in
     let s = screen_sides named background sides (events_of (heard_on named bytes g.0)) screen g.2.2 in
-    let wrote : WritesPpm {A = A} (Ok x) had has sides.0 sides.1 screen.colours =
+    let wrote : WritesFile {A = A} Ppm (Ok x) had has sides.0 sides.1 screen.colours =
     sized (Ok x) had has screen.width screen.height sides.0 sides.1 screen.colours s.0 s.1 put in (
       ppm_text sides.0 sides.1 screen.colours,
       (g.0, g.1, (sides, g.2.1, (screen, g.2.2, wrote.0, refl, refl))),
@@ -337,23 +367,23 @@ cut_short named background area bytes screen n g rgb text answer h =
     (drop n all, same ∙ sym (take-append-drop n all))
 
 unwritten_of : (A : Type 0) (named : Named) (background : Parts) (area : Area) (bytes : List ℕ) (screen : Shown)
-    (fault : PpmFault) (had has : SinkState) (g : ShowsIn named background area bytes (Ok screen))
-    → WritesPpm {A = A} (Err fault) had has g.2.0.0 g.2.0.1 screen.colours
-    → WroteBy (ShowOnGives named background area bytes) WroteNothing (Err (of_ppm fault)) had.taken has.taken
-unwritten_of A named background area bytes screen ppm.Write had has g put = (
+    (fault : RunFault) (had has : SinkState) (g : ShowsIn named background area bytes (Ok screen))
+    → WritesFile {A = A} Ppm (Err fault) had has g.2.0.0 g.2.0.1 screen.colours
+    → WroteBy (ShowOnGives named background area bytes) WroteNothing (Err fault) had.taken has.taken
+unwritten_of A named background area bytes screen Write had has g put = (
   take put.1.taken.0 (ppm_text g.2.0.0 g.2.0.1 screen.colours),
   put.1.taken.1,
   cut_short named background area bytes screen put.1.taken.0 g put.0,
 )
-unwritten_of A named background area bytes screen ppm.NotRgb had has g put =
+unwritten_of A named background area bytes screen NotRgb had has g put =
     ([], (refl, (g.0, g.1, (g.2.0, g.2.1, (screen, g.2.2, put.0)))), nothing-written had has put.1)
 unwritten_of A named background area bytes screen _ had has g put = absurd put
 
-unwritten : (A : Type 0) (named : Named) (background : Parts) (area : Area) (bytes : List ℕ) (screen : Shown)
-    (fault : PpmFault) (had has : SinkState) → ShowsIn named background area bytes (Ok screen)
-    → WritesPpm {A = A} (Err fault) had has screen.width screen.height screen.colours
-    → WroteBy (ShowOnGives named background area bytes) WroteNothing (Err (of_ppm fault)) had.taken has.taken
-unwritten A named background area bytes screen fault had has g put =
+ppm_unwritten : (A : Type 0) (named : Named) (background : Parts) (area : Area) (bytes : List ℕ) (screen : Shown)
+    (fault : RunFault) (had has : SinkState) → ShowsIn named background area bytes (Ok screen)
+    → WritesFile {A = A} Ppm (Err fault) had has screen.width screen.height screen.colours
+    → WroteBy (ShowOnGives named background area bytes) WroteNothing (Err fault) had.taken has.taken
+ppm_unwritten A named background area bytes screen fault had has g put =
     let s = screen_sides named background g.2.0 (events_of (heard_on named bytes g.0)) screen g.2.2 in
     unwritten_of A named background area bytes screen fault had has g
     (sized {A = A} (Err fault) had has screen.width screen.height g.2.0.0 g.2.0.1 screen.colours s.0 s.1 put)
@@ -361,20 +391,25 @@ unwritten A named background area bytes screen fault had has g put =
 -- ---- a refusal
 
 refused : (named : Named) (background : Parts) (area : Area) (bytes : List ℕ) (fault : RunFault) (had : Option (List ℕ))
-    → ShowsIn named background area bytes (Err fault)
+    → ShowsRead named background area bytes (Err fault)
     → WroteBy (ShowOnGives named background area bytes) WroteNothing (Err fault) had had
 refused named background area bytes (Grammar f) had g = ([], (refl, g), Appends-none had)
 refused named background area bytes (Unmodelled place) had g = ([], (refl, g), Appends-none had)
 refused named background area bytes NoBox had g = ([], (refl, g), Appends-none had)
 refused named background area bytes OutOfMemory had g = Appends-none had
+refused named background area bytes Read had g = Appends-none had
 refused named background area bytes other had g = absurd g
 
-unread : (named : Named) (background : Parts) (area : Area) (bytes : List ℕ) (fault : InputFault)
-    (had : Option (List ℕ)) → Explains fault bytes
-    → WroteBy (ShowOnGives named background area bytes) WroteNothing (Err (of_input fault)) had had
-unread named background area bytes (input.Grammar f) had is = ([], (refl, is), Appends-none had)
-unread named background area bytes input.OutOfMemory had is = Appends-none had
-unread named background area bytes input.Read had is = Appends-none had
+unread : (named : Named) (background : Parts) (area : Area) (bytes : List ℕ) (fault : InputFault) → Explains fault bytes
+    → ShowsRead named background area bytes (Err (of_input fault))
+unread named background area bytes (input.Grammar f) is = is
+unread named background area bytes input.OutOfMemory is = tt
+unread named background area bytes input.Read is = tt
+
+pub shows_read : (named : Named) (background : Parts) (area : Area) (bytes : List ℕ) (result : Result Shown RunFault)
+    → ShowsIn named background area bytes result → ShowsRead named background area bytes result
+shows_read named background area bytes (Err Read) g = tt
+shows_read named background area bytes result g = g
 
 -- ---- the same of bytes that are known
 
@@ -384,39 +419,53 @@ pub told_same : (P : List ℕ → Type 0) (a : Option (List ℕ)) (bytes : List 
 told_same P None bytes same p = tt
 told_same P (Some told) bytes same p = subst P (sym same) p
 
-pub on_written : {A : Type 0} (named : Named) (background : Parts) (area : Area) (a : Option (List ℕ))
-    (bytes : List ℕ) (screen : Shown) (x : A) (had has : SinkState) → IfSome a (λ told. told ≡ bytes)
-    → ShowsIn named background area bytes (Ok screen)
-    → WritesPpm {A = A} (Ok x) had has screen.width screen.height screen.colours
-    → IfSome a (λ told. WroteBy (ShowOnGives named background area told) WroteNothing (Ok Done) had.taken has.taken)
-on_written named background area a bytes screen x had has same g put =
-    told_same (λ told. WroteBy (ShowOnGives named background area told) WroteNothing (Ok Done) had.taken has.taken) a
-    bytes same (written named background area bytes screen x had has g put)
-
-pub on_unwritten : (A : Type 0) (named : Named) (background : Parts) (area : Area) (a : Option (List ℕ))
-    (bytes : List ℕ) (screen : Shown) (fault : PpmFault) (had has : SinkState) → IfSome a (λ told. told ≡ bytes)
-    → ShowsIn named background area bytes (Ok screen)
-    → WritesPpm {A = A} (Err fault) had has screen.width screen.height screen.colours
-    → IfSome a (λ told.
-    WroteBy (ShowOnGives named background area told) WroteNothing (Err (of_ppm fault)) had.taken has.taken)
-on_unwritten A named background area a bytes screen fault had has same g put =
-    told_same (λ told.
-    WroteBy (ShowOnGives named background area told) WroteNothing (Err (of_ppm fault)) had.taken has.taken) a bytes
-    same (unwritten A named background area bytes screen fault had has g put)
-
-pub on_refused : (named : Named) (background : Parts) (area : Area) (a : Option (List ℕ)) (bytes : List ℕ)
-    (fault : RunFault) (had : Option (List ℕ)) → IfSome a (λ told. told ≡ bytes)
-    → ShowsIn named background area bytes (Err fault)
-    → IfSome a (λ told. WroteBy (ShowOnGives named background area told) WroteNothing (Err fault) had had)
-on_refused named background area a bytes fault had same g =
-    told_same (λ told. WroteBy (ShowOnGives named background area told) WroteNothing (Err fault) had had) a bytes same
-    (refused named background area bytes fault had g)
+pub on_told : (named : Named) (background : Parts) (area : Area) (a : Option (List ℕ)) (bytes : List ℕ)
+    (result : Result Shown RunFault) → IfSome a (λ told. told ≡ bytes) → ShowsIn named background area bytes result
+    → IfSome a (λ told. ShowsRead named background area told result)
+on_told named background area a bytes result same g =
+    told_same (λ told. ShowsRead named background area told result) a bytes same
+    (shows_read named background area bytes result g)
 
 pub on_unread : (named : Named) (background : Parts) (area : Area) (a : Option (List ℕ)) (fault : InputFault)
-    (had : Option (List ℕ)) → IfSome a (Explains fault)
-    → IfSome a (λ told. WroteBy (ShowOnGives named background area told) WroteNothing (Err (of_input fault)) had had)
-on_unread named background area None fault had is = tt
-on_unread named background area (Some told) fault had is = unread named background area told fault had is
+    → IfSome a (Explains fault) → IfSome a (λ told. ShowsRead named background area told (Err (of_input fault)))
+on_unread named background area None fault is = tt
+on_unread named background area (Some told) fault is = unread named background area told fault is
+
+-- there was no memory
+pub on_lost : (named : Named) (background : Parts) (area : Area) (a : Option (List ℕ))
+    → IfSome a (λ told. ShowsRead named background area told (Err OutOfMemory))
+on_lost named background area None = tt
+on_lost named background area (Some told) = tt
+
+pub on_written : {A : Type 0} (format : PictureFormat) (named : Named) (background : Parts) (area : Area)
+    (a : Option (List ℕ)) (screen : Shown) (x : A) (had has : SinkState) → HasSidesIn area
+    → IfSome a (λ told. ShowsRead named background area told (Ok screen))
+    → (IsWhole screen → WritesFile {A = A} format (Ok x) had has screen.width screen.height screen.colours)
+    → IfSome a (λ told. WrotePicture format (ShowOnGives named background area told) (Ok Done) had.taken has.taken)
+on_written format named background area None screen x had has given shown put = tt
+on_written format named background area (Some told) screen x had has given shown put =
+    as_written (ShowOnGives named background area told) WroteNothing WroteNothing format x Done had has screen.width
+    screen.height screen.colours (λ b c. ppm_written named background area told screen x b c shown)
+    (put (shown_whole named background area told screen given shown))
+
+pub on_unwritten : (A : Type 0) (format : PictureFormat) (named : Named) (background : Parts) (area : Area)
+    (a : Option (List ℕ)) (screen : Shown) (fault : RunFault) (had has : SinkState) → HasSidesIn area
+    → IfSome a (λ told. ShowsRead named background area told (Ok screen))
+    → (IsWhole screen → WritesFile {A = A} format (Err fault) had has screen.width screen.height screen.colours)
+    → IfSome a (λ told. WrotePicture format (ShowOnGives named background area told) (Err fault) had.taken has.taken)
+on_unwritten A format named background area None screen fault had has given shown put = tt
+on_unwritten A format named background area (Some told) screen fault had has given shown put =
+    as_unwritten (ShowOnGives named background area told) WroteNothing WroteNothing A format fault had has screen.width
+    screen.height screen.colours (λ b c. ppm_unwritten A named background area told screen fault b c shown)
+    (put (shown_whole named background area told screen given shown))
+
+pub on_refused : (format : PictureFormat) (named : Named) (background : Parts) (area : Area) (a : Option (List ℕ))
+    (fault : RunFault) (had : Option (List ℕ)) → IfSome a (λ told. ShowsRead named background area told (Err fault))
+    → IfSome a (λ told. WrotePicture format (ShowOnGives named background area told) (Err fault) had had)
+on_refused format named background area None fault had shown = tt
+on_refused format named background area (Some told) fault had shown =
+    as_nothing (ShowOnGives named background area told) WroteNothing WroteNothing format (Err fault) had
+    (λ same. refused named background area told fault same shown)
 
 -- ---- while the source is read
 
@@ -425,13 +474,19 @@ pub at_once_in : (named : Named) (background : Parts) (width height : ℕ) (byte
     → ShowsIn named background (area.Sides width height) bytes (Ok screen)
 at_once_in named background width height bytes screen g = (g.0, g.1, ((width, height), refl, g.2))
 
-pub at_once_unwritten : (A : Type 0) (named : Named) (background : Parts) (width height : ℕ) (a : Option (List ℕ))
-    (screen : Shown) (fault : PpmFault) (had has : SinkState)
+pub at_once_told : (named : Named) (background : Parts) (width height : ℕ) (a : Option (List ℕ)) (screen : Shown)
     → IfSome a (λ bytes. GivesScreen named background (width, height) bytes (Ok screen))
-    → WritesPpm {A = A} (Err fault) had has screen.width screen.height screen.colours
-    → IfSome a (λ bytes.
-    WroteBy (ShowOnGives named background (area.Sides width height) bytes) WroteNothing (Err (of_ppm fault)) had.taken has.taken)
-at_once_unwritten A named background width height None screen fault had has g put = tt
-at_once_unwritten A named background width height (Some bytes) screen fault had has g put =
-    unwritten A named background (area.Sides width height) bytes screen fault had has
-    (at_once_in named background width height bytes screen g) put
+    → IfSome a (λ bytes. ShowsRead named background (area.Sides width height) bytes (Ok screen))
+at_once_told named background width height None screen g = tt
+at_once_told named background width height (Some bytes) screen g =
+    at_once_in named background width height bytes screen g
+
+-- ---- failures
+
+-- an answer that is no failure of a device counts none
+pub no_failure : (A : Type 0) (device fault : RunFault) (n : ℕ)
+    → (let k : Result A RunFault = Err fault in k) ≢ Err device
+    → n ≡ failures_by device (let k : Result Status RunFault = Err fault in k) n
+no_failure A Read Read n other = absurd (other refl)
+no_failure A Write Write n other = absurd (other refl)
+no_failure A device fault n other = refl

@@ -24,7 +24,7 @@ use Rattle.sixel_named_terminals.specs.Named.{IsScreenOn, heard_on, model_of}
 use Rattle.sixel_emulator.specs.Readings.{IsSaid}
 use Rattle.sixel_terminal.specs.Screens.{Shown}
 use Rattle.sixel_report.specs.declared.fault.RunFault.{RunFault}
-use Rattle.sixel_report.specs.declared.fault.RunFault.TheVariants.{Grammar, NoBox, OutOfMemory, Unmodelled}
+use Rattle.sixel_report.specs.declared.fault.RunFault.TheVariants.{Grammar, NoBox, OutOfMemory, Read, Unmodelled}
 use Rattle.sixel_show.specs.declared.on_konsole.Kept.{Kept}
 use Rattle.sixel_show.specs.declared.on_konsole.KonsoleBytes.{KonsoleBytes}
 use Rattle.sixel_show.specs.declared.on_konsole.Kept.TheVariants.{Bytes, Needless, Lost}
@@ -56,6 +56,11 @@ ShowsIn named background area bytes (Err NoBox) =
 ShowsIn named background area bytes (Err (Grammar fault)) = IsFaultOf bytes fault
 ShowsIn named background area bytes (Err OutOfMemory) = ⊤
 ShowsIn named background area bytes (Err fault) = ⊥
+
+-- the same, if the source could be read
+abbrev pub ShowsRead : Named → Parts → Area → List ℕ → Result Shown RunFault → Type 0
+ShowsRead named background area bytes (Err Read) = ⊤
+ShowsRead named background area bytes result = ShowsIn named background area bytes result
 
 -- ---- a document that konsole draws while it is read
 

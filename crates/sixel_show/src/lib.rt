@@ -1,4 +1,4 @@
-//! Shows a sixel picture: the screen of a terminal after it, as a PPM.
+//! Shows a sixel picture: the screen of a terminal after it, as a PPM or a PNG.
 #![tactic(auto)]
 
 mod box_finder;

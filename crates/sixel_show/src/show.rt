@@ -1,4 +1,4 @@
-//! Shows a sixel picture as one terminal would draw it, as a PPM.
+//! Shows a sixel picture as one terminal would draw it.
 
 ghost use Rattle.std.specs.Prelude.{◌≡◌, ◌≢◌, ◌*◌, [], ◌≤◌, ◌<◌, ℕ, Err, IfErr, IfOk, IfSome, IsTrue, List, None};
 ghost use Rattle.std.specs.Prelude.{length};
@@ -12,7 +12,7 @@ ghost use Rattle.sixel_model.specs.declared.profile.Profile.{Profile as AProfile
 ghost use Rattle.sixel_model.specs.declared.colour.Parts.TheVariants.{Rgb};
 ghost use Rattle.sixel_terminal.specs.Limits.{terminal_fault};
 ghost use Rattle.sixel_report.specs.declared.fault.RunFault.TheVariants.{Read};
-ghost use Rattle.sixel_report.specs.Outputs.{CountsWrites, WroteBy, WroteNothing, failures_by};
+ghost use Rattle.sixel_report.specs.Outputs.{CountsWrites, WrotePicture, failures_by};
 ghost use Rattle.sixel_show.specs.Outputs.{ShowGives};
 ghost use Rattle.sixel_show.specs.Watching.{HasWatched, IsShownAfter};
 ghost use Rattle.sixel_show.specs.Screens.{greys, percent_at, show_choices, show_terminal, white_screen};
@@ -23,7 +23,7 @@ use crate::watched::Watched;
 use sixel_grammar::InputFault;
 use sixel_io::{PIECE, Sink, Source};
 use sixel_model::{Colour, Profile};
-use sixel_report::{RunFault, Status};
+use sixel_report::{PictureFormat, RunFault, Status};
 use sixel_terminal::{Choices, Drawing, Ground, Terminal};
 use std::alloc::{AllocError, Global};
 
@@ -59,13 +59,16 @@ pub fn show<S: Source, K: Sink>(
     alloc: Global,
     profile: Profile,
     choices: Choices,
+    format: PictureFormat,
     input: &mut S,
     piece: &mut [u8; PIECE],
     output: &mut K,
 ) -> Result<Status, RunFault>
-    requires { terminal_fault choices (greys profile) (white_screen choices) ≡ None }
+    requires sound { terminal_fault choices (greys profile) (white_screen choices) ≡ None }
+    requires wide { IsTrue (is_file_side choices.screen_width) }
+    requires high { IsTrue (is_file_side choices.screen_height) }
     ensures wrote { IfSome (S.state input.old).remaining (λ bytes.
-        WroteBy (ShowGives profile (show_terminal profile choices) bytes) WroteNothing result
+        WrotePicture format (ShowGives profile (show_terminal profile choices) bytes) result
         (K.state output.old).taken (K.state output.new).taken) }
     ensures memory { result ≡ Err RunFault.OutOfMemory → IfSome (S.state input.old).remaining IsDocument }
     ensures reads { (S.state input.new).failures ≡ failures_by Read result (S.state input.old).failures }
@@ -74,7 +77,7 @@ pub fn show<S: Source, K: Sink>(
     ensures writes { CountsWrites result (K.state output.old).failures (K.state output.new).failures }
 {
     let shown = read_shown(alloc, profile, choices, input, piece)?;
-    write_shown(&shown, output)
+    write_shown(format, &shown, output)
 }
 
 /// What the terminal shows after the document.

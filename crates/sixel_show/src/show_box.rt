@@ -1,4 +1,4 @@
-//! Shows a sixel picture on a screen as large as its declared box, as a PPM.
+//! Shows a sixel picture on a screen as large as its declared box.
 
 ghost use Rattle.std.specs.Prelude.{◌≡◌, ◌++◌, ◌≤◌, [], ℕ, Err, List, IfErr, IfOk, IfSome, IsTrue, OnOk};
 ghost use Rattle.sixel_grammar.specs.declared.command.Event.{Event as AnEvent};
@@ -13,7 +13,7 @@ ghost use Rattle.sixel_terminal.specs.Displays.{Display};
 ghost use Rattle.sixel_show.specs.Boxes.{EndsStage, HasRead, HasReadInBox, IsShownInBox, IsStageAfter};
 ghost use Rattle.sixel_show.specs.Boxes.{declared_longer, terminal_of_kind};
 ghost use Rattle.sixel_report.specs.declared.fault.RunFault.TheVariants.{Read};
-ghost use Rattle.sixel_report.specs.Outputs.{CountsWrites, WroteBy, WroteNothing, failures_by};
+ghost use Rattle.sixel_report.specs.Outputs.{CountsWrites, WrotePicture, failures_by};
 ghost use Rattle.sixel_show.specs.Outputs.{ShowBoxGives};
 ghost use Rattle.sixel_show.specs.Screens.{DeclareScreenIn, screen_terminal, sides_of_box};
 ghost use Rattle.sixel_show.specs.Watching.{HasWatched};
@@ -27,7 +27,7 @@ use sixel_grammar::{
 };
 use sixel_io::{PIECE, Sink, Source, kept_with};
 use sixel_model::Profile;
-use sixel_report::{MOST_SCREEN_SIDE, RunFault, Status};
+use sixel_report::{MOST_SCREEN_SIDE, PictureFormat, RunFault, Status};
 use std::alloc::{AllocError, Global};
 use std::convert::Infallible;
 
@@ -102,12 +102,13 @@ pub fn show_box<S: Source, K: Sink>(
     showing: bool,
     fill: bool,
     selects: bool,
+    format: PictureFormat,
     input: &mut S,
     piece: &mut [u8; PIECE],
     output: &mut K,
 ) -> Result<Status, RunFault>
     ensures wrote { IfSome (S.state input.old).remaining (λ bytes.
-        WroteBy (ShowBoxGives profile (screen_terminal profile showing fill selects) bytes) WroteNothing result
+        WrotePicture format (ShowBoxGives profile (screen_terminal profile showing fill selects) bytes) result
         (K.state output.old).taken (K.state output.new).taken) }
     ensures memory { result ≡ Err RunFault.OutOfMemory → IfSome (S.state input.old).remaining DeclareScreenIn }
     ensures reads { (S.state input.new).failures ≡ failures_by Read result (S.state input.old).failures }
@@ -122,7 +123,7 @@ pub fn show_box<S: Source, K: Sink>(
         selects,
     };
     match read_box_shown(alloc, kind, input, piece)? {
-        Some(shown) => write_shown(&shown, output),
+        Some(shown) => write_shown(format, &shown, output),
         None => Err(RunFault::NoBox),
     }
 }

@@ -1,4 +1,4 @@
-//! Shows a sixel picture as a named terminal does, as a PPM.
+//! Shows a sixel picture as a named terminal does.
 
 ghost use Rattle.std.specs.Prelude.{◌≡◌, ◌≢◌, ◌<◌, ◌≤◌, ◌&&◌, [], ℕ, Err, IfErr, IfOk, IfSome, IsTrue, List, None};
 ghost use Rattle.std.specs.Prelude.{Option, false, length, take, true};
@@ -14,41 +14,38 @@ ghost use Rattle.sixel_grammar.specs.FirstPiece.{IsFirst, with_first};
 ghost use Rattle.sixel_report.specs.declared.fault.RunFault.TheVariants.{Read};
 ghost use Rattle.sixel_report.specs.declared.task.Area.{Area as AnArea};
 ghost use Rattle.sixel_show.specs.Boxes.{box_in};
-ghost use Rattle.sixel_show.specs.NamedScreens.{HaveNoFault, HasSidesAfter, ShowsIn};
-ghost use Rattle.sixel_report.specs.Outputs.{CountsWrites, HasSidesIn, WroteBy, WroteNothing, failures_by};
+ghost use Rattle.sixel_show.specs.NamedScreens.{HaveNoFault, HasSidesAfter, ShowsIn, ShowsRead};
+ghost use Rattle.sixel_report.specs.Outputs.{CountsWrites, HasSidesIn, WrotePicture, failures_by};
 ghost use Rattle.sixel_show.specs.Outputs.{ShowOnGives, sides_in};
 
 use crate::box_finder::BoxFinder;
 use crate::draw::read_rest;
 use crate::on_konsole::{begin_konsole, follow_on_konsole, screen_by};
+use crate::screen::write_screen;
 use crate::show_box::{follow, sides_of_box};
 use sixel_grammar::{InputFault, Reader};
 use sixel_io::{DeviceFault, PIECE, Sink, Source};
 use sixel_keeping::Keeping;
 use sixel_model::Colour;
 use sixel_named_terminals::Named;
-use sixel_report::{Area, RunFault, Status};
-use sixel_screen::write_ppm_screen;
+use sixel_report::{Area, PictureFormat, RunFault, Status};
 use sixel_terminal::Screen;
 use std::alloc::Global;
 
 /// Reads the whole input, and writes the screen that the named terminal shows then. It doesn't flush.
-///
-/// On a screen whose sides are given, or declared in the first bytes, it draws while it reads. Otherwise the sides of
-/// the declared box are known at the end only, so it keeps the bytes. Without memory for them they are still read, so
-/// that a string that is no document gets its own fault.
 pub fn show_on<S: Source, K: Sink>(
     alloc: Global,
     named: Named,
     background: Colour,
     area: Area,
+    format: PictureFormat,
     input: &mut S,
     piece: &mut [u8; PIECE],
     output: &mut K,
 ) -> Result<Status, RunFault>
     requires { HasSidesIn area }
     ensures wrote { IfSome (S.state input.old).remaining (λ bytes.
-        WroteBy (ShowOnGives named background area bytes) WroteNothing result
+        WrotePicture format (ShowOnGives named background area bytes) result
         (K.state output.old).taken (K.state output.new).taken) }
     ensures memory { result ≡ Err RunFault.OutOfMemory → IfSome (S.state input.old).remaining IsDocument }
     ensures reads { (S.state input.new).failures ≡ failures_by Read result (S.state input.old).failures }
@@ -56,8 +53,34 @@ pub fn show_on<S: Source, K: Sink>(
         IfSome (S.state input.old).remaining (NoFaultBefore (S.state input.new).remaining) }
     ensures writes { CountsWrites result (K.state output.old).failures (K.state output.new).failures }
 {
+    let screen = read_screen(alloc, named, background, area, input, piece)?;
+    write_screen(format, &screen, output)?;
+    Ok(Status::Done)
+}
+
+/// The screen that the named terminal shows after the document.
+///
+/// If its sides are given, or declared in the first bytes, it is drawn while they are read. Otherwise the sides of the
+/// declared box are known at the end only, so the bytes are kept. Without memory for them they are still read, so that a
+/// string that is no document gets its own fault.
+fn read_screen<S: Source>(
+    alloc: Global,
+    named: Named,
+    background: Colour,
+    area: Area,
+    input: &mut S,
+    piece: &mut [u8; PIECE],
+) -> Result<Screen, RunFault>
+    requires { HasSidesIn area }
+    ensures shown { IfSome (S.state input.old).remaining (λ bytes. ShowsRead named background area bytes result) }
+    ensures memory { result ≡ Err RunFault.OutOfMemory → IfSome (S.state input.old).remaining IsDocument }
+    ensures reads { (S.state input.new).failures ≡ failures_by Read result (S.state input.old).failures }
+    ensures unread { result ≡ Err Read →
+        IfSome (S.state input.old).remaining (NoFaultBefore (S.state input.new).remaining) }
+    ensures unwritten { result ≢ Err RunFault.Write }
+{
     match read_first(area, input, piece) {
-        Ok(read) => show_rest(alloc, named, background, area, input, piece, read, output),
+        Ok(read) => rest_screen(alloc, named, background, area, input, piece, read),
         Err(_) => Err(RunFault::Read),
     }
 }
@@ -131,7 +154,7 @@ fn read_behind<S: Source>(
 }
 
 /// The same of a source whose first bytes are the first `read` of `piece`.
-fn show_rest<S: Source, K: Sink>(
+fn rest_screen<S: Source>(
     alloc: Global,
     named: Named,
     background: Colour,
@@ -139,29 +162,27 @@ fn show_rest<S: Source, K: Sink>(
     input: &mut S,
     piece: &mut [u8; PIECE],
     read: usize,
-    output: &mut K,
-) -> Result<Status, RunFault>
+) -> Result<Screen, RunFault>
     requires first { IsFirst piece.old read (S.state input.old).remaining }
     requires sides { HasSidesIn area }
-    ensures wrote { IfSome (with_first piece.old read (S.state input.old).remaining) (λ bytes.
-        WroteBy (ShowOnGives named background area bytes) WroteNothing result
-        (K.state output.old).taken (K.state output.new).taken) }
+    ensures shown { IfSome (with_first piece.old read (S.state input.old).remaining) (λ bytes.
+        ShowsRead named background area bytes result) }
     ensures memory { result ≡ Err RunFault.OutOfMemory →
         IfSome (with_first piece.old read (S.state input.old).remaining) IsDocument }
     ensures reads { (S.state input.new).failures ≡ failures_by Read result (S.state input.old).failures }
     ensures unread { result ≡ Err Read →
         IfSome (with_first piece.old read (S.state input.old).remaining)
         (NoFaultBefore (S.state input.new).remaining) }
-    ensures writes { CountsWrites result (K.state output.old).failures (K.state output.new).failures }
+    ensures unwritten { result ≢ Err RunFault.Write }
 {
     match sides_at_first(area, &piece[..read]) {
-        Some((width, height)) if opens_with_nothing(named) => show_at_once(
-            alloc, named, background, width, height, input, piece, read, output,
+        Some((width, height)) if opens_with_nothing(named) => screen_at_once(
+            alloc, named, background, width, height, input, piece, read,
         ),
-        Some((width, height)) => show_konsole(
-            alloc, background, width, height, input, piece, read, output,
-        ),
-        None => show_in_box(alloc, named, background, input, piece, read, output),
+        Some((width, height)) => {
+            konsole_screen(alloc, background, width, height, input, piece, read)
+        }
+        None => screen_in_box(alloc, named, background, input, piece, read),
     }
 }
 
@@ -204,7 +225,7 @@ fn opens_with_nothing(named: Named) -> bool
 }
 
 /// The same for a screen of this width and height, and a model that draws nothing before the first event.
-fn show_at_once<S: Source, K: Sink>(
+fn screen_at_once<S: Source>(
     alloc: Global,
     named: Named,
     background: Colour,
@@ -213,29 +234,24 @@ fn show_at_once<S: Source, K: Sink>(
     input: &mut S,
     piece: &mut [u8; PIECE],
     read: usize,
-    output: &mut K,
-) -> Result<Status, RunFault>
+) -> Result<Screen, RunFault>
     requires first { IsFirst piece.old read (S.state input.old).remaining }
     requires sides { IsTrue (is_screen_side width && is_screen_side height) }
     requires opening { named ≢ Named.Konsole }
-    ensures wrote { IfSome (with_first piece.old read (S.state input.old).remaining) (λ bytes.
-        WroteBy (ShowOnGives named background (AnArea.Sides width height) bytes) WroteNothing result
-        (K.state output.old).taken (K.state output.new).taken) }
+    ensures shown { IfSome (with_first piece.old read (S.state input.old).remaining) (λ bytes.
+        ShowsRead named background (AnArea.Sides width height) bytes result) }
     ensures memory { result ≡ Err RunFault.OutOfMemory →
         IfSome (with_first piece.old read (S.state input.old).remaining) IsDocument }
     ensures reads { (S.state input.new).failures ≡ failures_by Read result (S.state input.old).failures }
     ensures unread { result ≡ Err Read →
         IfSome (with_first piece.old read (S.state input.old).remaining)
         (NoFaultBefore (S.state input.new).remaining) }
-    ensures writes { CountsWrites result (K.state output.old).failures (K.state output.new).failures }
+    ensures unwritten { result ≢ Err RunFault.Write }
 {
     match sixel_named_terminals::show_at_once(
         alloc, named, background, width, height, input, piece, read,
     ) {
-        Ok(Ok(screen)) => {
-            write_ppm_screen(&screen, output)?;
-            Ok(Status::Done)
-        }
+        Ok(Ok(screen)) => Ok(screen),
         Ok(Err(place)) => Err(RunFault::Unmodelled { place }),
         Err(InputFault::OutOfMemory) => {
             read_rest(input, piece, read)?;
@@ -247,7 +263,7 @@ fn show_at_once<S: Source, K: Sink>(
 
 /// The same for konsole. Its rectangle is known at the end only, so it is measured meanwhile, and laid under the
 /// drawing then.
-fn show_konsole<S: Source, K: Sink>(
+fn konsole_screen<S: Source>(
     alloc: Global,
     background: Colour,
     width: u32,
@@ -255,60 +271,52 @@ fn show_konsole<S: Source, K: Sink>(
     input: &mut S,
     piece: &mut [u8; PIECE],
     read: usize,
-    output: &mut K,
-) -> Result<Status, RunFault>
+) -> Result<Screen, RunFault>
     requires first { IsFirst piece.old read (S.state input.old).remaining }
     requires sides { IsTrue (is_screen_side width && is_screen_side height) }
-    ensures wrote { IfSome (with_first piece.old read (S.state input.old).remaining) (λ bytes.
-        WroteBy (ShowOnGives Named.Konsole background (AnArea.Sides width height) bytes) WroteNothing result
-        (K.state output.old).taken (K.state output.new).taken) }
+    ensures shown { IfSome (with_first piece.old read (S.state input.old).remaining) (λ bytes.
+        ShowsRead Named.Konsole background (AnArea.Sides width height) bytes result) }
     ensures memory { result ≡ Err RunFault.OutOfMemory →
         IfSome (with_first piece.old read (S.state input.old).remaining) IsDocument }
     ensures reads { (S.state input.new).failures ≡ failures_by Read result (S.state input.old).failures }
     ensures unread { result ≡ Err Read →
         IfSome (with_first piece.old read (S.state input.old).remaining)
         (NoFaultBefore (S.state input.new).remaining) }
-    ensures writes { CountsWrites result (K.state output.old).failures (K.state output.new).failures }
+    ensures unwritten { result ≢ Err RunFault.Write }
 {
     let Ok(mut konsole) = begin_konsole(alloc, background, width, height) else {
         read_rest(input, piece, read)?;
         return Err(RunFault::OutOfMemory);
     };
     let kept = follow_on_konsole(alloc, input, piece, read, &mut konsole)?;
-    let screen = screen_by(alloc, background, width, height, konsole.listener, kept)?;
-    write_ppm_screen(&screen, output)?;
-    Ok(Status::Done)
+    screen_by(alloc, background, width, height, konsole.listener, kept)
 }
 
-/// The same as `show_on` for a screen with the sides of the declared box.
-fn show_in_box<S: Source, K: Sink>(
+/// The same as `read_screen` for a screen with the sides of the declared box.
+fn screen_in_box<S: Source>(
     alloc: Global,
     named: Named,
     background: Colour,
     input: &mut S,
     piece: &mut [u8; PIECE],
     read: usize,
-    output: &mut K,
-) -> Result<Status, RunFault>
+) -> Result<Screen, RunFault>
     requires { IsFirst piece.old read (S.state input.old).remaining }
-    ensures wrote { IfSome (with_first piece.old read (S.state input.old).remaining) (λ bytes.
-        WroteBy (ShowOnGives named background AnArea.Box bytes) WroteNothing result
-        (K.state output.old).taken (K.state output.new).taken) }
+    ensures shown { IfSome (with_first piece.old read (S.state input.old).remaining) (λ bytes.
+        ShowsRead named background AnArea.Box bytes result) }
     ensures memory { result ≡ Err RunFault.OutOfMemory →
         IfSome (with_first piece.old read (S.state input.old).remaining) IsDocument }
     ensures reads { (S.state input.new).failures ≡ failures_by Read result (S.state input.old).failures }
     ensures unread { result ≡ Err Read →
         IfSome (with_first piece.old read (S.state input.old).remaining)
         (NoFaultBefore (S.state input.new).remaining) }
-    ensures writes { CountsWrites result (K.state output.old).failures (K.state output.new).failures }
+    ensures unwritten { result ≢ Err RunFault.Write }
 {
     let (kept, declared) = find_box(alloc, input, piece, read)?;
     let Some(bytes) = kept else {
         return Err(RunFault::OutOfMemory);
     };
-    let screen = shown(alloc, named, background, declared, &bytes)?;
-    write_ppm_screen(&screen, output)?;
-    Ok(Status::Done)
+    shown(alloc, named, background, declared, &bytes)
 }
 
 /// Reads the source to its end. Returns the bytes of the document, if there is memory for them, and the box that it

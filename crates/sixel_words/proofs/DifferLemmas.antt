@@ -25,15 +25,16 @@ not_differed rows (Survey profile terminals) lines sheet is =
     other_first (codes "survey") 115 refl (λ e. omega (arith, e)) is.0
 not_differed rows (Scan profile eight) lines sheet is =
     other_first (codes "scan") 115 refl (λ e. omega (arith, e)) is.0
-not_differed rows (Render profile) lines sheet is = other_first (codes "render") 114 refl (λ e. omega (arith, e)) is.0
-not_differed rows (Encode profile) lines sheet is = other_first (codes "encode") 101 refl (λ e. omega (arith, e)) is.0
-not_differed rows (Show profile showing fill selects width height) lines sheet is =
+not_differed rows (Render profile format) lines sheet is =
+    other_first (codes "render") 114 refl (λ e. omega (arith, e)) is.0
+not_differed rows (Encode profile fitting) lines sheet is = other_first (codes "encode") 101 refl (λ e. omega (arith, e)) is.0
+not_differed rows (Show profile showing fill selects width height format) lines sheet is =
     other_first (codes "show") 115 refl (λ e. omega (arith, e)) is.0
-not_differed rows (ShowBox profile showing fill selects) lines sheet is =
+not_differed rows (ShowBox profile showing fill selects format) lines sheet is =
     other_first (codes "show") 115 refl (λ e. omega (arith, e)) is.0
-not_differed rows (ShowOn named background area) lines sheet is =
+not_differed rows (ShowOn named background area format) lines sheet is =
     other_first (codes "show") 115 refl (λ e. omega (arith, e)) is.0
-not_differed rows (Mend profile background showing selects) lines sheet is =
+not_differed rows (Mend profile background showing selects fitting) lines sheet is =
     other_first (codes "mend") 109 refl (λ e. omega (arith, e)) is.0
 not_differed rows (Differ background) lines sheet is = lines background is.1 is.2
 not_differed rows (DifferSheet background) lines sheet is = sheet background is.1 is.2 is.3

@@ -6,3 +6,4 @@ pub mod ArgumentLemmas
 pub mod ColourLemmas
 pub mod TellingLemmas
 pub mod NamesLemmas
+pub mod FitLemmas

@@ -133,17 +133,17 @@ pub not_shown : (rows : List Row) (t : Task)
     → IsTask (codes "show") rows t → ⊥
 not_shown rows Listing described named is = not_list is
 not_shown rows (Check profile terminals) described named is = not_check is.0
-not_shown rows (Render profile) described named is = not_render is.0
-not_shown rows (Encode profile) described named is = not_encode is.0
+not_shown rows (Render profile format) described named is = not_render is.0
+not_shown rows (Encode profile fitting) described named is = not_encode is.0
 not_shown rows (Survey profile terminals) described named is = not_survey is.0
 not_shown rows (Scan profile eight) described named is = not_scan is.0
-not_shown rows (Mend profile background showing selects) described named is = not_mend is.0
+not_shown rows (Mend profile background showing selects fitting) described named is = not_mend is.0
 not_shown rows (Differ background) described named is = not_differ is.0
 not_shown rows (DifferSheet background) described named is = not_differ is.0
-not_shown rows (Show profile showing fill selects width height) described named is =
+not_shown rows (Show profile showing fill selects width height format) described named is =
     described (Sides width height) is.5 is.6 is.7
-not_shown rows (ShowBox profile showing fill selects) described named is = described Box is.5 is.6 is.7
-not_shown rows (ShowOn one colour area) described named is = named one colour area is.1 is.2 is.3 is.4
+not_shown rows (ShowBox profile showing fill selects format) described named is = described Box is.5 is.6 is.7
+not_shown rows (ShowOn one colour area format) described named is = named one colour area is.1 is.2 is.3 is.4
 
 -- without `--box`, and without one of the sides, there is no size
 pub without_side : (rows : List Row) (area : Area) → is_given (codes "box") rows ≡ false
@@ -189,19 +189,19 @@ without_colour rows (Check profile terminals) none is = other_first (codes "chec
 without_colour rows (Survey profile terminals) none is =
     other_first (codes "survey") 115 refl (λ e. omega (arith, e)) is.0
 without_colour rows (Scan profile eight) none is = other_first (codes "scan") 115 refl (λ e. omega (arith, e)) is.0
-without_colour rows (Render profile) none is = other_first (codes "render") 114 refl (λ e. omega (arith, e)) is.0
-without_colour rows (Encode profile) none is = other_first (codes "encode") 101 refl (λ e. omega (arith, e)) is.0
-without_colour rows (Show profile showing fill selects width height) none is =
+without_colour rows (Render profile format) none is = other_first (codes "render") 114 refl (λ e. omega (arith, e)) is.0
+without_colour rows (Encode profile fitting) none is = other_first (codes "encode") 101 refl (λ e. omega (arith, e)) is.0
+without_colour rows (Show profile showing fill selects width height format) none is =
     other_first (codes "show") 115 refl (λ e. omega (arith, e)) is.0
-without_colour rows (ShowBox profile showing fill selects) none is =
+without_colour rows (ShowBox profile showing fill selects format) none is =
     other_first (codes "show") 115 refl (λ e. omega (arith, e)) is.0
-without_colour rows (ShowOn named background area) none is =
+without_colour rows (ShowOn named background area format) none is =
     other_first (codes "show") 115 refl (λ e. omega (arith, e)) is.0
 without_colour rows (Differ background) none is =
     other_first (codes "differ") 100 refl (λ e. omega (arith, e)) is.0
 without_colour rows (DifferSheet background) none is =
     other_first (codes "differ") 100 refl (λ e. omega (arith, e)) is.0
-without_colour rows (Mend profile background showing selects) none is = none background is.2
+without_colour rows (Mend profile background showing selects fitting) none is = none background is.2
 
 abbrev pub name_in : Option (Text × List Row) → Text
 name_in None = []

@@ -163,15 +163,15 @@ not_checked rows Listing none is = apart (codes "check") (codes "list") refl is
 not_checked rows (Check profile terminals) none is = none terminals is.2
 not_checked rows (Survey profile terminals) none is = apart (codes "check") (codes "survey") refl is.0
 not_checked rows (Scan profile eight) none is = apart (codes "check") (codes "scan") refl is.0
-not_checked rows (Render profile) none is = apart (codes "check") (codes "render") refl is.0
-not_checked rows (Encode profile) none is = apart (codes "check") (codes "encode") refl is.0
-not_checked rows (Show profile showing fill selects width height) none is =
+not_checked rows (Render profile format) none is = apart (codes "check") (codes "render") refl is.0
+not_checked rows (Encode profile fitting) none is = apart (codes "check") (codes "encode") refl is.0
+not_checked rows (Show profile showing fill selects width height format) none is =
     apart (codes "check") (codes "show") refl is.0
-not_checked rows (ShowBox profile showing fill selects) none is = apart (codes "check") (codes "show") refl is.0
-not_checked rows (ShowOn named background area) none is = apart (codes "check") (codes "show") refl is.0
+not_checked rows (ShowBox profile showing fill selects format) none is = apart (codes "check") (codes "show") refl is.0
+not_checked rows (ShowOn named background area format) none is = apart (codes "check") (codes "show") refl is.0
 not_checked rows (Differ background) none is = apart (codes "check") (codes "differ") refl is.0
 not_checked rows (DifferSheet background) none is = apart (codes "check") (codes "differ") refl is.0
-not_checked rows (Mend profile background showing selects) none is = apart (codes "check") (codes "mend") refl is.0
+not_checked rows (Mend profile background showing selects fitting) none is = apart (codes "check") (codes "mend") refl is.0
 
 -- nor one of `survey`
 pub not_surveyed : (rows : List Row) (t : Task) → ((u : Terminals) → HasTerminals rows u → ⊥)
@@ -180,12 +180,13 @@ not_surveyed rows Listing none is = apart (codes "survey") (codes "list") refl i
 not_surveyed rows (Check profile terminals) none is = apart (codes "survey") (codes "check") refl is.0
 not_surveyed rows (Survey profile terminals) none is = none terminals is.2
 not_surveyed rows (Scan profile eight) none is = apart (codes "survey") (codes "scan") refl is.0
-not_surveyed rows (Render profile) none is = apart (codes "survey") (codes "render") refl is.0
-not_surveyed rows (Encode profile) none is = apart (codes "survey") (codes "encode") refl is.0
-not_surveyed rows (Show profile showing fill selects width height) none is =
+not_surveyed rows (Render profile format) none is = apart (codes "survey") (codes "render") refl is.0
+not_surveyed rows (Encode profile fitting) none is = apart (codes "survey") (codes "encode") refl is.0
+not_surveyed rows (Show profile showing fill selects width height format) none is =
     apart (codes "survey") (codes "show") refl is.0
-not_surveyed rows (ShowBox profile showing fill selects) none is = apart (codes "survey") (codes "show") refl is.0
-not_surveyed rows (ShowOn named background area) none is = apart (codes "survey") (codes "show") refl is.0
+not_surveyed rows (ShowBox profile showing fill selects format) none is =
+    apart (codes "survey") (codes "show") refl is.0
+not_surveyed rows (ShowOn named background area format) none is = apart (codes "survey") (codes "show") refl is.0
 not_surveyed rows (Differ background) none is = apart (codes "survey") (codes "differ") refl is.0
 not_surveyed rows (DifferSheet background) none is = apart (codes "survey") (codes "differ") refl is.0
-not_surveyed rows (Mend profile background showing selects) none is = apart (codes "survey") (codes "mend") refl is.0
+not_surveyed rows (Mend profile background showing selects fitting) none is = apart (codes "survey") (codes "mend") refl is.0

@@ -19,6 +19,7 @@ use Rattle.sixel_emulator_rules.specs.declared.rule.AskedRule.TheVariants.{Raste
 use Rattle.sixel_emulator_rules.specs.declared.rule.AskedRule.TheVariants.{Past, Hue}
 use Rattle.sixel_emulator_rules.specs.declared.rule.AskedRule.TheVariants.{Far, Introducer, Bare, SpaceAfter}
 use Rattle.sixel_emulator_rules.specs.declared.terminals.Terminals.{Terminals}
+use Rattle.sixel_fit.specs.declared.making.Fitting.{Fitting}
 use Rattle.sixel_ppm.specs.PpmReading as ppm
 use Rattle.sixel_terminal.specs.Limits.{most_screen_side}
 use Rattle.clap.specs.Faults.{fault_of}
@@ -35,6 +36,8 @@ use Rattle.sixel_report.specs.declared.wanted_lines.Lines.{Lines}
 use Rattle.sixel_report.specs.declared.wanted_lines.Lines.TheVariants.{Json, Nothing, Plain}
 use Rattle.sixel_report.specs.declared.task.Area.{Area}
 use Rattle.sixel_report.specs.declared.task.Area.TheVariants.{Box, Sides}
+use Rattle.sixel_report.specs.declared.task.PictureFormat.{PictureFormat}
+use Rattle.sixel_report.specs.declared.task.PictureFormat.TheVariants.{Ppm, Png}
 use Rattle.sixel_report.specs.declared.task.Task.{Task}
 use Rattle.sixel_report.specs.declared.task.Task.TheVariants as task
 use Rattle.sixel_words.specs.declared.words.WordsFault.{WordsFault}
@@ -64,6 +67,10 @@ is_named name rows = is_of_words (option_and_then (λ r. r.source) (find (λ r. 
 -- the profile of 256 registers with `--wide`, else that of 16
 abbrev pub profile_of : List Row → Profile
 profile_of rows = if is_given (codes "wide") rows then Registers256 else Registers16
+
+-- a PNG with `--png`, else a PPM
+abbrev pub format_of : List Row → PictureFormat
+format_of rows = if is_given (codes "png") rows then Png else Ppm
 
 -- the text is the number n from 1 to 4,096 in decimal digits, perhaps after a plus
 pub record IsSideText (text : Text) (n : ℕ) : Type 0 where
@@ -259,6 +266,20 @@ pub record HasTerminals (rows : List Row) (terminals : Terminals) : Type 0 where
   pub named : NameTerminals (on_values rows) terminals.ignored terminals
   pub together : all_of (codes "on") rows ≡ None → terminals.ignored ≡ no_rules
 
+-- the colour of `--pad`, of which this is the value, where these are the values of `--on`. Without the option it is
+-- the other colour; with it, but without `--on`, there is none
+abbrev pub IsPad : Option Text → Option (List Text) → Parts → Parts → Type 0
+IsPad None on fallback pad = pad ≡ fallback
+IsPad (Some text) None fallback pad = ⊥
+IsPad (Some text) (Some values) fallback pad = IsColourText text pad
+
+abbrev pub HasPad : List Row → Parts → Parts → Type 0
+HasPad rows fallback pad = IsPad (first_of (codes "pad") rows) (all_of (codes "on") rows) fallback pad
+
+-- the options name these terminals, and this colour for rows below a picture
+abbrev pub HasFitting : List Row → Parts → Fitting → Type 0
+HasFitting rows fallback f = HasTerminals rows f.terminals × HasPad rows fallback f.pad
+
 -- a flag that describes the terminal of `show` is given
 abbrev pub describes : List Row → Bool
 describes rows = is_given (codes "wide") rows || is_given (codes "showing") rows || is_given (codes "fill") rows
@@ -278,9 +299,11 @@ IsTask name rows (task.Survey profile terminals) = (name ≡ codes "survey") × 
     × HasTerminals rows terminals
 IsTask name rows (task.Scan profile eight) = (name ≡ codes "scan") × (profile_of rows ≡ profile)
     × (is_given (codes "eight-bit") rows ≡ eight)
-IsTask name rows (task.Render profile) = (name ≡ codes "render") × (profile_of rows ≡ profile)
-IsTask name rows (task.Encode profile) = (name ≡ codes "encode") × (profile_of rows ≡ profile)
-IsTask name rows (task.Show profile showing fill selects width height) = (name ≡ codes "show")
+IsTask name rows (task.Render profile format) = (name ≡ codes "render") × (profile_of rows ≡ profile)
+    × (format_of rows ≡ format)
+IsTask name rows (task.Encode profile fitting) = (name ≡ codes "encode") × (profile_of rows ≡ profile)
+    × HasFitting rows (Rgb 0 0 0) fitting
+IsTask name rows (task.Show profile showing fill selects width height format) = (name ≡ codes "show")
     × (profile_of rows ≡ profile)
     × (is_given (codes "showing") rows ≡ showing)
     × (is_given (codes "fill") rows ≡ fill)
@@ -288,7 +311,8 @@ IsTask name rows (task.Show profile showing fill selects width height) = (name �
     × HasArea rows (Sides width height)
     × (first_of (codes "on") rows ≡ None)
     × (is_named (codes "background") rows ≡ false)
-IsTask name rows (task.ShowBox profile showing fill selects) = (name ≡ codes "show")
+    × (format_of rows ≡ format)
+IsTask name rows (task.ShowBox profile showing fill selects format) = (name ≡ codes "show")
     × (profile_of rows ≡ profile)
     × (is_given (codes "showing") rows ≡ showing)
     × (is_given (codes "fill") rows ≡ fill)
@@ -296,11 +320,13 @@ IsTask name rows (task.ShowBox profile showing fill selects) = (name ≡ codes "
     × HasArea rows Box
     × (first_of (codes "on") rows ≡ None)
     × (is_named (codes "background") rows ≡ false)
-IsTask name rows (task.ShowOn named colour area) = (name ≡ codes "show")
+    × (format_of rows ≡ format)
+IsTask name rows (task.ShowOn named colour area format) = (name ≡ codes "show")
     × HasNamed rows named
     × HasColour (codes "background") rows colour
     × HasArea rows area
     × (describes rows ≡ false)
+    × (format_of rows ≡ format)
 IsTask name rows (task.Differ colour) = (name ≡ codes "differ")
     × HasColour (codes "background") rows colour
     × (is_given (codes "sheet") rows ≡ false)
@@ -308,11 +334,12 @@ IsTask name rows (task.DifferSheet colour) = (name ≡ codes "differ")
     × HasColour (codes "background") rows colour
     × (is_given (codes "sheet") rows ≡ true)
     × (length (files_of rows) ≤ 1)
-IsTask name rows (task.Mend profile colour showing selects) = (name ≡ codes "mend")
+IsTask name rows (task.Mend profile colour showing selects fitting) = (name ≡ codes "mend")
     × (profile_of rows ≡ profile)
     × HasColour (codes "background") rows colour
     × (is_given (codes "showing") rows ≡ showing)
     × (is_given (codes "define-selects") rows ≡ selects)
+    × HasFitting rows colour fitting
 
 -- the task that the arguments ask for; the first is the program's name
 abbrev pub IsTaskOf : List Text → Task → Type 0

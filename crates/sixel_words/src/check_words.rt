@@ -47,7 +47,7 @@ pub fn survey_task(matches: &ArgMatches<'_>) -> Option<Task>
 }
 
 /// The terminals of `--on`, without the rules of `--ignore`.
-fn terminals_of(matches: &ArgMatches<'_>) -> Option<Terminals>
+pub(crate) fn terminals_of(matches: &ArgMatches<'_>) -> Option<Terminals>
     ensures some { IfSome result (HasTerminals (rows_of (found_of matches.now))) }
     ensures none { IsNone result → (t : ATerminals) → HasTerminals (rows_of (found_of matches.now)) t → ⊥ }
 {
@@ -100,7 +100,7 @@ pub fn names_fault<'a>(matches: &ArgMatches<'a>) -> NamesFault<'a> {
 }
 
 /// The first value of `--on` that names no terminals.
-fn unnamed_value<'a>(matches: &ArgMatches<'a>) -> Option<&'a str> {
+pub(crate) fn unnamed_value<'a>(matches: &ArgMatches<'a>) -> Option<&'a str> {
     for value in matches.get_raw("on")? {
         if !names_terminals(value) {
             return Some(*value);

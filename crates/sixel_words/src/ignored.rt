@@ -71,7 +71,9 @@ pub(crate) fn rules_fault<'a>(value: &'a str) -> NamesFault<'a> {
 
 /// Whether a rule of portable pictures has this name.
 fn is_portable_rule(part: &str) -> bool {
-    ALL_RULES.iter().any(|rule| is_called(part, rule_name(*rule)))
+    ALL_RULES
+        .iter()
+        .any(|rule| is_called(part, rule_name(*rule)))
 }
 
 /// Whether each value names rules.

@@ -6,6 +6,7 @@ mod check_words;
 mod colours;
 mod differ_words;
 mod explain_errors;
+mod fit_words;
 mod ignored;
 mod options;
 mod show_errors;

@@ -5,13 +5,13 @@ ghost use Rattle.clap.specs.Walk.{rows_of};
 ghost use Rattle.clap.specs.Matches.{found_of};
 ghost use Rattle.sixel_terminal.specs.Limits.{most_screen_side};
 ghost use Rattle.sixel_model.specs.declared.colour.Parts.{Parts};
-ghost use Rattle.sixel_words.specs.Words.{HasColour, HasSide, is_given, is_named, profile_of};
+ghost use Rattle.sixel_words.specs.Words.{HasColour, HasSide, format_of, is_given, is_named, profile_of};
 
 use crate::colours::colour_of;
 use clap::ArgMatches;
 use clap::parser::ValueSource;
 use sixel_model::{Colour, Profile};
-use sixel_report::MOST_SCREEN_SIDE;
+use sixel_report::{MOST_SCREEN_SIDE, PictureFormat};
 
 /// The profile that the options select.
 pub(crate) fn profile_of(matches: &ArgMatches<'_>) -> Profile
@@ -21,6 +21,17 @@ pub(crate) fn profile_of(matches: &ArgMatches<'_>) -> Profile
         Profile::Registers256
     } else {
         Profile::Registers16
+    }
+}
+
+/// The format of a picture that the options select.
+pub(crate) fn format_of(matches: &ArgMatches<'_>) -> PictureFormat
+    ensures { format_of (rows_of (found_of matches.now)) ≡ result }
+{
+    if flag_of(matches, "png") {
+        PictureFormat::Png
+    } else {
+        PictureFormat::Ppm
     }
 }
 

@@ -9,7 +9,7 @@ ghost use Rattle.sixel_report.specs.declared.task.Task.{Task as ATask};
 ghost use Rattle.sixel_report.specs.Outputs.{HasSides};
 ghost use Rattle.sixel_words.specs.Words.{HasArea, IsTask, describes, is_called, is_given, terminal_name};
 
-use crate::options::{colour_in, flag_of, is_named, profile_of, side_of};
+use crate::options::{colour_in, flag_of, format_of, is_named, profile_of, side_of};
 use clap::ArgMatches;
 use sixel_named_terminals::Named;
 use sixel_report::{Area, Task};
@@ -40,12 +40,14 @@ fn plain_task(matches: &ArgMatches<'_>) -> Option<Task>
     let showing = flag_of(matches, "showing");
     let fill = flag_of(matches, "fill");
     let selects = flag_of(matches, "define-selects");
+    let format = format_of(matches);
     match area_of(matches)? {
         Area::Box => Some(Task::ShowBox {
             profile,
             showing,
             fill,
             selects,
+            format,
         }),
         Area::Sides { width, height } => Some(Task::Show {
             profile,
@@ -54,6 +56,7 @@ fn plain_task(matches: &ArgMatches<'_>) -> Option<Task>
             selects,
             width,
             height,
+            format,
         }),
     }
 }
@@ -76,6 +79,7 @@ fn on_task(matches: &ArgMatches<'_>, name: &str) -> Option<Task>
         named,
         background,
         area,
+        format: format_of(matches),
     })
 }
 

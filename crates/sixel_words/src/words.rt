@@ -15,13 +15,14 @@ ghost use Rattle.sixel_explain.specs.Explanations.{Asks};
 use crate::check_words::{check_task, names_fault, survey_task};
 use crate::differ_words::{differ_error, differ_task};
 use crate::explain_errors::explain_error;
-use crate::options::{colour_in, flag_of, profile_of};
+use crate::fit_words::{encode_task, maker_error, mend_error, mend_task};
+use crate::options::{colour_in, flag_of, format_of, profile_of};
 use crate::show_errors::show_error;
 use crate::show_words::show_task;
 use clap::error::ErrorKind;
 use clap::{ArgMatches, Error};
 use sixel_commands::{
-    background_error, sixel_command, unchecked_error, unsurveyed_error, usage_error, with_tip,
+    Maker, sixel_command, unchecked_error, unsurveyed_error, usage_error, with_tip,
 };
 use sixel_explain::{Topic, topics_asked};
 use sixel_report::{Lines, Request, Task};
@@ -90,7 +91,8 @@ fn without_task(alloc: Global, name: &str, matches: &ArgMatches<'_>) -> WordsFau
         "explain" => asked(alloc, matches),
         "check" => unchecked(alloc, matches),
         "survey" => unsurveyed(alloc, matches),
-        "mend" => uncoloured(alloc, matches),
+        "encode" => unencoded(alloc, matches),
+        "mend" => unmended(alloc, matches),
         "show" => unshown(alloc, matches),
         "differ" => undiffered(alloc, matches),
         _ => untasked(alloc),
@@ -148,13 +150,24 @@ fn unsurveyed(alloc: Global, matches: &ArgMatches<'_>) -> WordsFault
     }
 }
 
-/// A usage error: the value of `--background` is no colour.
-fn uncoloured(alloc: Global, matches: &ArgMatches<'_>) -> WordsFault
+/// A usage error of `encode`.
+fn unencoded(alloc: Global, matches: &ArgMatches<'_>) -> WordsFault
     ensures sorted { IsSortedOut result }
     ensures refusal { IsRefusal result }
 {
-    match background_error(alloc, matches.get_str("background").unwrap_or("")) {
-        Ok(uncoloured) => WordsFault::Usage(uncoloured),
+    match maker_error(alloc, Maker::Encode, matches) {
+        Ok(unencoded) => WordsFault::Usage(unencoded),
+        Err(_) => WordsFault::OutOfMemory,
+    }
+}
+
+/// A usage error of `mend`.
+fn unmended(alloc: Global, matches: &ArgMatches<'_>) -> WordsFault
+    ensures sorted { IsSortedOut result }
+    ensures refusal { IsRefusal result }
+{
+    match mend_error(alloc, matches) {
+        Ok(unmended) => WordsFault::Usage(unmended),
         Err(_) => WordsFault::OutOfMemory,
     }
 }
@@ -290,30 +303,12 @@ fn task_of(name: &str, matches: &ArgMatches<'_>) -> Option<Task>
         }),
         "render" => Some(Task::Render {
             profile: profile_of(matches),
+            format: format_of(matches),
         }),
-        "encode" => Some(Task::Encode {
-            profile: profile_of(matches),
-        }),
+        "encode" => encode_task(matches),
         "show" => show_task(matches),
         "differ" => differ_task(matches),
         "mend" => mend_task(matches),
         _ => None,
     }
-}
-
-/// The task of `mend` with these options; none if the value of `--background` is no colour.
-fn mend_task(matches: &ArgMatches<'_>) -> Option<Task>
-    ensures task { IfSome result (IsTask (codes "mend") (rows_of (found_of matches.now))) }
-    ensures sides { IfSome result HasSides }
-    ensures none { IsNone result → (t : ATask) → IsTask (codes "mend") (rows_of (found_of matches.now)) t → ⊥ }
-{
-    let background = colour_in(matches, "background")?;
-    let showing = flag_of(matches, "showing");
-    let selects = flag_of(matches, "define-selects");
-    Some(Task::Mend {
-        profile: profile_of(matches),
-        background,
-        showing,
-        selects,
-    })
 }

@@ -10,16 +10,17 @@ ghost use Rattle.sixel_emulator_rules.specs.Asked.{no_rules};
 ghost use Rattle.sixel_explain.specs.declared.explanations.Topic.{Topic};
 ghost use Rattle.sixel_named_terminals.specs.declared.named.Named.TheVariants.{Konsole, XTerm};
 ghost use Rattle.sixel_report.specs.declared.task.Area.TheVariants.{Box, Sides};
+ghost use Rattle.sixel_report.specs.declared.task.PictureFormat.TheVariants.{Ppm, Png};
 ghost use Rattle.sixel_report.specs.declared.task.Task.{Task};
-ghost use Rattle.sixel_report.specs.declared.task.Task.TheVariants.{Check, List as Listing, Mend, Scan, Show, ShowBox};
-ghost use Rattle.sixel_report.specs.declared.task.Task.TheVariants.{Differ, DifferSheet, ShowOn, Survey};
+ghost use Rattle.sixel_report.specs.declared.task.Task.TheVariants.{Check, List as Listing, Mend, Render, Scan, Show};
+ghost use Rattle.sixel_report.specs.declared.task.Task.TheVariants.{Differ, DifferSheet, ShowBox, ShowOn, Survey};
 ghost use Rattle.sixel_explain.specs.Explanations.{topic_name};
 ghost use Rattle.sixel_report.specs.Texts.{Text};
 ghost use Rattle.sixel_report.specs.declared.wanted_lines.Lines.TheVariants.{Json, Nothing, Plain};
 ghost use Rattle.sixel_words.specs.Words.{AsksFor, IsRequestOf, IsTaskOf, all_terminals, is_among, kinds_of};
 ghost use Rattle.sixel_words.specs.Words.{no_terminals};
 ghost use Rattle.sixel_commands.specs.Commands.{sixel_app, subcommands};
-ghost use Rattle.sixel_words_laws.specs.Laws.{check_flags};
+ghost use Rattle.sixel_words_laws.specs.Laws.{check_flags, for_none};
 
 /// The command line `sixel list` is accepted, and asks for the task `List`.
 pub fn the_word_list_gives_a_list()
@@ -106,29 +107,29 @@ pub fn the_word_scan_gives_a_scan()
 pub fn the_word_mend_gives_a_mend()
     ensures taken { (program : Text) → takes sixel_app (program ∷ codes "mend" ∷ []) ≡ true }
     ensures task { (program : Text) →
-        IsTaskOf (program ∷ codes "mend" ∷ []) (Mend Registers16 (Rgb 0 0 0) false false) }
+        IsTaskOf (program ∷ codes "mend" ∷ []) (Mend Registers16 (Rgb 0 0 0) false false (for_none (Rgb 0 0 0))) }
     ensures coloured_taken { (program : Text) → takes sixel_app (program ∷ codes "mend" ∷ codes "--showing"
         ∷ codes "--background" ∷ codes "100,50,0" ∷ []) ≡ true }
     ensures coloured { (program : Text) →
         IsTaskOf (program ∷ codes "mend" ∷ codes "--showing" ∷ codes "--background" ∷ codes "100,50,0" ∷ [])
-        (Mend Registers16 (Rgb 100 50 0) true false) }
+        (Mend Registers16 (Rgb 100 50 0) true false (for_none (Rgb 100 50 0))) }
     ensures sampled_taken { (program : Text) →
         takes sixel_app (program ∷ codes "mend" ∷ codes "--background" ∷ codes "#Ff8002" ∷ []) ≡ true }
     ensures sampled { (program : Text) →
         IsTaskOf (program ∷ codes "mend" ∷ codes "--background" ∷ codes "#Ff8002" ∷ [])
-        (Mend Registers16 (Rgb 100 50 1) false false) }
+        (Mend Registers16 (Rgb 100 50 1) false false (for_none (Rgb 100 50 1))) }
     ensures called { (program : Text) →
         IsTaskOf (program ∷ codes "mend" ∷ codes "--background" ∷ codes "Navy" ∷ [])
-        (Mend Registers16 (Rgb 0 0 50) false false) }
+        (Mend Registers16 (Rgb 0 0 50) false false (for_none (Rgb 0 0 50))) }
     ensures quiet { (program : Text) → IsRequestOf (program ∷ codes "mend" ∷ codes "-q" ∷ [])
-        (Mend Registers16 (Rgb 0 0 0) false false) (Nothing false) false [] }
+        (Mend Registers16 (Rgb 0 0 0) false false (for_none (Rgb 0 0 0))) (Nothing false) false [] }
 {}
 
 /// `sixel show` is accepted, and shows without any flag, with 16 registers on a screen of 800 by 480 pixels.
 pub fn the_word_show_gives_a_show()
     ensures taken { (program : Text) → takes sixel_app (program ∷ codes "show" ∷ []) ≡ true }
     ensures task { (program : Text) →
-        IsTaskOf (program ∷ codes "show" ∷ []) (Show Registers16 false false false 800 480) }
+        IsTaskOf (program ∷ codes "show" ∷ []) (Show Registers16 false false false 800 480 Ppm) }
 {}
 
 /// `sixel show --box` is accepted, and shows without any other flag, with 16 registers on a screen of the size of the
@@ -136,7 +137,7 @@ pub fn the_word_show_gives_a_show()
 pub fn the_words_show_box_give_a_box()
     ensures taken { (program : Text) → takes sixel_app (program ∷ codes "show" ∷ codes "--box" ∷ []) ≡ true }
     ensures task { (program : Text) →
-        IsTaskOf (program ∷ codes "show" ∷ codes "--box" ∷ []) (ShowBox Registers16 false false false) }
+        IsTaskOf (program ∷ codes "show" ∷ codes "--box" ∷ []) (ShowBox Registers16 false false false Ppm) }
     ensures no_width { (program : Text) (task : Task) →
         IsTaskOf (program ∷ codes "show" ∷ codes "--box" ∷ codes "--width" ∷ codes "800" ∷ []) task → ⊥ }
     ensures no_height { (program : Text) (task : Task) →
@@ -151,12 +152,12 @@ pub fn the_words_show_on_name_a_terminal()
         takes sixel_app (program ∷ codes "show" ∷ codes "--on" ∷ codes "xterm" ∷ codes "--box" ∷ []) ≡ true }
     ensures task { (program : Text) →
         IsTaskOf (program ∷ codes "show" ∷ codes "--on" ∷ codes "xterm" ∷ codes "--box" ∷ [])
-        (ShowOn XTerm (Rgb 100 100 100) Box) }
+        (ShowOn XTerm (Rgb 100 100 100) Box Ppm) }
     ensures coloured { (program : Text) → IsTaskOf (program ∷ codes "show" ∷ codes "--background" ∷ codes "100,50,0"
-        ∷ codes "--on" ∷ codes "konsole" ∷ []) (ShowOn Konsole (Rgb 100 50 0) (Sides 800 480)) }
+        ∷ codes "--on" ∷ codes "konsole" ∷ []) (ShowOn Konsole (Rgb 100 50 0) (Sides 800 480) Ppm) }
     ensures any_case { (program : Text) →
         IsTaskOf (program ∷ codes "show" ∷ codes "--on" ∷ codes "XTerm" ∷ codes "--box" ∷ [])
-        (ShowOn XTerm (Rgb 100 100 100) Box) }
+        (ShowOn XTerm (Rgb 100 100 100) Box Ppm) }
     ensures no_wide { (program : Text) (task : Task) →
         IsTaskOf (program ∷ codes "show" ∷ codes "--on" ∷ codes "foot" ∷ codes "--wide" ∷ []) task → ⊥ }
     ensures no_other_name { (program : Text) (task : Task) →
@@ -165,6 +166,22 @@ pub fn the_words_show_on_name_a_terminal()
         IsTaskOf (program ∷ codes "show" ∷ codes "--on" ∷ codes "xterm,foot" ∷ []) task → ⊥ }
     ensures no_background { (program : Text) (task : Task) →
         IsTaskOf (program ∷ codes "show" ∷ codes "--background" ∷ codes "100,50,0" ∷ []) task → ⊥ }
+{}
+
+/// `sixel render` writes a PPM, and with `--png` a PNG. So does `show`, with `--box` and with `--on`. clap refuses
+/// `encode --png`.
+pub fn the_word_png_asks_for_a_png()
+    ensures taken { (program : Text) → takes sixel_app (program ∷ codes "render" ∷ codes "--png" ∷ []) ≡ true }
+    ensures plain { (program : Text) → IsTaskOf (program ∷ codes "render" ∷ []) (Render Registers16 Ppm) }
+    ensures render { (program : Text) →
+        IsTaskOf (program ∷ codes "render" ∷ codes "--png" ∷ []) (Render Registers16 Png) }
+    ensures boxed { (program : Text) → IsTaskOf (program ∷ codes "show" ∷ codes "--png" ∷ codes "--box" ∷ [])
+        (ShowBox Registers16 false false false Png) }
+    ensures named { (program : Text) →
+        IsTaskOf (program ∷ codes "show" ∷ codes "--on" ∷ codes "konsole" ∷ codes "--png" ∷ [])
+        (ShowOn Konsole (Rgb 100 100 100) (Sides 800 480) Png) }
+    ensures no_encode { (program : Text) →
+        kinds_of (program ∷ codes "encode" ∷ codes "--png" ∷ []) ≡ UnknownArgument ∷ [] }
 {}
 
 /// `sixel differ` is accepted, and compares white screens. `--background` gives another colour, and it takes several files.
@@ -227,7 +244,7 @@ pub fn an_option_may_come_again()
     ensures number_taken { (program : Text) → takes sixel_app (program ∷ codes "show" ∷ codes "--width" ∷ codes "3"
         ∷ codes "--width" ∷ codes "2" ∷ []) ≡ true }
     ensures number { (program : Text) → IsTaskOf (program ∷ codes "show" ∷ codes "--width" ∷ codes "3"
-        ∷ codes "--width" ∷ codes "2" ∷ []) (Show Registers16 false false false 2 480) }
+        ∷ codes "--width" ∷ codes "2" ∷ []) (Show Registers16 false false false 2 480 Ppm) }
 {}
 
 /// `--failed` asks a check for the lines of failures, and `--json` a check, a survey or a scan for JSON. `-q` asks for no
@@ -252,7 +269,7 @@ pub fn options_ask_for_lines()
         IsRequestOf (program ∷ codes "scan" ∷ codes "-q" ∷ codes "--json" ∷ codes "a" ∷ [])
         (Scan Registers16 false) (Nothing true) false (codes "a" ∷ []) }
     ensures quiet_box { (program : Text) → IsRequestOf (program ∷ codes "show" ∷ codes "--box" ∷ codes "--quiet" ∷ [])
-        (ShowBox Registers16 false false false) (Nothing false) false [] }
+        (ShowBox Registers16 false false false Ppm) (Nothing false) false [] }
     ensures explained { (program : Text) → IsRequestOf (program ∷ codes "check" ∷ codes "--explain" ∷ [])
         (Check Registers16 no_terminals) (Plain false) true [] }
     ensures survey_explained { (program : Text) → IsRequestOf (program ∷ codes "survey" ∷ codes "--explain" ∷ [])

@@ -2,6 +2,8 @@
 use Rattle.std.proofs.Common.{◌≡◌, ◌∙◌, ◌+◌, ◌-◌, ◌<◌, ◌≤◌, ◌*◌, ◌&&◌, ◌||◌, ℕ, Bool, true, false, List, [], ◌∷◌, ◌++◌, zero, suc}
 use Rattle.std.proofs.Common.{ap, ap₂, append-nil, arith, cond, length, min, refl, sym, take}
 use Rattle.std.specs.Prelude.{nat_lt, slice_index, if◌then◌else◌}
+use Rattle.std.specs.List.{list_any}
+use Rattle.std.proofs.lemmas.Bool.{or_parts}
 use Rattle.std.proofs.lemmas.Bool.Decides.{nat_tests}
 use Rattle.sixel_grammar.specs.declared.command.Command.TheVariants.{Sixel}
 use Rattle.sixel_grammar.specs.declared.command.Event.{Event}
@@ -81,6 +83,33 @@ pen_over before (b ∷ c ∷ bs) goes high some le =
     omega (arith, column) in
     ap xterm_pen (first_before before b (c ∷ bs))
     ∙ (pen_over next (c ∷ bs) (ap (λ (p : Pen). p.ended) pen) still (omega arith) far ∙ ap pen_at sum)
+
+-- ---- sixels without a set bit, with room or without
+
+pub blank_pen : (p : Pen) (is_past : Bool) (bits : ℕ) → p.ended ≡ false → is_painting (Step (Sixel bits)) ≡ false
+    → pen_after p is_past (Step (Sixel bits)) ≡ pen_at (min (p.column + 1) xterm_side)
+blank_pen p is_past bits goes blank = rw (goes, blank) refl
+
+pub pen_blank_over : (before : List Event) (bytes : List ℕ) → (xterm_pen before).ended ≡ false
+    → list_any is_painting (sixels_of bytes) ≡ false → 0 < length bytes
+    → xterm_pen (before ++ sixels_of bytes) ≡ pen_at (min ((xterm_pen before).column + length bytes) xterm_side)
+pen_blank_over before [] goes none some = absurd (omega (arith, some))
+pen_blank_over before (b ∷ []) goes none some =
+    let parts = or_parts (is_painting (Step (Sixel (b - 63)))) false none in
+    pen_push before (Step (Sixel (b - 63)))
+    ∙ blank_pen (xterm_pen before) (is_past_rows before) (b - 63) goes parts.0
+pen_blank_over before (b ∷ c ∷ bs) goes none some =
+    let parts = or_parts (is_painting (Step (Sixel (b - 63)))) (list_any is_painting (sixels_of (c ∷ bs))) none in
+    let next = before ++ Step (Sixel (b - 63)) ∷ [] in
+    let pen : xterm_pen next ≡ pen_at (min ((xterm_pen before).column + 1) xterm_side) =
+    pen_push before (Step (Sixel (b - 63)))
+    ∙ blank_pen (xterm_pen before) (is_past_rows before) (b - 63) goes parts.0 in
+    let column : (xterm_pen next).column ≡ min ((xterm_pen before).column + 1) xterm_side =
+    ap (λ (p : Pen). p.column) pen in
+    let sum : min ((xterm_pen next).column + length (c ∷ bs)) xterm_side
+    ≡ min ((xterm_pen before).column + length (b ∷ c ∷ bs)) xterm_side = omega (arith, column) in
+    ap xterm_pen (first_before before b (c ∷ bs))
+    ∙ (pen_blank_over next (c ∷ bs) (ap (λ (p : Pen). p.ended) pen) parts.1 (omega arith) ∙ ap pen_at sum)
 
 -- ---- a string that has ended
 

@@ -1,6 +1,6 @@
 -- What an `XTerm` keeps, with one more event.
 use Rattle.std.proofs.Common.{◌≡◌, ◌==◌, ◌≤◌, ◌<◌, ◌+◌, ◌-◌, ◌%◌, ℕ, zero, suc, Bool, true, false, not, ◌&&◌, ◌||◌}
-use Rattle.std.proofs.Common.{length, List, [], ◌∷◌, ◌++◌, max, Option, refl, sym, ap, ◌∙◌, append-nil, arith}
+use Rattle.std.proofs.Common.{length, List, [], ◌∷◌, ◌++◌, max, Option, refl, sym, subst, ap, ◌∙◌, append-nil, arith}
 use Rattle.std.specs.Prelude.{nat_le, nat_lt, unwrap_or, if◌then◌else◌}
 use Rattle.std.proofs.lemmas.Bool.{and_parts, leb-true, not-true, or_parts}
 use Rattle.std.proofs.lemmas.Bool.Decides.{nat_tests}
@@ -9,21 +9,21 @@ use Rattle.sixel_grammar.specs.declared.command.Command.{Command}
 use Rattle.sixel_grammar.specs.declared.command.Command.TheVariants.{Sixel, Repeat}
 use Rattle.sixel_grammar.specs.declared.command.Event.{Event}
 use Rattle.sixel_grammar.specs.declared.command.Event.TheVariants.{Step}
-use Rattle.sixel_model.specs.Events.{is_data_command}
+use Rattle.sixel_model.specs.Events.{is_data_command, is_painting}
 use Rattle.sixel_model.specs.Geometry.{band, band_rows}
 use Rattle.sixel_model.specs.Positions.{latest}
 use Rattle.sixel_terminal.specs.Stretches.{sixels_of}
 use Rattle.sixel_xterm.specs.declared.pen.Pen.{Pen}
 use Rattle.sixel_xterm.specs.declared.xterm.XTerm.{XTerm}
 use Rattle.sixel_emulator.specs.declared.reading.Reads.TheVariants.{Draws}
-use Rattle.sixel_emulator.specs.Readings.{ArePlain}
+use Rattle.sixel_emulator.specs.Readings.{ArePlain, ArePlainBlanks}
 use Rattle.sixel_emulator.specs.Words.{greatest, kept, second_of, second_parameter}
 use Rattle.sixel_xterm.specs.XTerm.{fills_xterm, height_of, is_past_rows, pen_after, pen_at, width_of, xterm}
 use Rattle.sixel_xterm.specs.XTerm.{xterm_columns, xterm_painting, xterm_pen, xterm_rows, xterm_side}
 use Rattle.sixel_xterm.specs.XTermSeen.{HasSeenXTerm, has_room, is_free, next_rows}
-use Rattle.sixel_emulator.proofs.PlainLemmas.{data_over, kept_whole, same_over}
+use Rattle.sixel_emulator.proofs.PlainLemmas.{data_over, first_before, kept_whole, same_over}
 use Rattle.sixel_emulator.proofs.WordLemmas.{any_push, greatest_push, second_push}
-use Rattle.sixel_xterm.proofs.PenLemmas.{past_over, pen_none, pen_over, pen_push, rows_over, rows_push}
+use Rattle.sixel_xterm.proofs.PenLemmas.{blank_pen, past_over, pen_none, pen_over, pen_push, rows_over, rows_push}
 
 pub xterm_none : HasSeenXTerm (record {
   pen = pen_at 0;
@@ -180,3 +180,38 @@ repeat_plain before count bits next some is room =
     let f = free before is in
     let counted : (count == 0) ≡ false = grind (arith, nat_tests) in
     rw (f.goes, counted, f.filled, f.here) (ap Draws (blank_or_room before count bits room some))
+
+-- ---- sixels without a set bit
+
+free_next : (before : List Event) (b : ℕ) → IsFree before → is_painting (Step (Sixel (b - 63))) ≡ false
+    → IsFree (before ++ Step (Sixel (b - 63)) ∷ [])
+free_next before b f blank =
+    let pen = pen_push before (Step (Sixel (b - 63)))
+    ∙ blank_pen (xterm_pen before) (is_past_rows before) (b - 63) f.goes blank in
+    record {
+      goes = ap (λ (p : Pen). p.ended) pen;
+      here = ap (λ (p : Pen). p.returned) pen;
+      filled = fills_over before (b ∷ []) f.filled;
+    }
+
+free_over : (before : List Event) (bytes : List ℕ) → IsFree before
+    → list_any is_painting (sixels_of bytes) ≡ false → IsFree (before ++ sixels_of bytes)
+free_over before [] f none = rw (append-nil before) f
+free_over before (b ∷ bs) f none =
+    let parts = or_parts (is_painting (Step (Sixel (b - 63)))) (list_any is_painting (sixels_of bs)) none in
+    subst IsFree (sym (first_before before b bs))
+    (free_over (before ++ Step (Sixel (b - 63)) ∷ []) bs (free_next before b f parts.0) parts.1)
+
+blank_stays : (before : List Event) (bits : ℕ) → is_painting (Step (Sixel bits)) ≡ false
+    → xterm_painting before (Sixel bits) 1 bits ≡ Sixel bits
+blank_stays before bits blank = rw (not_set (bits % 64 == 0) blank) refl
+  where
+    not_set : (b : Bool) → not b ≡ false → b ≡ true
+    not_set true is = refl
+    not_set false is = cc
+
+pub xterm_blanks : (before : List Event) → is_free before ≡ true → ArePlainBlanks xterm before
+xterm_blanks before is = λ earlier none bits blank next.
+    let f = free_over before earlier (free before is) none in
+    let es = before ++ sixels_of earlier in
+    rw (f.goes, f.filled, f.here) (ap Draws (blank_stays es bits blank))

@@ -7,7 +7,9 @@ ghost use Rattle.sixel_terminal.specs.Stretches.{sixels_of};
 ghost use Rattle.sixel_xterm.specs.XTerm.{is_past_rows, is_single, pen_at, pen_after, pen_after_data, runs_out};
 ghost use Rattle.sixel_xterm.specs.XTerm.{xterm_pen, xterm_side};
 
-use sixel_emulator::words::{columns_of, is_data_command, is_painting, is_return, sixel};
+use sixel_emulator::words::{
+    columns_of, has_painting, is_data_command, is_painting, is_return, sixel,
+};
 use sixel_grammar::{Command, Event};
 
 /// The largest side of a box, and how many columns and rows are painted.
@@ -138,7 +140,23 @@ impl Pen {
         if !is_past && bytes.len() <= usize::from(self.columns_left()) {
             self.right(bytes.len() as u16)
         } else {
+            self.after_far(is_past, bytes)
+        }
+    }
+
+    /// After these sixels, at least one, which may have no room.
+    #[inline(never)]
+    fn after_far(self, is_past: bool, bytes: &[u8]) -> Pen
+        requires sixels { (k : ℕ) → k < length bytes.now → IsTrue (is_data (slice_index bytes.now k)) }
+        requires some { 0 < length bytes.now }
+        requires goes { self.ended ≡ false }
+        ensures { (before : List AnEvent) → self ≡ xterm_pen before → is_past ≡ is_past_rows before
+            → result ≡ xterm_pen (before ++ sixels_of bytes.now) }
+    {
+        if has_painting(bytes) {
             self.after_each(is_past, bytes)
+        } else {
+            self.right(bytes.len().min(usize::from(SIDE)) as u16)
         }
     }
 }

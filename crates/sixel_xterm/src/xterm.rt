@@ -377,6 +377,10 @@ impl Reading for XTerm {
         }
     }
 
+    fn draws_blanks(&self) -> bool {
+        self.is_free()
+    }
+
     #[inline(always)]
     fn note_sixels(&mut self, bytes: &[u8]) {
         *self = self.after_sixels(bytes);

@@ -72,25 +72,34 @@ read, 3 usage error; with several files the greatest.
 Example: ./test-suite | sixel scan";
 
 pub const RENDER: &str = "Reads sixel text from FILE or, without one, from standard input. Writes a
-portable picture to standard output as a PPM. If the picture is broken, it
-writes the broken rule to standard error, and no PPM.
+portable picture to standard output as a PPM or, with --png, as a PNG: the name
+after `>` can't be seen. If the picture is broken, it writes the broken rule to
+standard error, and no picture.
 
 Exit status: 0 done, 1 broken, 2 refused, 3 usage error.
 
-Example: sixel render plot.six > plot.ppm";
+Examples: sixel render plot.six > plot.ppm
+          sixel render --png plot.six > plot.png";
 
 pub const ENCODE: &str = "Reads a PPM (P6) of at most 16 colours, or 256 with --wide, from FILE or,
 without one, from standard input. Writes sixel text to standard output. Each
 sample becomes the nearest percentage.
 
+With --on the picture is one that these terminals show: konsole needs a height
+that is a multiple of six, and gets rows below the picture, of the colour of
+--pad. Refused for xterm: more than 1,000 columns or 996 rows. NAMES are one or
+more of xterm, mlterm, foot and konsole, with commas between them, or all.
+
 Exit status: 0 done, 2 refused, 3 usage error.
 
-Example: sixel encode plot.ppm > plot.six";
+Examples: sixel encode plot.ppm > plot.six
+          sixel encode --on all --pad 100,100,100 plot.ppm > plot.six";
 
 pub const SHOW: &str = "Reads sixel text from FILE or, without one, from standard input. Writes the
-screen of one terminal, which the options choose, to standard output as a PPM.
-What is off the screen is left out. Without --wide, register 16 is register 0,
-17 is 1 and so on. --box can't be combined with --width or --height.
+screen of one terminal, which the options choose, to standard output, as a PPM
+or, with --png, as a PNG: the name after `>` can't be seen. What is off the
+screen is left out. Without --wide, register 16 is register 0, 17 is 1 and so
+on. --box can't be combined with --width or --height.
 
 --on NAME shows the screen of a terminal that was measured, by a model of it:
 xterm, mlterm, foot or konsole. It can't be combined with --wide, --showing,
@@ -99,7 +108,7 @@ xterm, mlterm, foot or konsole. It can't be combined with --wide, --showing,
 Exit status: 0 done, 2 refused, 3 usage error.
 
 Examples: sixel show --wide --box plot.six > plot.ppm
-          sixel show --on xterm plot.six > xterm.ppm";
+          sixel show --on xterm --png plot.six > xterm.png";
 
 pub const DIFFER: &str =
     "Reads sixel text from each FILE in turn or, without one, from standard input.
@@ -126,11 +135,13 @@ page, choose a white one. COLOUR is three percentages, as in 100,50,0; or three
 samples, as in '#ff8000' or '#f80', each of which becomes the nearest
 percentage; or one of the 16 basic colours of CSS, as in navy. Refused: a
 picture without pixels, with a side above 2,048, or of more than 16 colours, or
-256 with --wide.
+256 with --wide. --on and --pad do what they do in encode; a colour by hue is
+refused for xterm.
 
 Exit status: 0 done, 2 refused, 3 usage error.
 
-Example: sixel mend --background 100,100,100 plot.six > mended.six";
+Examples: sixel mend --background 100,100,100 plot.six > mended.six
+          sixel mend --on all plot.six > mended.six";
 
 pub const EXPLAIN: &str =
     "Reads nothing. Writes to standard output what each rule or refusal means, what

@@ -3,18 +3,19 @@
 ghost use Rattle.std.specs.Prelude.{◌≡◌, ◌<◌, ◌≤◌, ◌+◌, ◌++◌, ◌∷◌, [], ℕ, IfSome, IsTrue, List, None, length};
 ghost use Rattle.std.specs.Prelude.{slice_index, take};
 ghost use Rattle.sixel_grammar.specs.Bytes.{is_data};
-ghost use Rattle.sixel_grammar.specs.Document.{most_bytes};
+ghost use Rattle.sixel_grammar.specs.Document.{events_of, most_bytes};
 ghost use Rattle.sixel_grammar.specs.Stretches.{sixels_from};
 ghost use Rattle.sixel_grammar.specs.declared.command.Command.TheVariants.{Repeat};
 ghost use Rattle.sixel_grammar.specs.declared.command.Event.{Event as AnEvent};
 ghost use Rattle.sixel_grammar.specs.declared.command.Event.TheVariants.{Step};
 ghost use Rattle.sixel_grammar.specs.declared.command.Placed.{Placed as Place};
-ghost use Rattle.sixel_emulator.specs.Modelled.{HasFollowed, first_at, placed_at, with_first, with_waiting};
-ghost use Rattle.sixel_emulator.specs.Readings.{AreCut};
+ghost use Rattle.sixel_emulator.specs.Modelled.{HasCome, HasFollowed, first_at, placed_at, with_first, with_waiting};
+ghost use Rattle.sixel_emulator.specs.Courses.{AreSixels};
+ghost use Rattle.sixel_emulator.specs.Readings.{AreCut, ArePlainSixels, Model as AModel};
 
 use crate::modelled::Modelled;
 use crate::reading::Reading;
-use crate::words::sixel;
+use crate::words::{leading_blanks, sixel};
 use sixel_grammar::{Command, Event};
 
 impl<R: Reading> Modelled<R> {
@@ -47,7 +48,62 @@ impl<R: Reading> Modelled<R> {
         self.progress.read_blanks(columns.min(bytes.len()));
     }
 
-    /// Takes the first of these sixels, where none waits, or all if none of them paints. Gives how many it took.
+    /// How many of these data bytes come before one that paints, if they are drawn as they are. 0 says nothing.
+    #[inline(always)]
+    fn drawn_blanks(&self, bytes: &[u8]) -> usize
+        ensures within { result ≤ length bytes.now }
+        ensures plain { (before : List AnEvent) → R.has_seen self.now.waiting.reading before
+            → ArePlainSixels R.model.rule before (take result bytes.now) }
+    {
+        if self.waiting.reading.draws_blanks() {
+            leading_blanks(bytes)
+        } else {
+            0
+        }
+    }
+
+    /// Takes the sixels of these data bytes that come before one that paints, or the first, where none waits. Gives how
+    /// many it took.
+    #[inline(always)]
+    fn add_blanks(&mut self, place: u64, bytes: &[u8]) -> usize
+        requires sixels { (k : ℕ) → k < length bytes.now → IsTrue (is_data (slice_index bytes.now k)) }
+        requires some { 0 < length bytes.now }
+        requires none { self.old.waiting.pending ≡ None }
+        ensures terminal { self.new.progress.drawing.terminal ≡ self.old.progress.drawing.terminal }
+        ensures counts { (0 < result) × (result ≤ length bytes.now) }
+        ensures followed { (opening : List AnEvent) (before : List Place)
+            → HasFollowed R.model R.has_seen (with_first self.old place bytes.now) opening
+            (before ++ first_at place bytes.now)
+            → HasFollowed R.model R.has_seen self.new opening (before ++ sixels_from place (take result bytes.now)) }
+    {
+        let blanks = self.drawn_blanks(bytes);
+        if blanks == 0 {
+            self.add(place, sixel(bytes[0]));
+            return 1;
+        }
+        self.push_plain(&bytes[..blanks]);
+        blanks
+    }
+
+    /// Takes the sixels of these data bytes, at least one, where none waits and nothing is drawn of them.
+    #[inline(always)]
+    fn pass_by(&mut self, bytes: &[u8])
+        requires sixels { (k : ℕ) → k < length bytes.now → IsTrue (is_data (slice_index bytes.now k)) }
+        requires some { 0 < length bytes.now }
+        requires none { self.old.waiting.pending ≡ None }
+        requires over { (m : AModel) (opening : List AnEvent) (placed : List Place) (n : ℕ)
+            → AreSixels (events_of placed) n bytes.now → HasCome m opening placed n self.old.progress
+            → HasCome m opening placed (n + length bytes.now) self.old.progress }
+        ensures terminal { self.new.progress.drawing.terminal ≡ self.old.progress.drawing.terminal }
+        ensures followed { (opening : List AnEvent) (before : List Place) (place : ℕ)
+            → HasFollowed R.model R.has_seen (with_first self.old place bytes.now) opening
+            (before ++ first_at place bytes.now)
+            → HasFollowed R.model R.has_seen self.new opening (before ++ sixels_from place bytes.now) }
+    {
+        self.waiting.reading.note_sixels(bytes);
+    }
+
+    /// Takes the first of these sixels, where none waits, or more if that is as fast. Gives how many it took.
     pub(super) fn add_some(&mut self, place: u64, bytes: &[u8]) -> usize
         requires sixels { (k : ℕ) → k < length bytes.now → IsTrue (is_data (slice_index bytes.now k)) }
         requires some { 0 < length bytes.now }
@@ -60,15 +116,16 @@ impl<R: Reading> Modelled<R> {
             (before ++ first_at place bytes.now)
             → HasFollowed R.model R.has_seen self.new opening (before ++ sixels_from place (take result bytes.now)) }
     {
+        if self.progress.is_over() {
+            self.pass_by(bytes);
+            return bytes.len();
+        }
         match self.kept_columns() {
             Some(columns) => {
                 self.push_cut_sixels(columns, bytes);
                 bytes.len()
             }
-            None => {
-                self.add(place, sixel(bytes[0]));
-                1
-            }
+            None => self.add_blanks(place, bytes),
         }
     }
 

@@ -11,14 +11,16 @@ ghost use Rattle.sixel_report.specs.Outputs.{CountsWrites, WroteBy, WroteNothing
 ghost use Rattle.sixel_sheet.specs.Outputs.{HasPictureSize};
 ghost use Rattle.sixel_run.specs.Outputs.{MendGives, mended_status};
 
+use sixel_fit::{Fitting, fit};
 use sixel_io::{PIECE, Sink, Source};
-use sixel_mend::{Mending, mend_measured, size_of};
+use sixel_mend::{Mended, Mending, mend_measured, size_of};
 use sixel_model::Profile;
 use sixel_report::{Note, RunFault, Status};
 use sixel_sheet::read_document;
 use std::alloc::Global;
 
-/// Reads the whole input, and writes the canonical sixel text of its mended picture. It doesn't flush.
+/// Reads the whole input, and writes the canonical sixel text of its mended picture, or of the one that the terminals
+/// show in its place. It doesn't flush.
 ///
 /// The size of the picture is known at the end only, so the bytes are kept, and measured while they come. Nothing is
 /// allocated for the picture of a string whose size no picture may have. Without memory to keep the bytes they are still
@@ -27,12 +29,13 @@ pub fn mend<S: Source, K: Sink>(
     alloc: Global,
     profile: Profile,
     mending: &Mending,
+    fitting: Fitting,
     input: &mut S,
     piece: &mut [u8; PIECE],
     output: &mut K,
 ) -> Result<Status, RunFault>
     ensures wrote { IfSome (S.state input.old).remaining (λ bytes.
-        WroteBy (MendGives (count_of profile) mending.now bytes) WroteNothing result
+        WroteBy (MendGives (count_of profile) mending.now fitting bytes) WroteNothing result
         (K.state output.old).taken (K.state output.new).taken) }
     ensures memory { result ≡ Err RunFault.OutOfMemory →
         IfSome (S.state input.old).remaining (HasPictureSize mending.now) }
@@ -47,8 +50,10 @@ pub fn mend<S: Source, K: Sink>(
         return Err(RunFault::OutOfMemory);
     };
     let mended = mend_measured(alloc, profile, mending, &extent, &bytes)?;
-    match sixel_encode::encode(&mended.picture, output) {
-        Ok(()) => Ok(status_of(mended.hidden)),
+    let Mended { picture, hidden } = mended;
+    let fitted = fit(alloc, fitting, picture)?;
+    match sixel_encode::encode(&fitted, output) {
+        Ok(()) => Ok(status_of(hidden)),
         Err(_) => Err(RunFault::Write),
     }
 }

@@ -13,6 +13,8 @@ returns c =
     c.in_ok-arg-3.ensures in
     let showing = with_arg background c.flag_arg.ensures.rule c.flag_arg.ensures.local c.in_ok-arg-4.ensures in
     let selects = with_arg showing c.flag_arg-2.ensures.rule c.flag_arg-2.ensures.local c.in_ok-arg-5.ensures in
-    let whole = IfOk-weaker c.arg-6.result _ (ReadsAs mend_app)
-    (λ r h. with_arg selects c.file_arg.ensures.rule c.file_arg.ensures.local h) c.arg-6.ensures in
-    record { app = app_says mend_app c.arg-6.result whole; local = local_says mend_app c.arg-6.result whole }
+    let on = with_arg selects c.names_arg.ensures.rule c.names_arg.ensures.local c.in_ok-arg-6.ensures in
+    let pad = with_arg on c.pad_arg.ensures.rule c.pad_arg.ensures.local c.in_ok-arg-7.ensures in
+    let whole = IfOk-weaker c.arg-8.result _ (ReadsAs mend_app)
+    (λ r h. with_arg pad c.file_arg.ensures.rule c.file_arg.ensures.local h) c.arg-8.ensures in
+    record { app = app_says mend_app c.arg-8.result whole; local = local_says mend_app c.arg-8.result whole }

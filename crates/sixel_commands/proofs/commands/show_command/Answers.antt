@@ -18,6 +18,7 @@ returns c =
     let on = with_arg box c.on_arg.ensures.rule c.on_arg.ensures.local c.in_ok-arg-9.ensures in
     let background = with_arg on c.background_arg.ensures.rule c.background_arg.ensures.local
     c.in_ok-arg-10.ensures in
-    let whole = IfOk-weaker c.arg-11.result _ (ReadsAs show_app)
-    (λ r h. with_arg background c.file_arg.ensures.rule c.file_arg.ensures.local h) c.arg-11.ensures in
-    record { app = app_says show_app c.arg-11.result whole; local = local_says show_app c.arg-11.result whole }
+    let png = with_arg background c.png_arg.ensures.rule c.png_arg.ensures.local c.in_ok-arg-11.ensures in
+    let whole = IfOk-weaker c.arg-12.result _ (ReadsAs show_app)
+    (λ r h. with_arg png c.file_arg.ensures.rule c.file_arg.ensures.local h) c.arg-12.ensures in
+    record { app = app_says show_app c.arg-12.result whole; local = local_says show_app c.arg-12.result whole }

@@ -110,6 +110,9 @@ refused (Some name) fault.NotRgb said are = fault_pasted (begun name) fault.NotR
 refused (Some name) fault.NoBox said are = fault_pasted (begun name) fault.NoBox said (named_colon name) are
 refused (Some name) (fault.Unmodelled place) said are = fault_pasted (begun name) (fault.Unmodelled place) said (named_colon name) are
 refused (Some name) fault.NoString said are = fault_pasted (begun name) fault.NoString said (named_colon name) are
+refused (Some name) (fault.Large width height) said are =
+    fault_pasted (begun name) (fault.Large width height) said (named_colon name) are
+refused (Some name) fault.Hue said are = fault_pasted (begun name) fault.Hue said (named_colon name) are
 refused (Some name) fault.Empty said are = fault_pasted (begun name) fault.Empty said (named_colon name) are
 refused (Some name) fault.TooLarge said are = fault_pasted (begun name) fault.TooLarge said (named_colon name) are
 refused (Some name) fault.TooManyColours said are = fault_pasted (begun name) fault.TooManyColours said (named_colon name) are

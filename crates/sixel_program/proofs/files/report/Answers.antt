@@ -1,4 +1,4 @@
-use Rattle.sixel_program.proofs.FilesLemmas.{memory_kept, wrote_kept}
+use Rattle.sixel_program.proofs.FilesLemmas.{memory_kept, run_kept}
 use Rattle.sixel_report.proofs.PutLemmas.{is_put}
 use Rattle.sixel_program.proofs.files.report.Goals as goal
 
@@ -7,7 +7,7 @@ returns g c = record {
   answer = c.run-answer.result;
   format = c.format-format.result;
   is_format = c.format-format.ensures.format;
-  wrote = wrote_kept c.args.task.now _ _ _ c.run-answer.result _ _ c.format-format.ensures.told
+  wrote = run_kept c.args.task.now _ _ _ c.run-answer.result _ _ c.format-format.ensures.told
       c.run-answer.ensures.wrote;
   memory = λ is. memory_kept c.args.task.now _ _ c.format-format.ensures.told (c.run-answer.ensures.memory is);
   read = rw c.format-format.ensures.failures at c.run-answer.ensures.reads;

@@ -26,5 +26,5 @@ returns-clause-number c = λ program. (
   codes "show",
   _,
   refl,
-  (refl, refl, refl, refl, refl, (refl, (codes "2", refl, two), (codes "480", refl, high)), refl, refl),
+  (refl, refl, refl, refl, refl, (refl, (codes "2", refl, two), (codes "480", refl, high)), refl, refl, refl),
 )

@@ -35,7 +35,7 @@ returns-clause-quiet_scan c = λ program. (codes "scan", _, refl, (refl, refl, r
 pub returns-clause-quiet_box : goal.returns-clause-quiet_box
 unfolding clap_on_literals
 returns-clause-quiet_box c = λ program.
-    (codes "show", _, refl, (refl, refl, refl, refl, refl, (refl, refl, refl), refl, refl), refl, refl, refl)
+    (codes "show", _, refl, (refl, refl, refl, refl, refl, (refl, refl, refl), refl, refl, refl), refl, refl, refl)
 
 pub returns-clause-explained : goal.returns-clause-explained
 unfolding walked

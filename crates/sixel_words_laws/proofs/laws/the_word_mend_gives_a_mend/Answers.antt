@@ -3,6 +3,7 @@ use Rattle.clap.proofs.OnLiterals.{clap_on_literals}
 use Rattle.clap.specs.Takes.{walk_passes}
 use Rattle.clap.specs.Walk.{walked}
 use Rattle.sixel_words.specs.Words.{IsSample}
+use Rattle.sixel_words.proofs.NamesLemmas.{has_nobody}
 use Rattle.sixel_words_laws.proofs.LiteralLemmas.{all, half, none}
 use Rattle.sixel_words_laws.proofs.laws.the_word_mend_gives_a_mend.Goals as goal
 
@@ -31,6 +32,7 @@ returns-clause-task c = λ program. (
     (codes "0,0,0", refl, inl (codes "0", codes "0", codes "0", refl, none, none, none)),
     refl,
     refl,
+    (has_nobody _ refl refl, refl),
   ),
 )
 
@@ -46,6 +48,7 @@ returns-clause-quiet c = λ program. (
     (codes "0,0,0", refl, inl (codes "0", codes "0", codes "0", refl, none, none, none)),
     refl,
     refl,
+    (has_nobody _ refl refl, refl),
   ),
   refl,
   refl,
@@ -64,6 +67,7 @@ returns-clause-coloured c = λ program. (
     (codes "100,50,0", refl, inl (codes "100", codes "50", codes "0", refl, all, half, none)),
     refl,
     refl,
+    (has_nobody _ refl refl, refl),
   ),
 )
 
@@ -99,6 +103,7 @@ returns-clause-sampled c = λ program. (
     ),
     refl,
     refl,
+    (has_nobody _ refl refl, refl),
   ),
 )
 
@@ -112,5 +117,5 @@ returns-clause-called c = λ program. (
   codes "mend",
   _,
   refl,
-  (refl, refl, (codes "Navy", refl, inr (inr (inr refl))), refl, refl),
+  (refl, refl, (codes "Navy", refl, inr (inr (inr refl))), refl, refl, (has_nobody _ refl refl, refl)),
 )

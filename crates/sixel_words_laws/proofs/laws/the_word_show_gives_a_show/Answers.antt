@@ -14,5 +14,5 @@ returns-clause-task c = λ program. (
   codes "show",
   _,
   refl,
-  (refl, refl, refl, refl, refl, (refl, (codes "800", refl, wide), (codes "480", refl, high)), refl, refl),
+  (refl, refl, refl, refl, refl, (refl, (codes "800", refl, wide), (codes "480", refl, high)), refl, refl, refl),
 )

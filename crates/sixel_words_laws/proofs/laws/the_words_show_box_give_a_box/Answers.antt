@@ -17,7 +17,7 @@ returns-clause-task c = λ program. (
   codes "show",
   _,
   refl,
-  (refl, refl, refl, refl, refl, (refl, refl, refl), refl, refl),
+  (refl, refl, refl, refl, refl, (refl, refl, refl), refl, refl, refl),
 )
 
 pub returns-clause-no_width : goal.returns-clause-no_width

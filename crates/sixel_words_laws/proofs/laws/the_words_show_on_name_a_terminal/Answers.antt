@@ -40,6 +40,7 @@ returns-clause-task c = λ program. (
     (codes "100,100,100", refl, inl (codes "100", codes "100", codes "100", refl, all, all, all)),
     (refl, refl, refl),
     refl,
+    refl,
   ),
 )
 
@@ -55,6 +56,7 @@ returns-clause-coloured c = λ program. (
     (codes "100,50,0", refl, inl (codes "100", codes "50", codes "0", refl, all, half, none)),
     (refl, (codes "800", refl, wide), (codes "480", refl, high)),
     refl,
+    refl,
   ),
 )
 
@@ -69,6 +71,7 @@ returns-clause-any_case c = λ program. (
     (codes "XTerm", refl, refl),
     (codes "100,100,100", refl, inl (codes "100", codes "100", codes "100", refl, all, all, all)),
     (refl, refl, refl),
+    refl,
     refl,
   ),
 )

@@ -6,11 +6,11 @@ use Rattle.sixel_emulator_rules.proofs.tallying.Tallying.push_each.Goals as goal
 
 pub loop-index-preserved : goal.loop-index-preserved
 loop-index-preserved c = (
-  c.push.ensures.terminals ∙ c.loop-index.invariant.0,
+  c.push_data.ensures.terminals ∙ c.loop-index.invariant.0,
   λ seen h.
-      subst (HasTallied c.push.new.self)
+      subst (HasTallied c.push_data.new.self)
       (sixels_then seen c.args.place _ c.loop-index.index c.args.stretch.now (omega arith)
       (omega (arith, c.loop-index-test.true)))
-      (c.push.ensures.taken (seen ++ sixels_from c.args.place (take c.loop-index.index c.args.stretch.now))
+      (c.push_data.ensures.taken (seen ++ sixels_from c.args.place (take c.loop-index.index c.args.stretch.now))
       (c.loop-index.invariant.1 seen h)),
 )

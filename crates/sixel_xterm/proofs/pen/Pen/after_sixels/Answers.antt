@@ -23,3 +23,9 @@ returns-then-bytes-from c = λ before is past.
     c.right.ensures
     ∙ (ap pen_at sum
     ∙ sym (pen_over before bytes (ap (λ (p : Pen). p.ended) (sym is) ∙ c.if-self.false) (sym past ∙ c.if-not-is_past.true) some le))
+
+pub after_far-requires-clause-some : goal.after_far-requires-clause-some
+after_far-requires-clause-some c =
+    let other : length c.args.bytes.now ≢ 0 =
+    eqb-false (length c.args.bytes.now) 0 (sym c.is_empty.ensures ∙ c.if-is_empty.false) in
+    omega (arith, other)

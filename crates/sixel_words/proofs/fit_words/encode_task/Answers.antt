@@ -1,0 +1,9 @@
+use Rattle.std.proofs.Common.{refl}
+use Rattle.clap.specs.Walk.{rows_of}
+use Rattle.clap.specs.Matches.{found_of}
+use Rattle.sixel_words.proofs.FitLemmas.{not_encoded}
+use Rattle.sixel_words.proofs.fit_words.encode_task.Goals as goal
+
+pub returns-in_err-fitting-clause-none : goal.returns-in_err-fitting-clause-none
+returns-in_err-fitting-clause-none c = λ none t is.
+    not_encoded (rows_of (found_of c.args.matches.now)) t (c.in_err-fitting.ensures.none refl) is
